@@ -21,7 +21,7 @@ use config_checks::reason::Severity;
 use config_checks::row::Row;
 use config_checks::setting::Setting;
 use config_file::key::Key;
-use config_file::{Condition, Content, Entries, Entry, Files, Include, Place, Step, Walk};
+use config_file::{Condition, Content, Entries, Entry, FilePlace, Files, Include, Step, Walk};
 use config_host::surroundings::Followed;
 use config_host::{Disk, Surroundings, files_here};
 use std::alloc::{AllocError, Global};
@@ -191,9 +191,9 @@ impl<'c, 't> Checking<'c, 't> {
     }
 
     /// The text of a file, or of standard input, and its place. Reports a failed read.
-    fn read(&mut self, name: &[u8]) -> Result<Option<(Place<'t>, &'t [u8])>, Failure<'static>> {
+    fn read(&mut self, name: &[u8]) -> Result<Option<(FilePlace<'t>, &'t [u8])>, Failure<'static>> {
         let found = if name == STDIN {
-            let place = Place {
+            let place = FilePlace {
                 name: STDIN,
                 real_dir: b"",
             };
@@ -383,7 +383,7 @@ impl<'c, 't> Checking<'c, 't> {
     /// Writes a finding about what an entry includes, and counts it.
     fn report(
         &mut self,
-        place: Place<'t>,
+        place: FilePlace<'t>,
         entry: &Entry<'t>,
         wrong: Wrong<'_>,
     ) -> Result<(), Failure<'static>> {
@@ -436,7 +436,7 @@ impl<'c, 't> Checking<'c, 't> {
     fn include(
         &mut self,
         walk: &mut Walk<'t>,
-        place: Place<'t>,
+        place: FilePlace<'t>,
         entry: &Entry<'t>,
         name: Vec<u8>,
     ) -> Result<(), Failure<'static>> {
@@ -476,7 +476,7 @@ impl<'c, 't> Checking<'c, 't> {
     /// Reports the condition of an entry that includes a file, if Git does not know this condition.
     fn judge_condition(
         &mut self,
-        place: Place<'t>,
+        place: FilePlace<'t>,
         entry: &Entry<'t>,
     ) -> Result<(), Failure<'static>> {
         let key = entry.key_text(self.rt.alloc())?;

@@ -2,15 +2,15 @@
 use Rattle.std.proofs.Common.{◌≡◌, ◌+◌, ◌^◌, ◌≤◌, ◌<◌, ℕ, List, [], ◌∷◌, ◌++◌, Option, None, Some, refl, sym}
 use Rattle.std.proofs.Common.{ap, subst, ◌∙◌, append_assoc, append-nil, arith, Result, Ok, Err, length}
 use Rattle.std.proofs.Common.{OnErr}
-use Rattle.config_file.specs.declared.errors.Error as errors
+use Rattle.config_file.specs.declared.errors.FileError as errors
 use Rattle.config_checks.specs.declared.options.Options.{Options}
 use Rattle.config_checks.specs.declared.row.Row.{Row}
 use Rattle.config_checks.specs.declared.setting.Setting.{Setting}
 use Rattle.config_checks.specs.declared.check.Counts.{Counts}
 use Rattle.config_checks.specs.Findings.{Finding}
 use Rattle.config_checks.specs.Report.{unknown, misspelled, right, found, nothing, next}
-use Rattle.config_checks.specs.Report.{HasSettings, HasFirst, Receives, Completes, Fails, counted, no_counts}
-use Rattle.config_checks.specs.Reading.Steps.{Reports, ReportsAll, ReportsEntries, Tells}
+use Rattle.config_checks.specs.Report.{HasSettings, HasFirstSettings, Receives, Completes, Fails, counted, no_counts}
+use Rattle.config_checks.specs.Reading.Steps.{Reports, ReportsAll, ReportsEntries, ReportsError}
 use Rattle.config_checks.specs.Reading.Steps.{AreWithin, HasRoomForFinding, IsSaidAs, findings_as, is_some}
 use Rattle.config_checks.specs.Report.{ReportsSetting}
 use Rattle.config_checks.specs.Rows.{IsUnknown}
@@ -110,8 +110,8 @@ are_none s a b c d e i = record { entries = a i; unknown = b i; findings = c i; 
 -- ---- a file
 
 module _ (rows : List Row) (options : Options) (file text : List ℕ) where
-  all_first : (settings : List Setting) (error : Option errors.Error) → HasSettings file text settings error
-      → HasFirst file text settings
+  all_first : (settings : List Setting) (error : Option errors.FileError) → HasSettings file text settings error
+      → HasFirstSettings file text settings
   all_first settings error (entries, is_file, are) = record {
     before = entries;
     after = [];
@@ -121,13 +121,13 @@ module _ (rows : List Row) (options : Options) (file text : List ℕ) where
   }
 
   first_settings : (entries : List Entry) (settings : List Setting) (reader : Entries) → HasRead text entries reader
-      → AllZip (IsSettingOf file) entries settings → HasFirst file text settings
+      → AllZip (IsSettingOf file) entries settings → HasFirstSettings file text settings
   first_settings entries settings reader read are =
       let (after, error, is_file) = first_of text entries reader read in
       record { before = entries; after = after; error = error; is_file = is_file; are = are }
 
   -- the check ends after the findings of these settings
-  pub stops : (w x y : Option (List Finding)) (settings : List Setting) (s : Counts) → HasFirst file text settings
+  pub stops : (w x y : Option (List Finding)) (settings : List Setting) (s : Counts) → HasFirstSettings file text settings
       → ReportsAll rows options settings w x s → Receives x y [] → Fails rows options file text w y
   stops w x y settings s first (list, received, report) none =
       (list, receives-none w x y list received none, record { first = settings; of_file = first; s = s; report = report })
@@ -197,7 +197,7 @@ module _ (rows : List Row) (options : Options) (file text : List ℕ) where
           }
 
     -- the reader has no entries left, up to the end of the file or its error
-    pub reported : (error : Option errors.Error) → HasLeft reader [] error
+    pub reported : (error : Option errors.FileError) → HasLeft reader [] error
         → ReportsEntries rows options file text w x s error
     reported error left = record {
       settings = so_far.settings;
@@ -205,13 +205,13 @@ module _ (rows : List Row) (options : Options) (file text : List ℕ) where
       all = so_far.all;
     }
 
-  module _ (settings : List Setting) (error : Option errors.Error) (read : HasSettings file text settings error)
+  module _ (settings : List Setting) (error : Option errors.FileError) (read : HasSettings file text settings error)
       (w x : Option (List Finding)) (s : Counts) (all : ReportsAll rows options settings w x s) where
     -- the error of the file was not received
     pub fails_telling : (y : Option (List Finding)) → Receives x y [] → Fails rows options file text w y
     fails_telling y none = stops w x y settings s (all_first settings error read) all none
 
-    pub completes : (y : Option (List Finding)) (s' : Counts) → Tells file error s s' x y
+    pub completes : (y : Option (List Finding)) (s' : Counts) → ReportsError file error s s' x y
         → Completes rows options file text w y s'
     completes y s' told = (
       all.0 ++ told.0,
@@ -230,7 +230,7 @@ module _ (rows : List Row) (options : Options) (file text : List ℕ) where
     )
 
 pub of_rows : {rows rows' : List Row} {options : Options} {file text : List ℕ} {w x : Option (List Finding)} {s : Counts}
-    {error : Option errors.Error} → rows' ≡ rows → ReportsEntries rows' options file text w x s error
+    {error : Option errors.FileError} → rows' ≡ rows → ReportsEntries rows' options file text w x s error
     → ReportsEntries rows options file text w x s error
 of_rows {options = options} {file = file} {text = text} {w = w} {x = x} {s = s} {error = error} same all =
     subst (λ rows. ReportsEntries rows options file text w x s error) same all

@@ -4,7 +4,7 @@ use Rattle.std.proofs.Common.{Option, None, Some, option_copied, option_map, ref
 use Rattle.std.specs.Bool.{⊤}
 use Rattle.std.specs.Char.{to_ascii_lowercase}
 use Rattle.std.specs.List.{AllByRecursion, AllZip}
-use Rattle.config_file.specs.declared.errors.Error as errors
+use Rattle.config_file.specs.declared.errors.FileError as errors
 use Rattle.config_file.specs.Header as header
 use Rattle.config_file.specs.Header.{Section, Header}
 use Rattle.config_file.specs.Value as value
@@ -67,7 +67,7 @@ entry_text (file.alone taken end) = tt
 entry_text (file.valued taken is (value.closed {value = text} joined spells ends)) = (text, outside, spells)
 entry_text (file.valued taken is (value.open_end {value = text} spells)) = (text, at_backslash, spells)
 
-all_clear : {section : Option Section} {line : ℕ} {text : List ℕ} {entries : List Entry} {error : Option errors.Error}
+all_clear : {section : Option Section} {line : ℕ} {text : List ℕ} {entries : List Entry} {error : Option errors.FileError}
     → HasListed section → Reads section line text entries error → AllByRecursion IsClear entries
 all_clear listed file.ends = tt
 all_clear listed (file.blank is reads) = all_clear listed reads
@@ -123,7 +123,7 @@ begin_once name (e ∷ before) after (x ∷ first) (y ∷ all) clear p q =
     let (others, parts, are) = begin_once name before after first all clear.1 p.1 q.1 in
     (others, λ i. one i ∷ parts i, are)
 
-settings_once : (name text : List ℕ) (a b : List Setting) (e f : Option errors.Error) → HasSettings name text a e
+settings_once : (name text : List ℕ) (a b : List Setting) (e f : Option errors.FileError) → HasSettings name text a e
     → HasSettings name text b f → (map facts a ≡ map facts b) × (e ≡ f)
 settings_once name text a b e f (entries, is, are) (entries', is', are') =
     let read = one_reading text entries entries' e f is is' in (
@@ -276,7 +276,7 @@ module _ (options : Options) where
         (subst (λ c. ReportsSetting rows options f c line' t') (sym earlier.1) adds')) in
         (let first = earlier.0 in let second = last.0 in cc, last.1)
 
-    ends_once : (name : List ℕ) (error : Option errors.Error) (s t t' : Counts) (last last' : List Finding)
+    ends_once : (name : List ℕ) (error : Option errors.FileError) (s t t' : Counts) (last last' : List Finding)
         → EndsReport name error s last t → EndsReport name error s last' t' → (last ≡ last') × (t ≡ t')
     ends_once name None s t t' last last' p q = (p.0 ∙ sym q.0, p.1 ∙ sym q.1)
     ends_once name (Some error) s t t' last last' p q = (p.0 ∙ sym q.0, p.1 ∙ sym q.1)

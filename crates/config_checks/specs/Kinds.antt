@@ -87,11 +87,11 @@ abbrev pub EndsName : List ℕ → Type 0
 EndsName rest = (rest ≡ []) ⊎ ((more : List ℕ) × (rest ≡ 58 ∷ more))
 
 -- the text is this name, or begins with this name and a colon
-abbrev pub Names : List ℕ → List ℕ → Type 0
-Names t name = (rest : List ℕ) × (t ≡ name ++ rest) × EndsName rest
+abbrev pub BeginsWithName : List ℕ → List ℕ → Type 0
+BeginsWithName t name = (rest : List ℕ) × (t ≡ name ++ rest) × EndsName rest
 
 abbrev pub IsSortKey : WordList → List ℕ → Type 0
-IsSortKey list t = Any (λ name. Names (sort_name t) name.now) list.words.items
+IsSortKey list t = Any (λ name. BeginsWithName (sort_name t) name.now) list.words.items
 
 -- ---- no value
 

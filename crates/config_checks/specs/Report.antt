@@ -2,9 +2,9 @@
 use Rattle.std.specs.Prelude.{◌≡◌, ⊤, ℕ, ◌+◌, ◌-◌, ◌==◌, if◌then◌else◌, codes, List, [], ◌∷◌, ◌++◌, Option, None, Some, option_map, option_copied}
 use Rattle.std.specs.Fmt.{decimal}
 use Rattle.std.specs.List.{AllZip}
-use Rattle.config_file.specs.declared.errors.Error as errors
-use Rattle.config_file.specs.declared.errors.Fault.{Fault}
-use Rattle.config_file.specs.declared.errors.Fault.TheVariants.{BadLine, Nul}
+use Rattle.config_file.specs.declared.errors.FileError as errors
+use Rattle.config_file.specs.declared.errors.FileFault.{FileFault}
+use Rattle.config_file.specs.declared.errors.FileFault.TheVariants.{BadLine, Nul}
 use Rattle.config_file.specs.File.{Entry, IsFile}
 use Rattle.config_file.specs.Key.{written}
 use Rattle.config_file.specs.KeyView.{key_of}
@@ -100,11 +100,11 @@ unknown_finding before setting unknown = record {
 }
 
 -- why a file is refused at a line
-abbrev pub fault_text : Fault → List ℕ
-fault_text BadLine = codes "Git cannot read this line, and reads nothing of the file"
-fault_text Nul = codes "a NUL byte outside a comment"
+abbrev pub file_fault_shown : FileFault → List ℕ
+file_fault_shown BadLine = codes "Git cannot read this line, and reads nothing of the file"
+file_fault_shown Nul = codes "a NUL byte outside a comment"
 
-abbrev pub refused_finding : List ℕ → errors.Error → Finding
+abbrev pub refused_finding : List ℕ → errors.FileError → Finding
 refused_finding file error = record {
   file = file;
   line = error.line;
@@ -114,7 +114,7 @@ refused_finding file error = record {
   key = None;
   row = None;
   value = None;
-  reason = fault_text error.fault;
+  reason = file_fault_shown error.fault;
   fault = None;
   suggested_key = None;
   suggested_value = None;
@@ -158,19 +158,19 @@ pub data Report (rows : List Row) (options : Options) : List Setting → List Fi
       → Report rows options (settings ++ setting ∷ []) (found ++ said) s'
 
 -- the last finding is the error of a refused file; there is none if the file is read to its end
-abbrev pub EndsReport : List ℕ → Option errors.Error → Counts → List Finding → Counts → Type 0
+abbrev pub EndsReport : List ℕ → Option errors.FileError → Counts → List Finding → Counts → Type 0
 EndsReport file None s last s' = (last ≡ []) × (s' ≡ s)
 EndsReport file (Some error) s last s' = (last ≡ refused_finding file error ∷ []) × (s' ≡ counted Error s)
 
 -- the file of this name and text has these settings up to its end, or up to this error
-abbrev pub HasSettings : List ℕ → List ℕ → List Setting → Option errors.Error → Type 0
+abbrev pub HasSettings : List ℕ → List ℕ → List Setting → Option errors.FileError → Type 0
 HasSettings file text settings error =
     (entries : List Entry) × IsFile text entries error × AllZip (IsSettingOf file) entries settings
 
 -- all findings of a file, and their counts
 pub record IsReport (rows : List Row) (options : Options) (file text : List ℕ) (all : List Finding) (s' : Counts) : Type 0 where
   pub settings : List Setting
-  pub error : Option errors.Error
+  pub error : Option errors.FileError
   pub of_file : HasSettings file text settings error
   pub found : List Finding
   pub s : Counts
@@ -200,17 +200,17 @@ Completes rows options file text known known' s =
     (all : List Finding) × Receives known known' all × IsReport rows options file text all s
 
 -- the file has these first settings
-pub record HasFirst (file text : List ℕ) (first : List Setting) : Type 0 where
+pub record HasFirstSettings (file text : List ℕ) (first : List Setting) : Type 0 where
   pub before : List Entry
   pub after : List Entry
-  pub error : Option errors.Error
+  pub error : Option errors.FileError
   pub is_file : IsFile text (before ++ after) error
   pub are : AllZip (IsSettingOf file) before first
 
 -- the findings of some first settings of the file
 pub record BeginsReport (rows : List Row) (options : Options) (file text : List ℕ) (found : List Finding) : Type 0 where
   pub first : List Setting
-  pub of_file : HasFirst file text first
+  pub of_file : HasFirstSettings file text first
   pub s : Counts
   pub report : Report rows options first found s
 

@@ -6,11 +6,11 @@ ghost use Rattle.config_checks.specs.Report.{Receives, Completes, Fails};
 ghost use Rattle.config_checks.specs.Rows.{rows_of, IsUnknown};
 ghost use Rattle.config_checks.specs.Reading.Steps.{HasRoom, HasRoomForFinding, Reports};
 ghost use Rattle.config_checks.specs.Reading.Steps.{IsSaid, said_findings, is_reported};
-ghost use Rattle.config_checks.specs.Reading.Steps.{Tells, ReportsEntries};
+ghost use Rattle.config_checks.specs.Reading.Steps.{ReportsError, ReportsEntries};
 
 use crate::code::Code;
 use crate::finding::{
-    Finding, bytes_of, fault_of, fault_text, instead_of, key_meant, push_reason, value_meant,
+    Finding, bytes_of, fault_of, file_fault_shown, instead_of, key_meant, push_reason, value_meant,
     value_of,
 };
 use crate::lookup::{row_for, runs_of};
@@ -19,7 +19,7 @@ use crate::reason::{Reason, Severity, find};
 use crate::row::{Row, Run};
 use crate::setting::Setting;
 use crate::suggestion::{push_unknown, unknown_key};
-use config_file::errors::Error;
+use config_file::errors::FileError;
 use config_file::reader::Entries;
 use std::alloc::{AllocError, Global};
 use std::{fmt, io};
@@ -329,7 +329,7 @@ fn report_entries<R: Receiver>(
     file: &str,
     text: &[u8],
     receiver: &mut R,
-) -> Result<(Counts, Option<Error>), CheckError>
+) -> Result<(Counts, Option<FileError>), CheckError>
     ensures ok { IfOk result (λ reported. ReportsEntries (rows_of runs.now) options.now file.now text.now
         (R.received receiver.old) (R.received receiver.new) reported.0 reported.1) }
     ensures err { OnErr result (Fails (rows_of runs.now) options.now file.now text.now
@@ -357,12 +357,12 @@ fn report_entries<R: Receiver>(
 /// If a file is refused, hands on the line of its error, and counts it as a finding.
 fn tell<R: Receiver>(
     file: &str,
-    refused: Option<Error>,
+    refused: Option<FileError>,
     counts: Counts,
     receiver: &mut R,
 ) -> Result<Counts, CheckError>
     requires { HasRoomForFinding counts }
-    ensures ok { IfOk result (λ after. Tells file.now refused counts after
+    ensures ok { IfOk result (λ after. ReportsError file.now refused counts after
         (R.received receiver.old) (R.received receiver.new)) }
     ensures err { OnErr result (Receives (R.received receiver.old) (R.received receiver.new) []) }
 {
@@ -378,7 +378,7 @@ fn tell<R: Receiver>(
         key: None,
         row: None,
         value: None,
-        reason: fault_text(error.fault).as_bytes(),
+        reason: file_fault_shown(error.fault).as_bytes(),
         fault: None,
         suggested_key: None,
         suggested_value: None,

@@ -10,7 +10,7 @@ ghost use Rattle.config_checks.specs.Findings.{range_text, version_text, words_t
 ghost use Rattle.config_checks.specs.Findings.{no_word_front, list_text, word_asked, meant_text, no_word_text};
 ghost use Rattle.config_checks.specs.Findings.{reason_text};
 ghost use Rattle.config_checks.specs.Report.{value_meant, instead_of, fault_of_form, fault_of};
-ghost use Rattle.config_checks.specs.Report.{key_meant, fault_text};
+ghost use Rattle.config_checks.specs.Report.{key_meant, file_fault_shown};
 ghost use Rattle.config_checks.specs.Settings.{value_of};
 
 use crate::code::Code;
@@ -20,7 +20,7 @@ use crate::setting::Setting;
 use crate::suggestion::UnknownKey;
 use crate::version::Version;
 use bstr::decode_utf8;
-use config_file::errors::Fault;
+use config_file::errors::FileFault;
 use config_file::key::Key;
 use gix_config_value::integer::Amount;
 use itoa::Buffer;
@@ -386,11 +386,11 @@ pub(crate) fn key_meant(
 }
 
 /// Why a file is refused at a line.
-pub(crate) fn fault_text(fault: Fault) -> &'static str
-    ensures { result.now ≡ fault_text fault }
+pub(crate) fn file_fault_shown(fault: FileFault) -> &'static str
+    ensures { result.now ≡ file_fault_shown fault }
 {
     match fault {
-        Fault::BadLine => "Git cannot read this line, and reads nothing of the file",
-        Fault::Nul => "a NUL byte outside a comment",
+        FileFault::BadLine => "Git cannot read this line, and reads nothing of the file",
+        FileFault::Nul => "a NUL byte outside a comment",
     }
 }

@@ -3,7 +3,7 @@ ghost use Rattle.std.specs.Prelude.{◌≡◌, ◌↔◌, ℕ, List, IsTrue, Mat
 ghost use Rattle.std.specs.List.{slice_split, Any};
 ghost use Rattle.config_checks.specs.Kinds.{IsSame, IsPattern, IsWord, IsNoWord, IsFirstWord, HasWord};
 ghost use Rattle.config_checks.specs.Kinds.{is_separator, IsPiece, AreWords, is_no_letter, HasDigit, HasDate};
-ghost use Rattle.config_checks.specs.Kinds.{without_front, sort_name, EndsName, Names, IsSortKey};
+ghost use Rattle.config_checks.specs.Kinds.{without_front, sort_name, EndsName, BeginsWithName, IsSortKey};
 ghost use Rattle.config_checks.specs.Kinds.{takes_booleans, takes_true};
 
 use crate::key::is_same_word;
@@ -131,7 +131,7 @@ fn ends_name(rest: &[u8]) -> bool
 
 /// Whether a text is this name, or begins with this name and a colon.
 fn names(text: &[u8], name: &[u8]) -> bool
-    ensures { IsTrue result ↔ Names text.now name.now }
+    ensures { IsTrue result ↔ BeginsWithName text.now name.now }
 {
     match text.strip_prefix(name) {
         Some(rest) => ends_name(rest),

@@ -1,13 +1,13 @@
 -- Texts with one entry more.
 use Rattle.std.proofs.Common.{◌≡◌, ℕ, ◌<◌, Bool, true, false, List, [], ◌∷◌, ◌++◌, Option, Some}
 use Rattle.std.proofs.Common.{None, IsTrue, IfSome, MatchOption, ◌↔◌, length, map, refl, sym, ap, ◌∙◌, subst}
-use Rattle.std.proofs.Common.{append_assoc, append-nil, arith, inl, inr, ◌⊎◌, true≢false}
+use Rattle.std.proofs.Common.{append_assoc, append-nil, inl, inr, ◌⊎◌, true≢false}
 use Rattle.std.specs.List.{list_all}
 use Rattle.std.specs.Char.{to_ascii_lowercase, is_ascii_alphabetic}
 use Rattle.std.proofs.lemmas.List.{append_cancel_right}
 use Rattle.std.proofs.lemmas.Bool.{and_parts}
 use Rattle.std.proofs.lemmas.Bool.Decides.{nat_tests}
-use Rattle.config_file.specs.declared.edit.setting.Place.{Place}
+use Rattle.config_file.specs.declared.edit.setting.Insertion.{Insertion}
 use Rattle.config_file.specs.declared.edit.setting.Places.{Places}
 use Rattle.config_file.specs.declared.edit.write.End.{End}
 use Rattle.config_file.specs.declared.edit.write.End.TheVariants as end
@@ -24,10 +24,10 @@ use Rattle.config_file.specs.Subsection.{SpellsSubsection}
 use Rattle.config_file.specs.File.{TakesKey, TakesEntry, valued}
 use Rattle.config_file.specs.Listing as listing
 use Rattle.config_file.specs.Listing.{IsListedSection}
-use Rattle.config_file.specs.Spelling.{SpellsOptional, Names}
+use Rattle.config_file.specs.Spelling.{SpellsOptional, SpellsSection}
 use Rattle.config_file.specs.Key.{Key, is_name, stem, dotted}
 use Rattle.config_file.specs.Edit as spec
-use Rattle.config_file.specs.Edit.{Content, IsIn, WithoutIn, NoneIn, SameEntry, IsLineEnd, Adds, PutsLine}
+use Rattle.config_file.specs.Edit.{Content, IsIn, WithoutIn, NoneIn, SameEntry, IsLineEnd, AddsContent, PutsLine}
 use Rattle.config_file.specs.Edit.{entry_line, HasValue}
 use Rattle.config_file.specs.Reading.Edits.{Holds, Ends, Passed, anywhere, IsRead, IsMade, IsPiece}
 use Rattle.config_file.specs.Reading.Edits.{IsHeaderAt, contents_in, section_after, IsPast, IsEndOf, Closes}
@@ -83,12 +83,12 @@ closes_more {rest = rest} {front = front} {contents = contents} {section = secti
       both_same contents contents (contents_in piece.held section) now (same_entries contents) same,
     )
 
-pub placing_here : {key : Key} {text rest : List ℕ} {inside : Option Place} {e f : End} (was is_inside : Bool)
+pub placing_here : {key : Key} {text rest : List ℕ} {inside : Option Insertion} {e f : End} (was is_inside : Bool)
     (piece : Piece)
     → (p : Placing key text rest was inside e) → IsPiece rest piece
     → length piece.rest.now < length rest → IsEndOf piece f
     → (IsTrue is_inside ↔ IsIn key (section_after piece.held p.section)) → is_inside ≡ true
-    → (here : Place) → here.rest.now ≡ piece.rest.now → here.end ≡ f
+    → (here : Insertion) → here.rest.now ≡ piece.rest.now → here.end ≡ f
     → Placing key text piece.rest.now is_inside (Some here) f
 placing_here {key = key} {text = text} was is_inside piece p is shorter end_is inside_is inside here rest_is here_is =
     let past = past_more piece p.past is shorter in
@@ -144,7 +144,7 @@ still_outside key section was is_inside h before false_is after (inr no_item) =
     ]
 
 place_kept : (key : Key) (text rest : List ℕ) (contents : List Content) (section : Option Section)
-    (was is_inside : Bool) (inside : Option Place) (piece : Piece)
+    (was is_inside : Bool) (inside : Option Insertion) (piece : Piece)
     → IsPlaceSoFar key text rest contents section was inside → IsPiece rest piece
     → length piece.rest.now < length rest
     → (IsTrue was ↔ IsIn key section) → (IsTrue is_inside ↔ IsIn key (section_after piece.held section))
@@ -179,7 +179,7 @@ place_kept key text rest contents section was is_inside (Some place) piece r is 
           ∙ append_assoc r.before r.after (contents_in piece.held section);
     }
 
-pub placing_kept : {key : Key} {text rest : List ℕ} {inside : Option Place} {e f : End} (was is_inside : Bool)
+pub placing_kept : {key : Key} {text rest : List ℕ} {inside : Option Insertion} {e f : End} (was is_inside : Bool)
     (piece : Piece)
     → (p : Placing key text rest was inside e) → IsPiece rest piece
     → length piece.rest.now < length rest → IsEndOf piece f
@@ -197,7 +197,7 @@ placing_kept {key = key} {text = text} {rest = rest} {inside = inside} was is_in
     }
 
 places_at_end : (key : Key) (text : List ℕ) (contents : List Content) (section : Option Section)
-    (is_inside : Bool) (inside : Option Place)
+    (is_inside : Bool) (inside : Option Insertion)
     → IsPlaceSoFar key text [] contents section is_inside inside
     → MatchOption inside (NoneIn key contents) (λ place. IsPlace key text [] contents section place)
 places_at_end key text contents section is_inside None (nothing, false_is) = nothing
@@ -282,7 +282,7 @@ are_ends end.Open feed = inr (inl refl)
 are_ends end.Backslash feed = inr (inr refl)
 
 pub added_inside : {key : Key} (value text new feed front : List ℕ) {contents : List Content}
-    {section : Option Section} {place : Place}
+    {section : Option Section} {place : Insertion}
     → is_name key.name ≡ true → is_spellable value ≡ true
     → IsPlace key text [] contents section place → IsLineEnd feed → text ≡ front ++ place.rest.now
     → new ≡ front ++ (line_ends place.end feed ++ (new_line key.name value feed ++ place.rest.now))
@@ -363,7 +363,7 @@ listed_as_stem key name (Some raw) (Some text) same is spells = listed_quoted ke
 listed_as_stem key name None (Some text) same is spells = absurd spells
 listed_as_stem key name (Some raw) None same is spells = absurd spells
 
-names_in : (key : Key) (section : Section) → Names section key.section key.subsection
+names_in : (key : Key) (section : Section) → SpellsSection section key.section key.subsection
     → IsIn key (Some section)
 names_in key section (name_is, spells) =
     listed_as_stem key section.0 section.1 key.subsection refl name_is spells
@@ -452,7 +452,7 @@ inside_after_other key section is_inside h other (there, back) =
     (λ is. subst (IsIn key) (sym same) (there is), λ is. back (subst (IsIn key) same is))
 
 pub place_within : (key : Key) (text rest : List ℕ) (contents : List Content) (section : Option Section)
-    (is_inside : Bool) (inside : Option Place)
+    (is_inside : Bool) (inside : Option Insertion)
     → IsPlaceSoFar key text rest contents section is_inside inside
     → IfSome inside (λ place. (front : List ℕ) × (text ≡ front ++ place.rest.now))
 place_within key text rest contents section is_inside None so_far = tt

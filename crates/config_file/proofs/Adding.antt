@@ -2,20 +2,20 @@
 use Rattle.std.proofs.Common.{◌≡◌, ◌++◌, ◌∙◌, ℕ, length, option_map, map, refl, arith, List, [], ◌∷◌, Option, sym, ap, subst}
 use Rattle.std.specs.List.{AllZip}
 use Rattle.std.proofs.lemmas.List.{append_assoc, append-nil}
-use Rattle.config_file.specs.declared.errors.Error.{Error}
+use Rattle.config_file.specs.declared.errors.FileError.{FileError}
 use Rattle.config_file.specs.File.{Entry, IsFile}
 use Rattle.config_file.specs.declared.settings.Setting.{Setting}
 use Rattle.config_file.specs.declared.reader.Entries.{Entries}
 use Rattle.config_file.specs.Left.{HasLeft}
-use Rattle.config_file.specs.Settings.{IsSettingOf, Adds, HasFirst}
+use Rattle.config_file.specs.Settings.{IsSettingOf, AddsEach, HasFirstEntries}
 use Rattle.config_file.specs.Views.{section_of}
 use Rattle.config_file.proofs.EachReading.{are_read}
 
-pub adds_none : (settings : List Setting) → Adds [] settings settings
+pub adds_none : (settings : List Setting) → AddsEach [] settings settings
 adds_none settings = ([], sym (append-nil settings), tt)
 
 pub adds_one : (found : List ℕ × Entry) (old new : List Setting) (setting : Setting) → IsSettingOf found setting
-    → new ≡ old ++ setting ∷ [] → Adds (found ∷ []) old new
+    → new ≡ old ++ setting ∷ [] → AddsEach (found ∷ []) old new
 adds_one found old new setting is more = (setting ∷ [], more, (is, tt))
 
 zip_append : {A B : Type 0} (R : A → B → Type 0) (xs more : List A) (ys others : List B) → AllZip R xs ys
@@ -25,8 +25,8 @@ zip_append R [] more (z ∷ zs) others all rest = absurd all
 zip_append R (w ∷ ws) more [] others all rest = absurd all
 zip_append R (w ∷ ws) more (z ∷ zs) others all rest = (all.0, zip_append R ws more zs others all.1 rest)
 
-pub adds_both : (found more : List (List ℕ × Entry)) (old new newer : List Setting) → Adds found old new
-    → Adds more new newer → Adds (found ++ more) old newer
+pub adds_both : (found more : List (List ℕ × Entry)) (old new newer : List Setting) → AddsEach found old new
+    → AddsEach more new newer → AddsEach (found ++ more) old newer
 adds_both found more old new newer (first, is, all) (second, is2, all2) = (
   first ++ second,
   is2 ∙ ap (λ s. s ++ second) is ∙ append_assoc old first second,
@@ -43,23 +43,23 @@ map_push file [] entry = refl
 map_push file (e ∷ entries) entry = ap (λ s. (file, e) ∷ s) (map_push file entries entry)
 
 pub file_adds_more : (file : List ℕ) (entries : List Entry) (entry : Entry) (old new newer : List Setting)
-    → Adds (of_file file entries) old new → Adds ((file, entry) ∷ []) new newer
-    → Adds (of_file file (entries ++ entry ∷ [])) old newer
+    → AddsEach (of_file file entries) old new → AddsEach ((file, entry) ∷ []) new newer
+    → AddsEach (of_file file (entries ++ entry ∷ [])) old newer
 file_adds_more file entries entry old new newer adds one =
-    subst (λ found. Adds found old newer) (sym (map_push file entries entry))
+    subst (λ found. AddsEach found old newer) (sym (map_push file entries entry))
     (adds_both (of_file file entries) ((file, entry) ∷ []) old new newer adds one)
 
-pub file_more : (text : List ℕ) (entries left : List Entry) (entry : Entry) (error : Option Error)
+pub file_more : (text : List ℕ) (entries left : List Entry) (entry : Entry) (error : Option FileError)
     → IsFile text (entries ++ entry ∷ left) error → IsFile text ((entries ++ entry ∷ []) ++ left) error
 file_more text entries left entry error file = subst (λ e. IsFile text e error) (sym (append_assoc entries (entry ∷ []) left)) file
 
-pub file_end : (text : List ℕ) (entries : List Entry) (error : Option Error)
+pub file_end : (text : List ℕ) (entries : List Entry) (error : Option FileError)
     → IsFile text (entries ++ []) error → IsFile text entries error
 file_end text entries error file = subst (λ e. IsFile text e error) (append-nil entries) file
 
 pub first_of : (text : List ℕ) (entries : List Entry) (reader : Entries)
-    → ((left : List Entry) (error : Option Error) → HasLeft reader left error → IsFile text (entries ++ left) error)
-    → HasFirst text entries
+    → ((left : List Entry) (error : Option FileError) → HasLeft reader left error → IsFile text (entries ++ left) error)
+    → HasFirstEntries text entries
 first_of text entries reader before =
     let (left, error, reads) =
     are_read (length reader.rest.now) (option_map section_of reader.section) reader.line reader.rest.now (omega arith) in

@@ -4,7 +4,7 @@ use Rattle.std.proofs.lemmas.Bool.{true≢false}
 use Rattle.std.proofs.lemmas.List.Sums.{count_by-le-length}
 use Rattle.std.proofs.lemmas.Bool.Decides.{nat_tests}
 use Rattle.std.specs.Char.{is_ascii_alphabetic}
-use Rattle.config_file.specs.declared.errors.Fault.{Fault}
+use Rattle.config_file.specs.declared.errors.FileFault.{FileFault}
 use Rattle.config_file.specs.Bytes.{is_key_byte}
 use Rattle.config_file.specs.Runs.{Run, StopsRun}
 use Rattle.config_file.specs.Header as header
@@ -32,7 +32,7 @@ header_shortens (header.quoted {text = text} {name = name} {inner = inner} opens
     let third = length_joined inner raw (34 ∷ b ∷ rest) takes.joined in
     omega arith
 
-pub header_stops_soon : {text : List ℕ} {lines : ℕ} {fault : Fault} → HeaderStops text lines fault → lines ≤ 1
+pub header_stops_soon : {text : List ℕ} {lines : ℕ} {fault : FileFault} → HeaderStops text lines fault → lines ≤ 1
 header_stops_soon (header.name run none header.at_end) = omega arith
 header_stops_soon (header.name run none header.empty) = omega arith
 header_stops_soon (header.name run none (header.not_closed e)) = omega arith
@@ -56,7 +56,7 @@ value_shortens : {text raw rest : List ℕ} {lines : ℕ} → TakesValue text ra
 value_shortens (value.closed {raw = raw} {text = text} {rest = rest} joined spells ends) = omega (arith, length_joined text raw rest joined)
 value_shortens (value.open_end {raw = raw} spells) = omega arith
 
-pub value_stops_bound : {text : List ℕ} {lines : ℕ} {fault : Fault} → ValueStops text lines fault
+pub value_stops_bound : {text : List ℕ} {lines : ℕ} {fault : FileFault} → ValueStops text lines fault
     → lines ≤ length text
 value_stops_bound (value.nul {b = b} {text = text} raw rest joined part e) =
     let f = length_joined text raw (b ∷ rest) joined in omega (arith, line_feeds_fit raw)
@@ -98,7 +98,7 @@ entry_shorter {b = b} letter (file.valued {key = key} takes e taken) =
     let f = key_taken key (letter_is_key_byte b letter) takes.key_run in let g = run_shortens takes.space_run in
     omega (arith, value_shortens taken)
 
-pub entry_stops_bound : {text : List ℕ} {lines : ℕ} {fault : Fault} → EntryStops text lines fault
+pub entry_stops_bound : {text : List ℕ} {lines : ℕ} {fault : FileFault} → EntryStops text lines fault
     → lines ≤ length text
 entry_stops_bound (file.key takes h l) = omega arith
 entry_stops_bound (file.value takes e stops) = let f = key_shortens takes in omega (arith, value_stops_bound stops)

@@ -7,7 +7,7 @@ use Rattle.std.proofs.lemmas.Bool.{and_parts}
 use Rattle.std.proofs.lemmas.Bool.Decides.{nat_tests}
 use Rattle.std.proofs.lemmas.List.{append_cancel_right}
 use Rattle.std.proofs.lemmas.List.Folds.{list_all-append}
-use Rattle.config_file.specs.declared.entry.Parts.{Parts}
+use Rattle.config_file.specs.declared.entry.EntryParts.{EntryParts}
 use Rattle.config_file.specs.declared.edit.piece.Piece.{Piece}
 use Rattle.config_file.specs.Bytes.{is_blank, is_space, is_key_byte, IsAtLineEnd}
 use Rattle.config_file.specs.Runs.{Run, StopsRun}
@@ -230,7 +230,7 @@ change_in front back c =
       may = c.may;
     }
 
-pub value_changed : {parts : Parts} {piece : Piece} (raw value put start : List ℕ)
+pub value_changed : {parts : EntryParts} {piece : Piece} (raw value put start : List ℕ)
     → value_of parts.value ≡ Some raw
     → (e : IsEntry parts.key.now (value_of parts.value) parts.lines parts.rest.now piece.blanks.now piece.bytes.now piece.rest.now piece.is_line)
     → piece.bytes.now ≡ (start ++ raw) ++ e.tail → IsPutIn raw value put
@@ -364,7 +364,7 @@ with_value {key = key} {at = at} front gap raw value {rest = rest} joined none b
       begins_now,
     )
 
-pub value_given : {parts : Parts} {piece : Piece} {value gap : List ℕ} → value_of parts.value ≡ None
+pub value_given : {parts : EntryParts} {piece : Piece} {value gap : List ℕ} → value_of parts.value ≡ None
     → (e : IsEntry parts.key.now (value_of parts.value) parts.lines parts.rest.now piece.blanks.now piece.bytes.now piece.rest.now piece.is_line)
     → is_spellable value ≡ true → IsGap gap
     → IsSet parts piece value ((piece.blanks.now ++ e.front) ++ ((gap ++ 61 ∷ 32 ∷ git_spelled value) ++ e.tail))
@@ -440,7 +440,7 @@ spelled_of None takes = inl refl
 spelled_of (Some raw) takes =
     let (spelled, (ending, spells)) = value_of_entry refl takes in inr (raw, spelled, ending, refl, spells)
 
-pub value_kept : {parts : Parts} {piece : Piece} {value raw spelled : List ℕ} {ending : Ending}
+pub value_kept : {parts : EntryParts} {piece : Piece} {value raw spelled : List ℕ} {ending : Ending}
     → value_of parts.value ≡ Some raw → SpellsValue raw spelled ending → spelled ≡ value
     → (e : IsEntry parts.key.now (value_of parts.value) parts.lines parts.rest.now piece.blanks.now piece.bytes.now piece.rest.now piece.is_line)
     → IsSet parts piece value piece.bytes.now

@@ -6,14 +6,14 @@ use Rattle.std.proofs.lemmas.List.{append_assoc, append-nil, map-append}
 use Rattle.std.proofs.lemmas.List.Elements.{Contains-push, Contains-append_left, Contains-append_right}
 use Rattle.std.proofs.lemmas.List.Elements.{Contains-append_cases, Contains-push_cases}
 use Rattle.config_file.specs.File.{Entry}
-use Rattle.config_file.specs.Settings.{Adds, AddsWalk, IsFaultOf, TellsStop, found_item, IsPassed, IsEntered, IsStop}
+use Rattle.config_file.specs.Settings.{AddsEach, AddsWalk, IsFaultOf, TellsStop, found_item, IsPassed, IsEntered, IsStop}
 use Rattle.config_file.specs.Walk.{Content, Item, Found, Stops, Stop, Walks, WalksText}
 use Rattle.config_file.specs.Walk as w
 use Rattle.config_file.specs.Reading.Adds.{Within, Comes, AddsNext}
 use Rattle.config_file.specs.Reading.Walks.{Left, nothing, Enters, Passes, Said, Takes}
 use Rattle.config_file.specs.Views.{entry_of}
 use Rattle.config_file.specs.declared.entry.Entry as code
-use Rattle.config_file.specs.declared.errors.Error.{Error}
+use Rattle.config_file.specs.declared.errors.FileError.{FileError}
 use Rattle.config_file.specs.declared.walk.Include.{Include}
 use Rattle.config_file.specs.declared.walk.Include.TheVariants.{NotFollowed, MissingValue, UnknownDirectory, Named}
 use Rattle.config_file.specs.declared.walk.Step.TheVariants as step
@@ -24,12 +24,12 @@ use Rattle.config_file.specs.declared.settings.IncludeFault.TheVariants as fault
 use Rattle.config_file.specs.declared.settings.Setting.{Setting}
 use Rattle.config_file.specs.declared.walk.Frame.{Frame}
 use Rattle.config_file.specs.declared.walk.Known.{Known}
-use Rattle.config_file.specs.declared.walk.Place.{Place}
+use Rattle.config_file.specs.declared.walk.FilePlace.{FilePlace}
 use Rattle.config_file.proofs.Adding.{adds_none, adds_both}
 use Rattle.config_file.proofs.Steps.{all_of, cut_here}
 
 -- a walk over some contents is one over more
-walks_more : (some all : List ℕ → Content → Type 0) {known : Known} {depth : ℕ} {place : Place} {entries : List Entry}
+walks_more : (some all : List ℕ → Content → Type 0) {known : Known} {depth : ℕ} {place : FilePlace} {entries : List Entry}
     {error : _} {items : List (List ℕ × Item)} {whole : Bool} → Within some all
     → Walks some known depth place entries error items whole → Walks all known depth place entries error items whole
 walks_more some all more w.cut = w.cut
@@ -86,12 +86,12 @@ comes_both contents known old mid new items more (said, among, passes) (said2, a
 )
 
 -- what the loop keeps: the entries that are added are those that the walk has come to
-abbrev pub Keeps : (List ℕ → Content → Type 0) → Known → Place → List ℕ → List Setting → List Setting → List Frame
+abbrev pub Keeps : (List ℕ → Content → Type 0) → Known → FilePlace → List ℕ → List Setting → List Setting → List Frame
     → Type 0
 Keeps contents known place text start now frames = (first : List Frame) × Enters [] place text first
-    × ((found : List (List ℕ × Entry)) × Adds found start now × Comes contents known first (map found_item found) frames)
+    × ((found : List (List ℕ × Entry)) × AddsEach found start now × Comes contents known first (map found_item found) frames)
 
-all_come : (contents : List ℕ → Content → Type 0) (known : Known) (place : Place) (text : List ℕ)
+all_come : (contents : List ℕ → Content → Type 0) (known : Known) (place : FilePlace) (text : List ℕ)
     (first frames : List Frame) (items left : List (List ℕ × Item)) (whole : Bool) → Enters [] place text first
     → Comes contents known first items frames
     → ((answers : List (List ℕ × Content)) → Left (Said answers) known frames left whole)
@@ -105,13 +105,13 @@ items_both : (found more : List (List ℕ × Entry))
     → map found_item (found ++ more) ≡ map found_item found ++ map found_item more
 items_both found more = map-append found_item found more
 
-pub keeps_first : (contents : List ℕ → Content → Type 0) (known : Known) (place : Place) (text : List ℕ)
+pub keeps_first : (contents : List ℕ → Content → Type 0) (known : Known) (place : FilePlace) (text : List ℕ)
     (settings : List Setting) (frames : List Frame) → Enters [] place text frames
     → Keeps contents known place text settings settings frames
 keeps_first contents known place text settings frames enters =
     (frames, enters, ([], adds_none settings, comes_none contents known frames))
 
-pub keeps_more : (contents : List ℕ → Content → Type 0) (known : Known) (place : Place) (text : List ℕ)
+pub keeps_more : (contents : List ℕ → Content → Type 0) (known : Known) (place : FilePlace) (text : List ℕ)
     (start now newer : List Setting) (frames to : List Frame)
     (b : Bool) → b ≡ true → Keeps contents known place text start now frames
     → AddsNext contents known frames to now newer (Ok b) → Keeps contents known place text start newer to
@@ -128,7 +128,7 @@ keeps_more contents known place text start now newer frames to true e (first, en
       ),
     )
 
-pub keeps_end : (contents : List ℕ → Content → Type 0) (known : Known) (place : Place) (text : List ℕ)
+pub keeps_end : (contents : List ℕ → Content → Type 0) (known : Known) (place : FilePlace) (text : List ℕ)
     (start now newer : List Setting) (frames to : List Frame) (b : Bool) (u : Unit {0}) → b ≡ false
     → Keeps contents known place text start now frames
     → AddsNext contents known frames to now newer (Ok b)
@@ -137,7 +137,7 @@ keeps_end contents known place text start now newer frames to true u e keeps nex
 keeps_end contents known place text start now newer frames to false u e (first, enters, (found, adds, comes))
     (same, none, step) = (
       found,
-      subst (λ s. Adds found start s) (sym same) adds,
+      subst (λ s. AddsEach found start s) (sym same) adds,
       subst (λ is. WalksText contents known place text is true)
           (append-nil (map found_item found ++ []) ∙ append-nil (map found_item found))
           (all_come contents known place text first to (map found_item found ++ []) [] true enters
@@ -145,33 +145,33 @@ keeps_end contents known place text start now newer frames to false u e (first, 
           (λ answers. subst (λ fs. Left (Said answers) known fs [] true) (sym none) nothing)),
     )
 
-pub keeps_memory : (contents : List ℕ → Content → Type 0) (known : Known) (place : Place) (text : List ℕ)
+pub keeps_memory : (contents : List ℕ → Content → Type 0) (known : Known) (place : FilePlace) (text : List ℕ)
     (start now newer : List Setting) (frames : List Frame) (refused : _) → length frames ≤ 11 → newer ≡ now
     → Keeps contents known place text start now frames
     → AddsWalk contents known place text start newer (Err (error.Memory refused))
 keeps_memory contents known place text start now newer frames refused fits same
     (first, enters, (found, adds, comes)) = (
       found,
-      subst (λ s. Adds found start s) (sym same) adds,
+      subst (λ s. AddsEach found start s) (sym same) adds,
       subst (λ is. WalksText contents known place text is false) (append-nil (map found_item found))
           (all_come contents known place text first frames (map found_item found) [] false enters comes
           (λ answers. cut_here (Said answers) known frames fits)),
     )
 
 -- what a loop gives that stops at an error
-abbrev pub Stopped : (List ℕ → Content → Type 0) → Known → Place → List ℕ → List Setting → List Setting → AddError → Type 0
+abbrev pub Stopped : (List ℕ → Content → Type 0) → Known → FilePlace → List ℕ → List Setting → List Setting → AddError → Type 0
 Stopped contents known place text start newer e =
-    (found : List (List ℕ × Entry)) × (file : List ℕ) × (stop : Stop) × Adds found start newer × TellsStop file stop e
+    (found : List (List ℕ × Entry)) × (file : List ℕ) × (stop : Stop) × AddsEach found start newer × TellsStop file stop e
     × WalksText contents known place text (map found_item found ++ (file, Stops stop) ∷ []) false
 
 -- what the step gives that stops at an error
 abbrev pub StopsNext : (List ℕ → Content → Type 0) → Known → List Frame → List Setting → List Setting → AddError → Type 0
 StopsNext contents known from old new e =
-    (found : List (List ℕ × Entry)) × (file : List ℕ) × (stop : Stop) × Adds found old new × TellsStop file stop e
+    (found : List (List ℕ × Entry)) × (file : List ℕ) × (stop : Stop) × AddsEach found old new × TellsStop file stop e
     × ((frames : List Frame) × (length frames ≤ 11)
     × Comes contents known from (map found_item found ++ (file, Stops stop) ∷ []) frames)
 
-stopped : (contents : List ℕ → Content → Type 0) (known : Known) (place : Place) (text : List ℕ)
+stopped : (contents : List ℕ → Content → Type 0) (known : Known) (place : FilePlace) (text : List ℕ)
     (start now newer : List Setting) (frames : List Frame) (e : AddError)
     → Keeps contents known place text start now frames → StopsNext contents known frames now newer e
     → Stopped contents known place text start newer e
@@ -190,7 +190,7 @@ stopped contents known place text start now newer frames e (first, enters, (foun
           (λ answers. cut_here (Said answers) known last fits))),
     )
 
-pub keeps_error : (contents : List ℕ → Content → Type 0) (known : Known) (place : Place) (text : List ℕ)
+pub keeps_error : (contents : List ℕ → Content → Type 0) (known : Known) (place : FilePlace) (text : List ℕ)
     (start now newer : List Setting) (frames to : List Frame) (e : AddError) → length frames ≤ 11
     → Keeps contents known place text start now frames → AddsNext contents known frames to now newer (Err e)
     → AddsWalk contents known place text start newer (Err e)
@@ -221,7 +221,7 @@ comes_with contents known old new items name content is passes = (
 )
 
 -- an entry that is passed
-pub passed_next : (contents : List ℕ → Content → Type 0) (known : Known) (old new : List Frame) (place : Place)
+pub passed_next : (contents : List ℕ → Content → Type 0) (known : Known) (old new : List Frame) (place : FilePlace)
     (entry : code.Entry) (include : Include)
     → ((answers : List (List ℕ × Content)) → Takes answers known old (step.Entry place entry include) new)
     → IsPassed contents include
@@ -236,7 +236,7 @@ passed_next contents known old new place entry UnknownDirectory takes is = absur
 
 -- an entry that is followed
 pub entered_next : (contents : List ℕ → Content → Type 0) (known : Known) (old new newer : List Frame)
-    (place at : Place) (entry : code.Entry) (include : Include) (text : List ℕ)
+    (place at : FilePlace) (entry : code.Entry) (include : Include) (text : List ℕ)
     → ((answers : List (List ℕ × Content)) → Takes answers known old (step.Entry place entry include) new)
     → IsEntered contents at text include → Enters new at text newer
     → Comes contents known old (found_item (place.name.now, entry_of entry) ∷ []) newer
@@ -249,7 +249,7 @@ entered_next contents known old new newer place at entry UnknownDirectory text t
 
 -- an entry that is included too deep
 pub deep_next : (contents : List ℕ → Content → Type 0) (known : Known) (old new : List Frame)
-    (place at : Place) (entry : code.Entry) (include : Include) (text : List ℕ)
+    (place at : FilePlace) (entry : code.Entry) (include : Include) (text : List ℕ)
     → ((answers : List (List ℕ × Content)) → Takes answers known old (step.Entry place entry include) new)
     → IsEntered contents at text include → length new ≡ 11
     → Comes contents known old (found_item (place.name.now, entry_of entry)
@@ -265,7 +265,7 @@ deep_next contents known old new place at entry MissingValue text takes is full 
 deep_next contents known old new place at entry UnknownDirectory text takes is full = absurd is
 
 -- an entry at which Git stops
-pub stop_comes : (contents : List ℕ → Content → Type 0) (known : Known) (old new : List Frame) (place : Place)
+pub stop_comes : (contents : List ℕ → Content → Type 0) (known : Known) (old new : List Frame) (place : FilePlace)
     (entry : code.Entry) (include : Include) (why : IncludeFault)
     → ((answers : List (List ℕ × Content)) → Takes answers known old (step.Entry place entry include) new)
     → IsStop contents include why → (stop : Stop) × TellsStop place.name.now stop (error.Include place.name entry.line why)
@@ -295,8 +295,8 @@ stop_comes contents known old new place entry (Named name) fault.UnknownDirector
 stop_comes contents known old new place entry (Named name) fault.TooDeep takes is = absurd is
 
 -- a line that cannot be read
-pub line_next : (contents : List ℕ → Content → Type 0) (known : Known) (old new : List Frame) (place : Place)
-    (at : Error) → ((answers : List (List ℕ × Content)) → Takes answers known old (step.Line place at) new)
+pub line_next : (contents : List ℕ → Content → Type 0) (known : Known) (old new : List Frame) (place : FilePlace)
+    (at : FileError) → ((answers : List (List ℕ × Content)) → Takes answers known old (step.Line place at) new)
     → Comes contents known old ((place.name.now, Stops (w.Line at)) ∷ []) new
 line_next contents known old new place at takes =
     comes_from contents known old new ((place.name.now, Stops (w.Line at)) ∷ []) takes

@@ -19,7 +19,7 @@ use Rattle.config_file.specs.Runs.{Run}
 use Rattle.config_file.specs.Header.{Section, BeginsWithout}
 use Rattle.config_file.specs.File.{IsFile}
 use Rattle.config_file.specs.Key.{Key, key, IsKey, IsAccepted, dotted, is_name}
-use Rattle.config_file.specs.Spelling.{Names, HasNoHeader, IsNoKey, LacksSpelling, IsEntry, AddsEntry, EndsLine}
+use Rattle.config_file.specs.Spelling.{SpellsSection, HasNoHeader, IsNoKey, LacksSpelling, IsEntry, AddsEntry, EndsLine}
 use Rattle.config_file.specs.Reading.Spellings.{is_section, is_key, is_spellable, is_spellable_or_absent}
 use Rattle.config_file.specs.Command.{goes_on, Quotes, closes, escaped, plain, TakesQuoted, opens, EndsParameter, AfterEquals, absent, present, TakesParameter, text_alone, key_and_value, Parameter, whole, pair, KeyValue, IsSetting, AddsSettings, Accepts, has_nul, some_has_nul, LacksParameter}
 use Rattle.config_file.specs.Command.{key_value, is_no_equals, value_after, Says, cut, as_given, RefusesSetting, RefusesParameter, of_text, of_pair, is_c_space, IsNumber, in_64_bits, Counts, is_white, SettingsOf, RefusesParameters, later, RefusesFormat}
@@ -126,8 +126,8 @@ pub adds_one : (setting : KeyValue) (k : Key) (bytes section name : List ℕ) (s
 adds_one setting k bytes section name subsection is e f g adds text entries file ends =
     let (entry, parts, now, end) = adds text entries file ends in
     let same : IsEntry k.section k.subsection k.name setting.1 entry.line entry = record {
-      section = subst (λ x. (s : Section) × (entry.section ≡ Some s) × Names s x k.subsection) e
-          (subst (λ x. (s : Section) × (entry.section ≡ Some s) × Names s section x) f parts.section);
+      section = subst (λ x. (s : Section) × (entry.section ≡ Some s) × SpellsSection s x k.subsection) e
+          (subst (λ x. (s : Section) × (entry.section ≡ Some s) × SpellsSection s section x) f parts.section);
       same_key = parts.same_key ∙ g;
       spells = parts.spells;
       same_line = refl;

@@ -13,7 +13,7 @@ use Rattle.config_file.specs.File.{Entry}
 use Rattle.config_file.specs.Header.{Section}
 use Rattle.config_file.specs.Subsection.{SpellsSubsection}
 use Rattle.config_file.specs.Include.{below, anywhere, at_home, IsSameName, MatchesBelow, MatchesDir, near, other}
-use Rattle.config_file.specs.Include.{Names, Holds, IsPathIn, EntryFollows}
+use Rattle.config_file.specs.Include.{SpellsCondition, Holds, IsPathIn, EntryFollows}
 use Rattle.config_file.specs.Include as follows
 use Rattle.config_file.specs.Pattern.{MatchesText}
 use Rattle.std.proofs.lemmas.Bool.Decides.{eqb_tells}
@@ -143,14 +143,14 @@ followed_always includes dir entry name false key is named iff =
 pub followed_if : (includes : Includes) (dir : List ℕ) (entry : Entry) (name raw text : List ℕ) (c : Condition)
     (b : Bool) → map to_ascii_lowercase entry.key ≡ codes "path" → entry.section ≡ Some (name, Some raw)
     → map to_ascii_lowercase name ≡ codes "includeif"
-    → ((spelled : List ℕ) → SpellsSubsection raw spelled → text ≡ spelled) → Names text c
+    → ((spelled : List ℕ) → SpellsSubsection raw spelled → text ≡ spelled) → SpellsCondition text c
     → (IsTrue b ↔ (Holds includes dir c)) → EntryFollows includes dir entry b
 followed_if includes dir entry name raw text c true key is named spelled names iff = follows.holds raw
     (key, (name, is, named))
-    (λ t spells. (c, subst (λ s. Names s c) (spelled t spells) names, iff.0 (search rules)))
+    (λ t spells. (c, subst (λ s. SpellsCondition s c) (spelled t spells) names, iff.0 (search rules)))
 followed_if includes dir entry name raw text c false key is named spelled names iff = follows.fails raw
     (key, (name, is, named))
-    (λ t spells. (c, subst (λ s. Names s c) (spelled t spells) names, no_match false (search rules) iff))
+    (λ t spells. (c, subst (λ s. SpellsCondition s c) (spelled t spells) names, no_match false (search rules) iff))
 
 pub name_of_text : (directories : Directories) (file value text name : List ℕ) → value ≡ text
     → IsNameOf directories file value name → IsNameOf directories file text name
@@ -170,7 +170,7 @@ if_always includes dir entry name (Err e) key is named iff = tt
 pub if_named : (includes : Includes) (dir : List ℕ) (entry : Entry) (name raw text : List ℕ) (c : Condition)
     (result : Result Bool AllocError) → map to_ascii_lowercase entry.key ≡ codes "path"
     → entry.section ≡ Some (name, Some raw) → map to_ascii_lowercase name ≡ codes "includeif"
-    → ((spelled : List ℕ) → SpellsSubsection raw spelled → text ≡ spelled) → Names text c
+    → ((spelled : List ℕ) → SpellsSubsection raw spelled → text ≡ spelled) → SpellsCondition text c
     → IfOk result (λ b. IsTrue b ↔ (Holds includes dir c)) → IfOk result (EntryFollows includes dir entry)
 if_named includes dir entry name raw text c (Ok b) key is named spelled names iff =
     followed_if includes dir entry name raw text c b key is named spelled names iff

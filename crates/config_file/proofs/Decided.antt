@@ -5,7 +5,7 @@ use Rattle.config_file.specs.Key.{Key, IsKey}
 use Rattle.config_file.specs.Edit as spec
 use Rattle.config_file.specs.Edit.{Content, HasContents, IsIn, IsOf, HasNone, Without, WithoutIn, NoneIn}
 use Rattle.config_file.specs.Edit.{HasValue}
-use Rattle.config_file.specs.Edit.{Replaces, Adds, ChangesKey, ReplacesKey, AddsKey, Edits, Sets, ReplacesAll}
+use Rattle.config_file.specs.Edit.{Replaces, AddsContent, ChangesKey, ReplacesKey, AddsKey, Edits, Sets, ReplacesAll}
 use Rattle.config_file.specs.Edit.{AddsOne, Decides}
 
 one_longer : (xs : List Content) (x : Content) → length (xs ++ x ∷ []) ≡ length xs + 1
@@ -53,7 +53,7 @@ replaced_decides {key = key} {text = text} is has r = (
 )
 
 added_decides : {key : Key} {name value text : List ℕ} {old now : List Content} → IsKey name key
-    → HasContents text now → Adds key value old now → Decides name value text
+    → HasContents text now → AddsContent key value old now → Decides name value text
 added_decides {key = key} {text = text} is has r =
     let last : HasNone key r.after = none_is_of r.last (omega arith) in (
       key,

@@ -7,7 +7,7 @@ use Rattle.config_file.specs.declared.edit.Change.{Change}
 use Rattle.config_file.specs.declared.edit.piece.Held.{Held}
 use Rattle.config_file.specs.declared.edit.piece.Held.TheVariants as held
 use Rattle.config_file.specs.declared.edit.piece.Piece.{Piece}
-use Rattle.config_file.specs.declared.entry.Parts.{Parts}
+use Rattle.config_file.specs.declared.entry.EntryParts.{EntryParts}
 use Rattle.config_file.specs.Bytes.{BeginsWithLetter}
 use Rattle.config_file.specs.Header.{Section}
 use Rattle.config_file.specs.File.{TakesKey, TakesEntry, alone, valued}
@@ -87,18 +87,18 @@ named {key = key} {at = at} {blanks = blanks} name is e =
       },
     )
 
-pub valued_new : {value : List ℕ} {parts : Parts} {piece : Piece} {put : List ℕ} → IsSet parts piece value put
+pub valued_new : {value : List ℕ} {parts : EntryParts} {piece : Piece} {put : List ℕ} → IsSet parts piece value put
     → IsValued (Some value) parts piece put
 valued_new s =
     record { raw = Some s.raw; lines = s.lines; at = s.at; value_is = s.has_value; entry = s.entry; bytes = s.bytes }
 
-pub valued_old : {parts : Parts} {piece : Piece}
+pub valued_old : {parts : EntryParts} {piece : Piece}
     → IsEntry parts.key.now (value_of parts.value) parts.lines parts.rest.now piece.blanks.now piece.bytes.now piece.rest.now piece.is_line
     → IsValued None parts piece piece.bytes.now
 valued_old {parts = parts} e =
     record { raw = value_of parts.value; lines = parts.lines; at = parts.rest.now; value_is = refl; entry = e; bytes = refl }
 
-pub named_old : {change : Change} {parts : Parts} {piece : Piece} {put : List ℕ}
+pub named_old : {change : Change} {parts : EntryParts} {piece : Piece} {put : List ℕ}
     → (e : IsEntry parts.key.now (value_of parts.value) parts.lines parts.rest.now piece.blanks.now piece.bytes.now piece.rest.now piece.is_line)
     → option_copied change.name ≡ None → IsValued (option_copied change.value) parts piece put
     → IsChangedIn change parts piece put
@@ -124,7 +124,7 @@ named_old {change = change} {parts = parts} {piece = piece} {put = put} e none v
       };
     }
 
-pub named_new : {change : Change} {parts : Parts} {piece : Piece} {line : List ℕ} (name more : List ℕ)
+pub named_new : {change : Change} {parts : EntryParts} {piece : Piece} {line : List ℕ} (name more : List ℕ)
     → (e : IsEntry parts.key.now (value_of parts.value) parts.lines parts.rest.now piece.blanks.now piece.bytes.now piece.rest.now piece.is_line)
     → option_copied change.name ≡ Some name → is_name name ≡ true
     → IsValued (option_copied change.value) parts piece line
@@ -194,7 +194,7 @@ each_kept {done = done} {old = old} {now = now} held.Comment section each =
     subst (λ o. ChangesEach done o (now ++ [])) (sym (append-nil old))
     (subst (λ n. ChangesEach done old n) (sym (append-nil now)) each)
 
-none_held : (h : Held) (section : Option Section) → ((parts : Parts) → h ≡ held.Entry parts → ⊥)
+none_held : (h : Held) (section : Option Section) → ((parts : EntryParts) → h ≡ held.Entry parts → ⊥)
     → contents_in h section ≡ []
 none_held (held.Entry parts) section other = absurd (other parts refl)
 none_held (held.Header new) section other = refl
@@ -229,7 +229,7 @@ changing_begins changes text writable =
 -- a piece that is no entry
 pub changing_passes : {changes left : List Change} {text rest new : List ℕ} {index : ℕ} (piece : Piece)
     → Changing changes text rest left new index → IsPiece rest piece → length piece.rest.now < length rest
-    → ((parts : Parts) → piece.held ≡ held.Entry parts → ⊥)
+    → ((parts : EntryParts) → piece.held ≡ held.Entry parts → ⊥)
     → Changing changes text piece.rest.now left (new ++ piece.bytes.now) index
 changing_passes {text = text} {rest = rest} {new = new} {index = index} piece r is shorter other =
     let some = some_left rest piece.rest.now shorter in
@@ -254,7 +254,7 @@ changing_passes {text = text} {rest = rest} {new = new} {index = index} piece r 
     }
 
 -- an entry that stays
-pub changing_keeps : {changes left : List Change} {text rest new : List ℕ} {index : ℕ} (piece : Piece) (parts : Parts)
+pub changing_keeps : {changes left : List Change} {text rest new : List ℕ} {index : ℕ} (piece : Piece) (parts : EntryParts)
     → Changing changes text rest left new index → IsPiece rest piece → length piece.rest.now < length rest
     → piece.held ≡ held.Entry parts → AreLater left index
     → Changing changes text piece.rest.now left (new ++ piece.bytes.now) (index + 1)
@@ -283,7 +283,7 @@ changing_keeps {left = left} {text = text} {rest = rest} {new = new} {index = in
 
 -- an entry that changes
 pub changing_changes : {changes left more : List Change} {change : Change} {text rest new put : List ℕ} {index : ℕ}
-    (piece : Piece) (parts : Parts)
+    (piece : Piece) (parts : EntryParts)
     → Changing changes text rest left new index → IsPiece rest piece → length piece.rest.now < length rest
     → piece.held ≡ held.Entry parts → left ≡ change ∷ more → change.entry ≡ index
     → IsChangedIn change parts piece put

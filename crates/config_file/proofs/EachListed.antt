@@ -3,7 +3,7 @@ use Rattle.std.proofs.Common.{◌≡◌, ◌↔◌, true, ℕ, List, Option, Som
 use Rattle.std.specs.List.{All, list_all}
 use Rattle.std.specs.Char.{to_ascii_lowercase}
 use Rattle.std.proofs.lemmas.List.Elements.{All-nil, All-cons}
-use Rattle.config_file.specs.declared.errors.Error.{Error}
+use Rattle.config_file.specs.declared.errors.FileError.{FileError}
 use Rattle.config_file.specs.Bytes.{is_key_byte}
 use Rattle.config_file.specs.Header as header
 use Rattle.config_file.specs.Header.{Section, Header}
@@ -48,7 +48,7 @@ is_read line lists (file.alone {key = key} takes end) =
 is_read line lists (file.valued {key = key} takes e taken) =
     record { listed = lists key; spelled = is_spelled taken; key_bytes = takes.key_run.pass }
 
-are_read : {section : Option Section} {line : ℕ} {text : List ℕ} {entries : List Entry} {error : Option Error}
+are_read : {section : Option Section} {line : ℕ} {text : List ℕ} {entries : List Entry} {error : Option FileError}
     → ListsIn section → Reads section line text entries error → All IsRead entries
 are_read lists file.ends = All-nil IsRead
 are_read lists (file.blank is reads) = are_read lists reads
@@ -61,11 +61,11 @@ are_read lists (file.header_refused is stops) = All-nil IsRead
 are_read lists (file.entry_refused is stops) = All-nil IsRead
 are_read lists (file.no_item none) = All-nil IsRead
 
-pub entries_are_read : {text : List ℕ} {entries : List Entry} {error : Option Error}
+pub entries_are_read : {text : List ℕ} {entries : List Entry} {error : Option FileError}
     → IsFile text entries error → All IsRead entries
 entries_are_read is = are_read lists_before_headers is.reads
 
-pub keys_of_entries : {text written : List ℕ} {entries : List Entry} {error : Option Error} {key : Key}
+pub keys_of_entries : {text written : List ℕ} {entries : List Entry} {error : Option FileError} {key : Key}
     → IsFile text entries error → IsCut written key
     → All (λ entry. HasKey entry key ↔ IsListed entry.section entry.key (listed key)) entries
 keys_of_entries {entries = entries} {key = key} is cut k d within =

@@ -15,9 +15,9 @@ use Rattle.config_file.proofs.OneHeader as one_header
 use Rattle.config_file.proofs.OneHeader.{HeaderHas}
 use Rattle.config_file.proofs.OneEntry as one_entry
 use Rattle.config_file.proofs.OneEntry.{EntryHas}
-use Rattle.config_file.specs.declared.errors.Error.{Error}
-use Rattle.config_file.specs.declared.errors.Fault.{Fault}
-use Rattle.config_file.specs.declared.errors.Fault.TheVariants.{BadLine}
+use Rattle.config_file.specs.declared.errors.FileError.{FileError}
+use Rattle.config_file.specs.declared.errors.FileFault.{FileFault}
+use Rattle.config_file.specs.declared.errors.FileFault.TheVariants.{BadLine}
 use Rattle.config_file.specs.Bytes.{is_name_byte, is_key_byte, is_blank, is_space, is_comment_sign, is_comment_byte, IsAtLineEnd}
 use Rattle.config_file.specs.Runs.{Run, StopsRun}
 use Rattle.config_file.specs.Header as header
@@ -43,11 +43,11 @@ line_end_decided (a ∷ b ∷ rest) =
       ]
     ]
 
-abbrev ClosingIs : List ℕ → Result (List ℕ × List ℕ) (ℕ × Fault) → Type 0
+abbrev ClosingIs : List ℕ → Result (List ℕ × List ℕ) (ℕ × FileFault) → Type 0
 ClosingIs text (Ok p) = ClosesSubsection text p.0 p.1
 ClosingIs text (Err stop) = SubsectionStops text stop.0 stop.1
 
-abbrev closing_of : (text : List ℕ) (o : Result (List ℕ × List ℕ) (List ℕ)) → SubsectionHas text o → (c : Result (List ℕ × List ℕ) (ℕ × Fault)) × ClosingIs text c
+abbrev closing_of : (text : List ℕ) (o : Result (List ℕ × List ℕ) (List ℕ)) → SubsectionHas text o → (c : Result (List ℕ × List ℕ) (ℕ × FileFault)) × ClosingIs text c
 closing_of text (Err rest) place = (Err (0, fault_at rest), header.within place)
 closing_of text (Ok (raw, [])) takes = (Err (1, BadLine), header.closed_at_line_end takes tt)
 closing_of text (Ok (raw, b ∷ rest)) takes =
@@ -71,7 +71,7 @@ named (n ∷ name) (b ∷ rest) run none =
       | inr other ↦ (Err (0, fault_at (b ∷ rest)), header.name run none (header.not_closed (test_not b 93 other)))
     ]
 
-abbrev with_subsection : {text inner : List ℕ} (name : List ℕ) → header.OpensSubsection text name inner → (c : Result (List ℕ × List ℕ) (ℕ × Fault)) → ClosingIs inner c → HasHeader text
+abbrev with_subsection : {text inner : List ℕ} (name : List ℕ) → header.OpensSubsection text name inner → (c : Result (List ℕ × List ℕ) (ℕ × FileFault)) → ClosingIs inner c → HasHeader text
 with_subsection name opens (Ok (raw, rest)) closed = (Ok ((name, Some raw), rest), header.quoted opens closed)
 with_subsection name opens (Err (lines, fault)) stopped = (Err (lines, fault), header.subsection opens stopped)
 
@@ -119,7 +119,7 @@ each_entry text =
     after_key (take n text) rest (record { spaced = spaced; spaces = take m spaced; key_run = run_split is_key_byte text; space_run = run_split is_space spaced }) (line_end_decided rest)
 
 abbrev HasReading : Option Section → ℕ → List ℕ → Type 0
-HasReading section line text = (entries : List Entry) × (error : Option Error) × Reads section line text entries error
+HasReading section line text = (entries : List Entry) × (error : Option FileError) × Reads section line text entries error
 
 -- each text of at most n bytes has a reading
 abbrev pub AreRead : ℕ → Type 0
@@ -202,7 +202,7 @@ each_beginning text =
       ]
     ]
 
-abbrev pub each_is_read : (text : List ℕ) → (entries : List Entry) × (error : Option Error) × IsFile text entries error
+abbrev pub each_is_read : (text : List ℕ) → (entries : List Entry) × (error : Option FileError) × IsFile text entries error
 each_is_read text =
     let (line, rest, begins) = each_beginning text in
     let (entries, error, reads) = are_read (length rest) None line rest (omega arith) in

@@ -8,7 +8,7 @@ use Rattle.config_file.proofs.Subsections as subsections
 use Rattle.config_file.proofs.OneValue as one_value
 use Rattle.config_file.proofs.OneValue.{ValueHas, value_of, value_is}
 use Rattle.config_file.proofs.OneSubsection.{SubsectionHas, subsection_of, subsection_is}
-use Rattle.config_file.specs.declared.errors.Fault.TheVariants.{BadLine, Nul}
+use Rattle.config_file.specs.declared.errors.FileFault.TheVariants.{BadLine, Nul}
 use Rattle.config_file.specs.Bytes.{is_text_byte}
 use Rattle.config_file.specs.Header.{fault_at}
 use Rattle.config_file.specs.Value.{escape, line_feeds, IsNoEscape}

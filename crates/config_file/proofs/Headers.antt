@@ -1,6 +1,6 @@
 -- Headers, from the parts that the reader takes.
 use Rattle.std.proofs.Common.{◌≡◌, ◌≢◌, ℕ, List, [], ◌∷◌, refl, subst, None}
-use Rattle.config_file.specs.declared.errors.Fault.TheVariants.{BadLine}
+use Rattle.config_file.specs.declared.errors.FileFault.TheVariants.{BadLine}
 use Rattle.config_file.specs.Bytes.{is_name_byte, is_blank}
 use Rattle.config_file.specs.Runs.{Run, StopsRun}
 use Rattle.config_file.specs.Subsection.{TakesSubsection}

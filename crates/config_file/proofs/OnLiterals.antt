@@ -4,7 +4,7 @@ use Rattle.std.specs.Prelude.{⊤}
 use Rattle.std.specs.List.{AllByRecursion, AllZip}
 use Rattle.config_file.proofs.Pick.{cases, option_cases}
 use Rattle.config_file.proofs.EachReading.{each_is_read}
-use Rattle.config_file.specs.declared.errors.Error.{Error}
+use Rattle.config_file.specs.declared.errors.FileError.{FileError}
 use Rattle.config_file.specs.Bytes.{is_blank, is_plain, is_plain_in_quotes, is_text_byte}
 use Rattle.config_file.specs.Header.{Section}
 use Rattle.config_file.specs.Subsection as sub
@@ -151,35 +151,35 @@ rows_of (entry ∷ entries) =
 -- ---- the rows of a text
 
 -- the entries of the text are listed in these rows, up to its end or to this error
-abbrev pub Lists : List ℕ → List Row → Option Error → Type 0
+abbrev pub Lists : List ℕ → List Row → Option FileError → Type 0
 Lists text rows error = (entries : List Entry) × IsFile text entries error × AllZip IsRow entries rows
 
 abbrev Listing : List ℕ → Type 0
-Listing text = Known (λ (l : List Row × Option Error). Lists text l.0 l.1)
+Listing text = Known (λ (l : List Row × Option FileError). Lists text l.0 l.1)
 
 abbrev listing : (text : List ℕ) → Listing text
 listing text =
     let (entries, error, reads) = each_is_read text in
     carry (λ rows. (rows, error)) (λ rows are. (entries, reads, are)) (rows_of entries)
 
-abbrev shown : {text : List ℕ} → Listing text → Option (List Row × Option Error)
+abbrev shown : {text : List ℕ} → Listing text → Option (List Row × Option FileError)
 shown None = None
 shown (Some found) = Some found.0
 
-told : {text : List ℕ} (found : Listing text) (rows : List Row) (error : Option Error)
+told : {text : List ℕ} (found : Listing text) (rows : List Row) (error : Option FileError)
     → shown found ≡ Some (rows, error) → Lists text rows error
 told None rows error e = cc
-told {text = text} (Some found) rows error e = let same : found.0 ≡ (rows, error) = cc in subst (λ (l : List Row × Option Error). Lists text l.0 l.1) same found.1
+told {text = text} (Some found) rows error e = let same : found.0 ≡ (rows, error) = cc in subst (λ (l : List Row × Option FileError). Lists text l.0 l.1) same found.1
 
-pub lists : (text : List ℕ) (rows : List Row) (error : Option Error)
+pub lists : (text : List ℕ) (rows : List Row) (error : Option FileError)
     → shown (listing text) ≡ Some (rows, error) → Lists text rows error
 lists text rows error e = told (listing text) rows error e
 
 -- each text is listed in its rows
-abbrev pub AreListed : List (List ℕ × List Row × Option Error) → Type 0
-AreListed table = AllByRecursion (λ (row : List ℕ × List Row × Option Error). Lists row.0 row.1 row.2) table
+abbrev pub AreListed : List (List ℕ × List Row × Option FileError) → Type 0
+AreListed table = AllByRecursion (λ (row : List ℕ × List Row × Option FileError). Lists row.0 row.1 row.2) table
 
-pub all_listed : (table : List (List ℕ × List Row × Option Error))
+pub all_listed : (table : List (List ℕ × List Row × Option FileError))
     → map (λ row. shown (listing row.0)) table ≡ map (λ row. Some (row.1, row.2)) table
     → AreListed table
 all_listed [] e = tt

@@ -11,14 +11,14 @@ use Rattle.config_file.specs.File.{Entry}
 use Rattle.config_file.specs.Walk as walk
 use Rattle.config_file.specs.Walk.{Content, Stop, Line, NoValue, Unknown, NotRead, TooDeep, Item, Found}
 use Rattle.config_file.specs.Walk.{Stops, Walks, WalksText, HasOneContent}
-use Rattle.config_file.specs.Settings.{IsValueOf, IsSettingOf, Adds, TellsStop, found_item, AddsWalk}
+use Rattle.config_file.specs.Settings.{IsValueOf, IsSettingOf, AddsEach, TellsStop, found_item, AddsWalk}
 use Rattle.config_file.specs.Settings.{IsSameSetting, HasSameFront, HasMemory, IsSameEnd, value_text}
-use Rattle.config_file.specs.declared.errors.Error.{Error}
+use Rattle.config_file.specs.declared.errors.FileError.{FileError}
 use Rattle.config_file.specs.declared.settings.AddError.{AddError}
 use Rattle.config_file.specs.declared.settings.AddError.TheVariants as error
 use Rattle.config_file.specs.declared.settings.Setting.{Setting}
 use Rattle.config_file.specs.declared.walk.Known.{Known}
-use Rattle.config_file.specs.declared.walk.Place.{Place}
+use Rattle.config_file.specs.declared.walk.FilePlace.{FilePlace}
 use Rattle.config_file.proofs.EachListed.{IsRead, IsSpelled, entries_are_read}
 use Rattle.config_file.proofs.OneWalk.{Agree, texts_agree}
 
@@ -46,8 +46,8 @@ found_and_stop file entry entries stop items read more =
 rest_read : (entry : Entry) (entries : List Entry) → All IsRead (entry ∷ entries) → All IsRead entries
 rest_read entry entries read = All-tail IsRead entry entries read
 
-items_are_read : {contents : List ℕ → Content → Type 0} {known : Known} {depth : ℕ} {place : Place}
-    {entries : List Entry} {error : Option Error} {items : List (List ℕ × Item)} {whole : Bool}
+items_are_read : {contents : List ℕ → Content → Type 0} {known : Known} {depth : ℕ} {place : FilePlace}
+    {entries : List Entry} {error : Option FileError} {items : List (List ℕ × Item)} {whole : Bool}
     → Walks contents known depth place entries error items whole → All IsRead entries → AreRead items
 items_are_read walk.cut read = All-nil IsReadItem
 items_are_read walk.ends read = All-nil IsReadItem
@@ -117,7 +117,7 @@ same_after [] a b same = same
 same_after (x ∷ old) a b same = ((refl, refl, refl), same_after old a b same)
 
 same_settings : (found : List (List ℕ × Entry)) (old a b : List Setting) → AreReadEntries found
-    → Adds found old a → Adds found old b → AllZip IsSameSetting a b
+    → AddsEach found old a → AddsEach found old b → AllZip IsSameSetting a b
 same_settings found old a b read (first, is, zip) (second, so, also) =
     subst (λ x. AllZip IsSameSetting x b) (sym is)
     (subst (λ x. AllZip IsSameSetting (old ++ first) x) (sym so)
@@ -133,19 +133,19 @@ abbrev Tells : Result (Unit {0}) AddError → Option (List ℕ × Stop) → Type
 Tells (Ok _) stop = stop ≡ None
 Tells (Err e) stop = (file : List ℕ) × (at : Stop) × (stop ≡ Some (file, at)) × TellsStop file at e
 
-record Reached (contents : List ℕ → Content → Type 0) (known : Known) (place : Place) (text : List ℕ)
+record Reached (contents : List ℕ → Content → Type 0) (known : Known) (place : FilePlace) (text : List ℕ)
     (old new : List Setting) (result : Result (Unit {0}) AddError) : Type 0 where
   found : List (List ℕ × Entry)
   stop : Option (List ℕ × Stop)
   whole : Bool
-  adds : Adds found old new
+  adds : AddsEach found old new
   walks : WalksText contents known place text (map found_item found ++ last stop) whole
   all : stop ≡ None → whole ≡ true
   tells : Tells result stop
 
-at_stop : {contents : List ℕ → Content → Type 0} {known : Known} {place : Place} {text : List ℕ}
+at_stop : {contents : List ℕ → Content → Type 0} {known : Known} {place : FilePlace} {text : List ℕ}
     {old new : List Setting} (e : AddError) (found : List (List ℕ × Entry)) (file : List ℕ) (stop : Stop)
-    → Adds found old new → TellsStop file stop e
+    → AddsEach found old new → TellsStop file stop e
     → WalksText contents known place text (map found_item found ++ (file, Stops stop) ∷ []) false
     → Reached contents known place text old new (Err e)
 at_stop e found file stop adds tells walks =
@@ -159,7 +159,7 @@ at_stop e found file stop adds tells walks =
       tells = (file, stop, refl, tells);
     }
 
-reached : {contents : List ℕ → Content → Type 0} {known : Known} {place : Place} {text : List ℕ}
+reached : {contents : List ℕ → Content → Type 0} {known : Known} {place : FilePlace} {text : List ℕ}
     {old new : List Setting} (result : Result (Unit {0}) AddError) → HasMemory result
     → AddsWalk contents known place text old new result → Reached contents known place text old new result
 reached {contents = contents} {known = known} {place = place} {text = text} (Ok u) memory
@@ -236,7 +236,7 @@ same_end (Err e) (Err f) s t same (file, stop, is, tells) (other, end, so, also)
     let moved = subst (λ x. TellsStop other x f) (sym stops) also in
     (file, stop, tells, subst (λ x. TellsStop x stop f) (sym files) moved)
 
-pub one_addition : (contents : List ℕ → Content → Type 0) (known : Known) (place : Place) (text : List ℕ)
+pub one_addition : (contents : List ℕ → Content → Type 0) (known : Known) (place : FilePlace) (text : List ℕ)
     (old a b : List Setting) (r s : Result (Unit {0}) AddError) → HasOneContent contents
     → HasMemory r → HasMemory s
     → AddsWalk contents known place text old a r → AddsWalk contents known place text old b s
@@ -248,7 +248,7 @@ one_addition contents known place text old a b r s one memory also first second 
     (texts_agree {text = text} one x.walks y.walks) in
     let (entries, error, is, walks) = x.walks in
     let read = found_are_read x.found (last x.stop) (items_are_read walks (entries_are_read is)) in (
-      same_settings x.found old a b read x.adds (subst (λ f. Adds f old b) (sym founds) y.adds),
+      same_settings x.found old a b read x.adds (subst (λ f. AddsEach f old b) (sym founds) y.adds),
       same_end r s x.stop y.stop stops x.tells y.tells,
     )
 
@@ -287,7 +287,7 @@ added_front (x ∷ f) h (y ∷ added) zip =
     (y ∷ front, rest, ap (λ x. y ∷ x) e, (zip.0, more))
 
 settings_begin : (f g h : List (List ℕ × Entry)) (old a b : List Setting) → AreReadEntries f → g ≡ f ++ h
-    → Adds f old a → Adds g old b → HasSameFront a b
+    → AddsEach f old a → AddsEach g old b → HasSameFront a b
 settings_begin f g h old a b read whole (first, is, zip) (second, so, also) =
     let settings_of = subst (λ x. AllZip IsSettingOf x second) whole also in
     let (front, rest, e, same) = added_front f h second settings_of in (
@@ -298,7 +298,7 @@ settings_begin f g h old a b read whole (first, is, zip) (second, so, also) =
           (same_after old first front (same_added f first front read zip same)),
     )
 
-pub cut_addition : (contents : List ℕ → Content → Type 0) (known : Known) (place : Place) (text : List ℕ)
+pub cut_addition : (contents : List ℕ → Content → Type 0) (known : Known) (place : FilePlace) (text : List ℕ)
     (old a b : List Setting) (e : AllocError) (s : Result (Unit {0}) AddError) → HasOneContent contents
     → HasMemory s → AddsWalk contents known place text old a (Err (error.Memory e))
     → AddsWalk contents known place text old b s → HasSameFront a b

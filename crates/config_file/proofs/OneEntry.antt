@@ -3,7 +3,7 @@ use Rattle.std.proofs.Common.{◌≡◌, ℕ, List, [], ◌∷◌, Option, Some,
 use Rattle.config_file.proofs.OneRun.{run_only}
 use Rattle.config_file.proofs.OneValue as one_value
 use Rattle.config_file.proofs.OneValue.{ValueHas, value_only}
-use Rattle.config_file.specs.declared.errors.Fault.{Fault}
+use Rattle.config_file.specs.declared.errors.FileFault.{FileFault}
 use Rattle.config_file.specs.Bytes.{IsAtLineEnd, is_space}
 use Rattle.config_file.specs.Runs.{Run}
 use Rattle.config_file.specs.Header.{BeginsWithout, fault_at}
@@ -11,7 +11,7 @@ use Rattle.config_file.specs.File as file
 use Rattle.config_file.specs.File.{TakesKey, TakesEntry, EntryStops}
 
 abbrev pub Outcome : Type 0
-Outcome = Result (List ℕ × Option (List ℕ) × ℕ × List ℕ) (ℕ × Fault)
+Outcome = Result (List ℕ × Option (List ℕ) × ℕ × List ℕ) (ℕ × FileFault)
 
 abbrev with_key : List ℕ → one_value.Outcome → Outcome
 with_key key (Ok p) = Ok (key, Some p.0, p.1, p.2)
@@ -70,7 +70,7 @@ taken_found (file.alone {key = key} {rest = rest} takes h) = record { key = key;
 taken_found (file.valued {b = b} {lines = lines} {key = key} {after = after} {raw = raw} {rest = rest} takes is taken) =
     record { key = key; rest = b ∷ after; takes = takes; ends = valued (Ok (raw, lines, rest)) is taken }
 
-stopped_found : {text : List ℕ} {lines : ℕ} {fault : Fault} → EntryStops text lines fault
+stopped_found : {text : List ℕ} {lines : ℕ} {fault : FileFault} → EntryStops text lines fault
     → Found text (Err (lines, fault))
 stopped_found (file.key {key = key} {rest = rest} takes other h) = record { key = key; rest = rest; takes = takes; ends = stops other h }
 stopped_found (file.value {b = b} {lines = lines} {fault = fault} {key = key} {after = after} takes is stopped) =

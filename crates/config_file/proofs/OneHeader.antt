@@ -4,8 +4,8 @@ use Rattle.std.proofs.lemmas.Bool.Decides.{nat_tests}
 use Rattle.config_file.proofs.Pick.{pick, pick_second, pick_third}
 use Rattle.config_file.proofs.OneRun.{run_only}
 use Rattle.config_file.proofs.OneSubsection.{SubsectionHas, subsection_only}
-use Rattle.config_file.specs.declared.errors.Fault.{Fault}
-use Rattle.config_file.specs.declared.errors.Fault.TheVariants.{BadLine}
+use Rattle.config_file.specs.declared.errors.FileFault.{FileFault}
+use Rattle.config_file.specs.declared.errors.FileFault.TheVariants.{BadLine}
 use Rattle.config_file.specs.Bytes.{is_name_byte, is_blank, IsAtLineEnd}
 use Rattle.config_file.specs.Runs.{Run, StopsRun}
 use Rattle.config_file.specs.Header as header
@@ -34,11 +34,11 @@ not_at_line_end (a ∷ b ∷ rest) h =
     no_line_end a b first second
 
 -- the outcome after the closing quote
-abbrev close : List ℕ → List ℕ → Result (List ℕ × List ℕ) (ℕ × Fault)
+abbrev close : List ℕ → List ℕ → Result (List ℕ × List ℕ) (ℕ × FileFault)
 close raw [] = Err (1, BadLine)
 close raw (b ∷ rest) = pick (b == 93) (ends_line (b ∷ rest)) (Ok (raw, rest)) (Err (1, BadLine)) (Err (0, fault_at (b ∷ rest)))
 
-abbrev close_subsection : Result (List ℕ × List ℕ) (List ℕ) → Result (List ℕ × List ℕ) (ℕ × Fault)
+abbrev close_subsection : Result (List ℕ × List ℕ) (List ℕ) → Result (List ℕ × List ℕ) (ℕ × FileFault)
 close_subsection (Ok p) = close p.0 p.1
 close_subsection (Err rest) = Err (0, fault_at rest)
 
@@ -61,24 +61,24 @@ close_wrong raw [] other h = absurd (h tt)
 close_wrong raw (b ∷ rest) other h =
     sym (pick_third _ _ (Ok (raw, rest)) (Err (1, BadLine)) (Err (0, fault_at (b ∷ rest))) (test_false b 93 other) (not_at_line_end (b ∷ rest) h))
 
-abbrev ClosingHas : List ℕ → Result (List ℕ × List ℕ) (ℕ × Fault) → Type 0
+abbrev ClosingHas : List ℕ → Result (List ℕ × List ℕ) (ℕ × FileFault) → Type 0
 ClosingHas text outcome = (o : Result (List ℕ × List ℕ) (List ℕ)) × SubsectionHas text o × (outcome ≡ close_subsection o)
 
 closes_has : {text raw rest : List ℕ} → ClosesSubsection text raw rest → ClosingHas text (Ok (raw, rest))
 closes_has (header.closes {b = b} {raw = raw} {rest = rest} takes is) = (Ok (raw, b ∷ rest), takes, rw is)
 
-stops_has : {text : List ℕ} {lines : ℕ} {fault : Fault} → SubsectionStops text lines fault
+stops_has : {text : List ℕ} {lines : ℕ} {fault : FileFault} → SubsectionStops text lines fault
     → ClosingHas text (Err (lines, fault))
 stops_has (header.within {rest = rest} place) = (Err rest, place, refl)
 stops_has (header.closed {raw = raw} {rest = rest} takes other h) = (Ok (raw, rest), takes, close_wrong raw rest other h)
 stops_has (header.closed_at_line_end {raw = raw} {rest = rest} takes h) = (Ok (raw, rest), takes, close_late raw rest h)
 
-closing_only : {text : List ℕ} {a b : Result (List ℕ × List ℕ) (ℕ × Fault)} → ClosingHas text a
+closing_only : {text : List ℕ} {a b : Result (List ℕ × List ℕ) (ℕ × FileFault)} → ClosingHas text a
     → ClosingHas text b → a ≡ b
 closing_only {text = text} (o, has, is) (p, also, so) = is ∙ ap close_subsection (subsection_only text o p has also) ∙ sym so
 
 abbrev pub Outcome : Type 0
-Outcome = Result (Section × List ℕ) (ℕ × Fault)
+Outcome = Result (Section × List ℕ) (ℕ × FileFault)
 
 -- the outcome after a name that no blank follows
 abbrev close_name : List ℕ → List ℕ → Outcome
@@ -86,14 +86,14 @@ close_name name [] = Err (1, BadLine)
 close_name [] (b ∷ rest) = Err (0, fault_at (b ∷ rest))
 close_name (n ∷ name) (b ∷ rest) = if b == 93 then Ok ((n ∷ name, None), rest) else Err (0, fault_at (b ∷ rest))
 
-name_stops : {name rest : List ℕ} {lines : ℕ} {fault : Fault} → NameStops name rest lines fault
+name_stops : {name rest : List ℕ} {lines : ℕ} {fault : FileFault} → NameStops name rest lines fault
     → Err (lines, fault) ≡ close_name name rest
 name_stops header.at_end = refl
 name_stops header.empty = refl
 name_stops (header.not_closed {b = b} {name = []} {rest = rest} other) = refl
 name_stops (header.not_closed {b = b} {name = n ∷ name} {rest = rest} other) = rw (test_false b 93 other)
 
-abbrev with_name : List ℕ → Result (List ℕ × List ℕ) (ℕ × Fault) → Outcome
+abbrev with_name : List ℕ → Result (List ℕ × List ℕ) (ℕ × FileFault) → Outcome
 with_name name (Ok p) = Ok ((name, Some p.0), p.1)
 with_name name (Err stop) = Err stop
 
@@ -101,7 +101,7 @@ abbrev Ends : List ℕ → List ℕ → List ℕ → Outcome → Type 0
 Ends name [] more outcome = outcome ≡ close_name name more
 Ends name (x ∷ blanks) [] outcome = outcome ≡ Err (0, BadLine)
 Ends name (x ∷ blanks) (b ∷ inner) outcome =
-    ((b ≡ 34) × ((o : Result (List ℕ × List ℕ) (ℕ × Fault)) × ClosingHas inner o × (outcome ≡ with_name name o)))
+    ((b ≡ 34) × ((o : Result (List ℕ × List ℕ) (ℕ × FileFault)) × ClosingHas inner o × (outcome ≡ with_name name o)))
     ⊎ ((b ≢ 34) × (outcome ≡ Err (0, fault_at (b ∷ inner))))
 
 ends_only : (name blanks more : List ℕ) (a b : Outcome) → Ends name blanks more a → Ends name blanks more b
@@ -135,7 +135,7 @@ found_only {a = a} {b = b} first second =
 no_run : (after : List ℕ) → StopsRun is_blank after → Run is_blank after [] after
 no_run after stops = record { joined = refl; pass = refl; longest = stops }
 
-opened_ends : (name blanks : List ℕ) (quote : ℕ) (inner : List ℕ) (o : Result (List ℕ × List ℕ) (ℕ × Fault))
+opened_ends : (name blanks : List ℕ) (quote : ℕ) (inner : List ℕ) (o : Result (List ℕ × List ℕ) (ℕ × FileFault))
     → blanks ≢ [] → quote ≡ 34 → ClosingHas inner o
     → Ends name blanks (quote ∷ inner) (with_name name o)
 opened_ends name [] quote inner o some is has = absurd (some refl)
@@ -153,7 +153,7 @@ named_ends [] b rest some is = absurd (some refl)
 named_ends (n ∷ name) b rest some is = rw is
 
 opened_found : {text name inner : List ℕ} (opens : OpensSubsection text name inner)
-    (o : Result (List ℕ × List ℕ) (ℕ × Fault)) → ClosingHas inner o → Found text (with_name name o)
+    (o : Result (List ℕ × List ℕ) (ℕ × FileFault)) → ClosingHas inner o → Found text (with_name name o)
 opened_found {text} {name} {inner} opens o has = record {
   name = name;
   after = opens.blanked;
@@ -171,7 +171,7 @@ taken_found (header.plain {b = b} {text = text} {name = n} {rest = rest} run som
 taken_found (header.quoted {raw = raw} {rest = rest} opens closed) =
     opened_found opens (Ok (raw, rest)) (closes_has closed)
 
-stopped_found : {text : List ℕ} {lines : ℕ} {fault : Fault} → HeaderStops text lines fault
+stopped_found : {text : List ℕ} {lines : ℕ} {fault : FileFault} → HeaderStops text lines fault
     → Found text (Err (lines, fault))
 stopped_found (header.name {name = n} {rest = rest} run none stops) =
     record { name = n; after = rest; blanks = []; more = rest; name_run = run; blank_run = no_run rest none; ends = name_stops stops }

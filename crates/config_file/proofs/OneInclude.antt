@@ -11,7 +11,7 @@ use Rattle.config_file.specs.Subsection.{SpellsSubsection, IsSubsection}
 use Rattle.config_file.specs.Value.{SpellsValue}
 use Rattle.config_file.specs.Listing.{IsListed, alone, in_section, plain, quoted}
 use Rattle.config_file.specs.Include as include
-use Rattle.config_file.specs.Include.{Names, Holds, IsSameCondition, IsPathIn, EntryFollows, IsGitDir}
+use Rattle.config_file.specs.Include.{SpellsCondition, Holds, IsSameCondition, IsPathIn, EntryFollows, IsGitDir}
 use Rattle.config_file.specs.Include.{IsOnBranch, HasUrl}
 use Rattle.config_file.specs.Path as path
 use Rattle.config_file.specs.Path.{Expands, BeginsUnknown, IsIncludedName, is_rest}
@@ -48,7 +48,7 @@ apart first second a b differ e f = lacks second (first ++ a) differ b (sym e �
 same_rest : (front : List ℕ) {text a b : List ℕ} → text ≡ front ++ a → text ≡ front ++ b → a ≡ b
 same_rest front {a = a} {b = b} e f = append_cancel_left front a b (sym e ∙ f)
 
-pub one_condition : (text : List ℕ) (a b : Condition) → Names text a → Names text b → IsSameCondition a b
+pub one_condition : (text : List ℕ) (a b : Condition) → SpellsCondition text a → SpellsCondition text b → IsSameCondition a b
 one_condition text Always b is so = absurd is
 one_condition text (GitDir a) Always is so = absurd so
 one_condition text (GitDir a) (GitDir b) is so = same_rest git_dir is so
@@ -125,9 +125,9 @@ subsections entry first second =
 
 condition_spelled : (includes : Includes) (dir : List ℕ) {raw same : List ℕ}
     → IsSubsection raw → raw ≡ same
-    → ((text : List ℕ) → SpellsSubsection raw text → (c : Condition) × Names text c × Holds includes dir c)
+    → ((text : List ℕ) → SpellsSubsection raw text → (c : Condition) × SpellsCondition text c × Holds includes dir c)
     → ((text : List ℕ) → SpellsSubsection same text
-    → (c : Condition) × Names text c × ¬ (Holds includes dir c)) → ⊥
+    → (c : Condition) × SpellsCondition text c × ¬ (Holds includes dir c)) → ⊥
 condition_spelled includes dir (text, spelled) e holding failing =
     let (a, is, holds) = holding text spelled in
     let (b, so, fails) = failing text (subst (λ r. SpellsSubsection r text) e spelled) in

@@ -9,7 +9,7 @@ use Rattle.config_file.proofs.OneHeader.{HeaderHas, header_only}
 use Rattle.config_file.proofs.OneEntry as one_entry
 use Rattle.config_file.proofs.OneEntry.{EntryHas, entry_only}
 use Rattle.config_file.proofs.Bounds.{header_shortens, entry_shortens, run_shortens}
-use Rattle.config_file.specs.declared.errors.Error.{Error}
+use Rattle.config_file.specs.declared.errors.FileError.{FileError}
 use Rattle.config_file.specs.Bytes.{is_blank, is_comment_sign, is_comment_byte, IsAtLineEnd}
 use Rattle.config_file.specs.Runs.{Run}
 use Rattle.config_file.specs.Header.{Section, fault_at}
@@ -75,18 +75,18 @@ kind_nothing b is =
     let (not_blank, not_line_end, not_sign, not_bracket, not_letter) = nothing_facts b is in
     chosen_nothing _ _ _ _ _ not_blank not_line_end not_sign not_bracket not_letter
 
-abbrev AfterHeader : Option Section → ℕ → List Entry → Option Error → one_header.Outcome → Type 0
+abbrev AfterHeader : Option Section → ℕ → List Entry → Option FileError → one_header.Outcome → Type 0
 AfterHeader section line left error (Ok p) = Reads (Some p.0) line p.1 left error
 AfterHeader section line left error (Err stop) = (left ≡ []) × (error ≡ Some (record { line = line + stop.0; fault = stop.1 }))
 
-abbrev AfterEntry : Option Section → ℕ → List Entry → Option Error → one_entry.Outcome → Type 0
+abbrev AfterEntry : Option Section → ℕ → List Entry → Option FileError → one_entry.Outcome → Type 0
 AfterEntry section line left error (Ok p) =
     (later : List Entry) × Reads section (line + p.2) p.3 later error
     × (left ≡ record { section = section; key = p.0; value = p.1; line = line + p.2 } ∷ later)
 AfterEntry section line left error (Err stop) = (left ≡ []) × (error ≡ Some (record { line = line + stop.0; fault = stop.1 }))
 
 -- what a reading states after its first byte, by the kind of item that begins there
-abbrev Turn : Option Section → ℕ → ℕ → List ℕ → List Entry → Option Error → Kind → Type 0
+abbrev Turn : Option Section → ℕ → ℕ → List ℕ → List Entry → Option FileError → Kind → Type 0
 Turn section line b text left error blank = Reads section line text left error
 Turn section line b text left error line_end = Reads section (line + 1) text left error
 Turn section line b text left error comment = (run : List ℕ) × (rest : List ℕ) × Run is_comment_byte text run rest × Reads section line rest left error
@@ -94,7 +94,7 @@ Turn section line b text left error header = (o : one_header.Outcome) × HeaderH
 Turn section line b text left error entry = (o : one_entry.Outcome) × is_ascii_alphabetic b ≡ true × EntryHas (b ∷ text) o × AfterEntry section line left error o
 Turn section line b text left error nothing = (left ≡ []) × (error ≡ Some (record { line = line; fault = fault_at (b ∷ text) }))
 
-turn : {section : Option Section} {line b : ℕ} {text : List ℕ} {left : List Entry} {error : Option Error}
+turn : {section : Option Section} {line b : ℕ} {text : List ℕ} {left : List Entry} {error : Option FileError}
     → Reads section line (b ∷ text) left error
     → (k : Kind) × (kind b ≡ k) × Turn section line b text left error k
 turn (file.blank {b = b} is h) = (blank, kind_blank b is, h)
@@ -107,16 +107,16 @@ turn (file.header_refused {lines = lines} {b = b} {fault = fault} is stops) = (h
 turn (file.entry_refused {lines = lines} {b = b} {fault = fault} is stops) = (entry, kind_entry b is, (Err (lines, fault), is, stops, (refl, refl)))
 turn (file.no_item {b = b} is) = (nothing, kind_nothing b is, (refl, refl))
 
-abbrev Same : List Entry → List Entry → Option Error → Option Error → Type 0
+abbrev Same : List Entry → List Entry → Option FileError → Option FileError → Type 0
 Same a b e f = (a ≡ b) × (e ≡ f)
 
 -- each text of at most n bytes has at most one reading
 abbrev AreOne : ℕ → Type 0
-AreOne n = (section : Option Section) (line : ℕ) (text : List ℕ) (a b : List Entry) (e f : Option Error) → length text ≤ n
+AreOne n = (section : Option Section) (line : ℕ) (text : List ℕ) (a b : List Entry) (e f : Option FileError) → length text ≤ n
     → Reads section line text a e → Reads section line text b f → Same a b e f
 
 same_header : (n : ℕ) → AreOne n
-    → (section : Option Section) (line : ℕ) (text : List ℕ) (a b : List Entry) (e f : Option Error) (o : one_header.Outcome) → length text ≤ n
+    → (section : Option Section) (line : ℕ) (text : List ℕ) (a b : List Entry) (e f : Option FileError) (o : one_header.Outcome) → length text ≤ n
     → HeaderHas text o → AfterHeader section line a e o → AfterHeader section line b f o → Same a b e f
 same_header n below section line text a b e f (Ok p) room has first second =
     let shorter = header_shortens has in
@@ -124,7 +124,7 @@ same_header n below section line text a b e f (Ok p) room has first second =
 same_header n below section line text a b e f (Err stop) room has (none, is) (also, so) = (none ∙ sym also, is ∙ sym so)
 
 same_entry : (n : ℕ) → AreOne n
-    → (section : Option Section) (line c : ℕ) (text : List ℕ) (a b : List Entry) (e f : Option Error) (o : one_entry.Outcome) → length text ≤ n
+    → (section : Option Section) (line c : ℕ) (text : List ℕ) (a b : List Entry) (e f : Option FileError) (o : one_entry.Outcome) → length text ≤ n
     → is_ascii_alphabetic c ≡ true → EntryHas (c ∷ text) o → AfterEntry section line a e o → AfterEntry section line b f o → Same a b e f
 same_entry n below section line c text a b e f (Ok p) room letter has (later, first, is) (also, second, so) =
     let shorter = entry_shortens (c ∷ text) refl letter has in
@@ -133,7 +133,7 @@ same_entry n below section line c text a b e f (Ok p) room letter has (later, fi
 same_entry n below section line c text a b e f (Err stop) room letter has (none, is) (also, so) = (none ∙ sym also, is ∙ sym so)
 
 same_turn : (n : ℕ) → AreOne n
-    → (section : Option Section) (line c : ℕ) (text : List ℕ) (a b : List Entry) (e f : Option Error) (k : Kind) → length text ≤ n
+    → (section : Option Section) (line c : ℕ) (text : List ℕ) (a b : List Entry) (e f : Option FileError) (k : Kind) → length text ≤ n
     → Turn section line c text a e k → Turn section line c text b f k → Same a b e f
 same_turn n below section line c text a b e f blank room first second = below section line text a b e f room first second
 same_turn n below section line c text a b e f line_end room first second = below section (line + 1) text a b e f room first second
@@ -149,7 +149,7 @@ same_turn n below section line c text a b e f entry room (o, letter, has, first)
     same_entry n below section line c text a b e f o room letter has first (subst (λ x. AfterEntry section line b f x) same second)
 same_turn n below section line c text a b e f nothing room (none, is) (also, so) = (none ∙ sym also, is ∙ sym so)
 
-empty_is : {section : Option Section} {line : ℕ} {a : List Entry} {e : Option Error}
+empty_is : {section : Option Section} {line : ℕ} {a : List Entry} {e : Option FileError}
     → Reads section line [] a e → (a ≡ []) × (e ≡ None)
 empty_is file.ends = (refl, refl)
 
@@ -165,7 +165,7 @@ are_one (suc n) section line (c ∷ text) a b e f room first second =
     same_turn n (are_one n) section line c text a b e f k (omega arith) one (subst (λ x. Turn section line c text b f x) (sym so ∙ is) other)
 
 -- the same for what is left of a text, in any section and on any line
-pub reads_once : {section : Option Section} {line : ℕ} {text : List ℕ} {a b : List Entry} {e f : Option Error}
+pub reads_once : {section : Option Section} {line : ℕ} {text : List ℕ} {a b : List Entry} {e f : Option FileError}
     → Reads section line text a e → Reads section line text b f → (a ≡ b) × (e ≡ f)
 reads_once {section = section} {line = line} {text = text} {a = a} {b = b} {e = e} {f = f} first second =
     are_one (length text) section line text a b e f (omega arith) first second
@@ -213,7 +213,7 @@ begins_only (file.unmarked f h) (file.marked e) = absurd (none_is_not_some (sym 
 begins_only (file.unmarked e k) (file.part_of_mark h) = absurd (k h)
 begins_only (file.unmarked e h) (file.unmarked f k) = (refl, refl)
 
-pub one_reading : (text : List ℕ) (a b : List Entry) (e f : Option Error) → IsFile text a e
+pub one_reading : (text : List ℕ) (a b : List Entry) (e f : Option FileError) → IsFile text a e
     → IsFile text b f → (a ≡ b) × (e ≡ f)
 one_reading text a b e f first second =
     let (lines, rests) = begins_only first.begins second.begins in

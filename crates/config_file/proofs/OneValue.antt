@@ -5,8 +5,8 @@ use Rattle.std.proofs.lemmas.Bool.{cases_Bool}
 use Rattle.std.proofs.lemmas.Bool.Decides.{nat_tests}
 use Rattle.config_file.proofs.OneRun.{before, before_is}
 use Rattle.config_file.proofs.Pick.{pick, pick_first, pick_second, pick_third, pick_no}
-use Rattle.config_file.specs.declared.errors.Fault.{Fault}
-use Rattle.config_file.specs.declared.errors.Fault.TheVariants.{BadLine, Nul}
+use Rattle.config_file.specs.declared.errors.FileFault.{FileFault}
+use Rattle.config_file.specs.declared.errors.FileFault.TheVariants.{BadLine, Nul}
 use Rattle.config_file.specs.Bytes.{is_text_byte, is_plain, is_blank, is_comment_sign, EndsText}
 use Rattle.config_file.specs.Header.{fault_at}
 use Rattle.config_file.specs.Value as value
@@ -148,7 +148,7 @@ before_backslash (value.blank {b = b} is s) = let (front, e) = before_backslash 
 before_backslash (value.plain {b = b} is s) = let (front, e) = before_backslash s in (b ∷ front, ap (◌∷◌ b) e)
 
 abbrev pub Outcome : Type 0
-Outcome = Result (List ℕ × ℕ × List ℕ) (ℕ × Fault)
+Outcome = Result (List ℕ × ℕ × List ℕ) (ℕ × FileFault)
 
 abbrev finish_at_backslash : List ℕ → Bool → List ℕ → Outcome
 finish_at_backslash raw true [] = Err (line_feeds raw + 1, BadLine)
@@ -266,7 +266,7 @@ finish_after_backslash q raw [] h = absurd h
 finish_after_backslash true raw (e ∷ rest) h = refl
 finish_after_backslash false raw (e ∷ rest) h = refl
 
-stopped_found : {text : List ℕ} {lines : ℕ} {fault : Fault} → ValueStops text lines fault → Found text (Err (lines, fault))
+stopped_found : {text : List ℕ} {lines : ℕ} {fault : FileFault} → ValueStops text lines fault → Found text (Err (lines, fault))
 stopped_found (value.nul {b = b} {text = text} raw rest joined part is) =
     let whole : text ≡ raw ++ 0 ∷ rest = joined ∙ rw is in
     record { raw = raw; quoted = false; at = 0 ∷ rest; joined = whole; stops = part_stops false raw (0 ∷ rest) whole part refl; is = refl }

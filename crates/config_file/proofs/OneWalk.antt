@@ -11,9 +11,9 @@ use Rattle.config_file.specs.Walk as walk
 use Rattle.config_file.specs.Walk.{Content, Text, Missing, Unreadable, Stop, Line, NoValue, Unknown, NotRead}
 use Rattle.config_file.specs.Walk.{TooDeep}
 use Rattle.config_file.specs.Walk.{Item, Found, Stops, Walks, WalksText, HasOneContent}
-use Rattle.config_file.specs.declared.errors.Error.{Error}
+use Rattle.config_file.specs.declared.errors.FileError.{FileError}
 use Rattle.config_file.specs.declared.walk.Known.{Known}
-use Rattle.config_file.specs.declared.walk.Place.{Place}
+use Rattle.config_file.specs.declared.walk.FilePlace.{FilePlace}
 use Rattle.config_file.proofs.EachListed.{IsRead, entries_are_read}
 use Rattle.config_file.proofs.OneReading.{one_reading}
 use Rattle.config_file.proofs.OneInclude as aim
@@ -114,20 +114,20 @@ abbrev stops : List ℕ → List Stop → List (List ℕ × Item)
 stops name all = map (λ stop. (name, Stops stop)) all
 
 -- the items of a walk after an entry, which leads this way
-abbrev GoesOn : (List ℕ → Content → Type 0) → Known → ℕ → Place → List Entry → Option Error
+abbrev GoesOn : (List ℕ → Content → Type 0) → Known → ℕ → FilePlace → List Entry → Option FileError
     → List (List ℕ × Item) → Bool → Way → Type 0
 GoesOn contents known depth place entries error items whole (over all) = (rest : List (List ℕ × Item))
     × (items ≡ stops place.name.now all ++ rest) × Walks contents known depth place entries error rest whole
-GoesOn contents known depth place entries error items whole (into less name dir text) = (at : Place)
-    × (inner : List Entry) × (end : Option Error) × (within : List (List ℕ × Item))
+GoesOn contents known depth place entries error items whole (into less name dir text) = (at : FilePlace)
+    × (inner : List Entry) × (end : Option FileError) × (within : List (List ℕ × Item))
     × (depth ≡ less + 1) × (at.name.now ≡ name) × (at.real_dir.now ≡ dir) × IsFile text inner end
     × (((rest : List (List ℕ × Item)) × (items ≡ within ++ rest)
     × Walks contents known less at inner end within true
     × Walks contents known depth place entries error rest whole)
     ⊎ ((items ≡ within) × (whole ≡ false) × Walks contents known less at inner end within false))
 
-record Turn (contents : List ℕ → Content → Type 0) (known : Known) (depth : ℕ) (place : Place) (entry : Entry)
-    (entries : List Entry) (error : Option Error) (items : List (List ℕ × Item)) (whole : Bool) : Type 0 where
+record Turn (contents : List ℕ → Content → Type 0) (known : Known) (depth : ℕ) (place : FilePlace) (entry : Entry)
+    (entries : List Entry) (error : Option FileError) (items : List (List ℕ × Item)) (whole : Bool) : Type 0 where
   at : Aim
   aims : Aims known place.name.now place.real_dir.now entry at
   to : Way
@@ -136,8 +136,8 @@ record Turn (contents : List ℕ → Content → Type 0) (known : Known) (depth 
   joined : items ≡ (place.name.now, Found entry) ∷ left
   goes_on : GoesOn contents known depth place entries error left whole to
 
-turn : {contents : List ℕ → Content → Type 0} {known : Known} {depth : ℕ} {place : Place} {entry : Entry}
-    {entries : List Entry} {error : Option Error} {items : List (List ℕ × Item)} {whole : Bool}
+turn : {contents : List ℕ → Content → Type 0} {known : Known} {depth : ℕ} {place : FilePlace} {entry : Entry}
+    {entries : List Entry} {error : Option FileError} {items : List (List ℕ × Item)} {whole : Bool}
     → Walks contents known depth place (entry ∷ entries) error items whole
     → ((items ≡ []) × (whole ≡ false)) ⊎ Turn contents known depth place entry entries error items whole
 turn walk.cut = inl (refl, refl)
@@ -238,23 +238,23 @@ moved {b = b} {c = c} {v = v} {w = w} e f is =
 -- two walks of these entries, of files with the same name in the same directory
 abbrev IsOne : (List ℕ → Content → Type 0) → Known → ℕ → List Entry → Type 0
 IsOne contents known n entries =
-    (p q : Place) (error : Option Error) (a b : List (List ℕ × Item)) (v w : Bool)
+    (p q : FilePlace) (error : Option FileError) (a b : List (List ℕ × Item)) (v w : Bool)
     → p.name.now ≡ q.name.now → p.real_dir.now ≡ q.real_dir.now → All IsRead entries
     → Walks contents known n p entries error a v → Walks contents known n q entries error b w → Agree a v b w
 
-abbrev last : List ℕ → Option Error → List (List ℕ × Item)
+abbrev last : List ℕ → Option FileError → List (List ℕ × Item)
 last name None = []
 last name (Some error) = (name, Stops (Line error)) ∷ []
 
-no_entry : {contents : List ℕ → Content → Type 0} {known : Known} {depth : ℕ} {place : Place}
-    {error : Option Error} {items : List (List ℕ × Item)} {whole : Bool}
+no_entry : {contents : List ℕ → Content → Type 0} {known : Known} {depth : ℕ} {place : FilePlace}
+    {error : Option FileError} {items : List (List ℕ × Item)} {whole : Bool}
     → Walks contents known depth place [] error items whole
     → ((items ≡ []) × (whole ≡ false)) ⊎ (items ≡ last place.name.now error)
 no_entry walk.cut = inl (refl, refl)
 no_entry walk.ends = inr refl
 no_entry walk.line = inr refl
 
-at_end : (m n : List ℕ) (error : Option Error) (a b : List (List ℕ × Item)) (v w : Bool) → m ≡ n
+at_end : (m n : List ℕ) (error : Option FileError) (a b : List (List ℕ × Item)) (v w : Bool) → m ≡ n
     → ((a ≡ []) × (v ≡ false)) ⊎ (a ≡ last m error) → ((b ≡ []) × (w ≡ false)) ⊎ (b ≡ last n error)
     → Agree a v b w
 at_end m n error a b v w same (inl (none, cut)) second = inl (begins_empty b none cut)
@@ -262,8 +262,8 @@ at_end m n error a b v w same (inr is) (inl (none, cut)) = inr (begins_empty a n
 at_end m n error a b v w same (inr is) (inr so) =
     inl (itself (so ∙ ap (λ x. last x error) (sym same) ∙ sym is))
 
-same_walks : {contents : List ℕ → Content → Type 0} {known : Known} {depth : ℕ} {place : Place}
-    {a b : List Entry} {e f : Option Error} {items : List (List ℕ × Item)} {whole : Bool} → a ≡ b → e ≡ f
+same_walks : {contents : List ℕ → Content → Type 0} {known : Known} {depth : ℕ} {place : FilePlace}
+    {a b : List Entry} {e f : Option FileError} {items : List (List ℕ × Item)} {whole : Bool} → a ≡ b → e ≡ f
     → Walks contents known depth place a e items whole → Walks contents known depth place b f items whole
 same_walks {contents = contents} {known = known} {depth = depth} {place = place} {b = b} {e = e}
     {items = items} {whole = whole} p q is =
@@ -273,7 +273,7 @@ same_walks {contents = contents} {known = known} {depth = depth} {place = place}
 agree_on : (contents : List ℕ → Content → Type 0) (known : Known) (n : ℕ)
     → ((m : ℕ) → n ≡ m + 1 → (entries : List Entry) → IsOne contents known m entries)
     → (entries : List Entry) → IsOne contents known n entries
-    → (p q : Place) (error : Option Error) (a b : List (List ℕ × Item)) (v w : Bool)
+    → (p q : FilePlace) (error : Option FileError) (a b : List (List ℕ × Item)) (v w : Bool)
     → p.name.now ≡ q.name.now → p.real_dir.now ≡ q.real_dir.now → All IsRead entries → (to : Way)
     → GoesOn contents known n p entries error a v to → GoesOn contents known n q entries error b w to
     → Agree a v b w
@@ -320,7 +320,7 @@ agree_on contents known n below entries later p q error a b v w names dirs read 
 agree_here : (contents : List ℕ → Content → Type 0) (known : Known) (n : ℕ) → HasOneContent contents
     → ((m : ℕ) → n ≡ m + 1 → (entries : List Entry) → IsOne contents known m entries)
     → (entry : Entry) (entries : List Entry) → IsOne contents known n entries
-    → (p q : Place) (error : Option Error) (a b : List (List ℕ × Item)) (v w : Bool)
+    → (p q : FilePlace) (error : Option FileError) (a b : List (List ℕ × Item)) (v w : Bool)
     → p.name.now ≡ q.name.now → p.real_dir.now ≡ q.real_dir.now → All IsRead (entry ∷ entries)
     → ((a ≡ []) × (v ≡ false)) ⊎ Turn contents known n p entry entries error a v
     → ((b ≡ []) × (w ≡ false)) ⊎ Turn contents known n q entry entries error b w → Agree a v b w
@@ -362,7 +362,7 @@ are_one contents known one (suc n) = is_one contents known (suc n) one
     (λ m e. let same : n ≡ m = omega arith in
     subst (λ x. (entries : List Entry) → IsOne contents known x entries) same (are_one contents known one n))
 
-pub texts_agree : {contents : List ℕ → Content → Type 0} {known : Known} {place : Place} {text : List ℕ}
+pub texts_agree : {contents : List ℕ → Content → Type 0} {known : Known} {place : FilePlace} {text : List ℕ}
     {a b : List (List ℕ × Item)} {v w : Bool} → HasOneContent contents
     → WalksText contents known place text a v
     → WalksText contents known place text b w → Agree a v b w

@@ -5,13 +5,13 @@ use Rattle.std.proofs.Common.{inr, ◌⊎◌, true≢false}
 use Rattle.std.specs.Char.{is_ascii_alphabetic}
 use Rattle.std.proofs.lemmas.List.{append_cancel_right}
 use Rattle.std.proofs.lemmas.Bool.Decides.{nat_tests}
-use Rattle.config_file.specs.declared.errors.Error.{Error}
+use Rattle.config_file.specs.declared.errors.FileError.{FileError}
 use Rattle.config_file.specs.declared.edit.piece.Held.{Held}
 use Rattle.config_file.specs.declared.edit.piece.Held.TheVariants as held
 use Rattle.config_file.specs.Bytes.{is_key_byte, is_name_byte, is_blank, is_comment_sign, is_comment_byte}
 use Rattle.config_file.specs.Bytes.{IsAtLineEnd}
 use Rattle.config_file.specs.Runs.{Run, StopsRun}
-use Rattle.config_file.specs.declared.errors.Fault.{Fault}
+use Rattle.config_file.specs.declared.errors.FileFault.{FileFault}
 use Rattle.config_file.specs.Header.{Section, Header, HeaderStops, plain, quoted, closes, fault_at}
 use Rattle.config_file.specs.Value.{TakesValue, closed, open_end, EndsValue}
 use Rattle.config_file.specs.File as file
@@ -28,7 +28,7 @@ use Rattle.config_file.proofs.Readings.{at_entry, begins_none}
 
 -- the reading goes on where the bytes before lead
 pub compose : {section next : Option Section} {line end : ℕ} {text rest : List ℕ} {entries later : List Entry}
-    {error : Option Error}
+    {error : Option FileError}
     → Leads section line text entries next end rest → Reads next end rest later error
     → Reads section line text (entries ++ later) error
 compose edit.here h = h
@@ -213,7 +213,7 @@ blanks_lead (b ∷ blanks) all leads =
     edit.blank (first_blank b blanks all) (blanks_lead blanks (other_blanks b blanks all) leads)
 
 pub blanks_read : {section : Option Section} {line : ℕ} {text : List ℕ} {entries : List Entry}
-    {error : Option Error} (blanks : List ℕ)
+    {error : Option FileError} (blanks : List ℕ)
     → AreBlank blanks
     → Reads section line text entries error → Reads section line (blanks ++ text) entries error
 blanks_read [] all reads = reads
@@ -438,11 +438,11 @@ made_passed held.Comment blanks is_line all (tail, joined, t) section =
     line_passed blanks is_line all joined t section
 
 -- where no piece is, no file is read
-none_is_some : {error : Error} → None ≡ Some error → ⊥
+none_is_some : {error : FileError} → None ≡ Some error → ⊥
 none_is_some e = cc
 
 pub refused : {text at : List ℕ} (blanks : List ℕ) → text ≡ blanks ++ at → AreBlank blanks
-    → ((section : Option Section) (line : ℕ) → (error : Error) × Reads section line at [] (Some error))
+    → ((section : Option Section) (line : ℕ) → (error : FileError) × Reads section line at [] (Some error))
     → ¬ (IsRead text)
 refused {text = text} {at = at} blanks joined all stops (section, line, entries, reads) =
     let (error, stop) = stops section line in
@@ -450,14 +450,14 @@ refused {text = text} {at = at} blanks joined all stops (section, line, entries,
     subst (λ x. Reads section line x entries None) joined reads in
     none_is_some (reads_once again (blanks_read blanks all stop)).1
 
-pub header_stops : {at after : List ℕ} {lines : ℕ} {fault : Fault} → at ≡ 91 ∷ after
+pub header_stops : {at after : List ℕ} {lines : ℕ} {fault : FileFault} → at ≡ 91 ∷ after
     → HeaderStops after lines fault
-    → (section : Option Section) (line : ℕ) → (error : Error) × Reads section line at [] (Some error)
+    → (section : Option Section) (line : ℕ) → (error : FileError) × Reads section line at [] (Some error)
 header_stops {lines = lines} {fault = fault} e stops section line =
     (file.error_at (line + lines) fault, rw e (file.header_refused refl stops))
 
-pub entry_stops : {at : List ℕ} {lines : ℕ} {fault : Fault} → BeginsWithLetter at → EntryStops at lines fault
-    → (section : Option Section) (line : ℕ) → (error : Error) × Reads section line at [] (Some error)
+pub entry_stops : {at : List ℕ} {lines : ℕ} {fault : FileFault} → BeginsWithLetter at → EntryStops at lines fault
+    → (section : Option Section) (line : ℕ) → (error : FileError) × Reads section line at [] (Some error)
 entry_stops {lines = lines} {fault = fault} (b, more, begins, letter) stops section line = (
   file.error_at (line + lines) fault,
   rw begins
@@ -474,7 +474,7 @@ first_of (x ∷ blanks) more {c = c} e all no_blank =
     rw (sym same) is in absurd (true≢false (sym yes ∙ no_blank))
 
 pub nothing_stops : (at : List ℕ) → StartsLine at → GoesOn at → (section : Option Section) (line : ℕ)
-    → (error : Error) × Reads section line at [] (Some error)
+    → (error : FileError) × Reads section line at [] (Some error)
 nothing_stops [] starts (blanks, b, more, joined, all, unused, no_sign, no_line) section line =
     absurd (not_none blanks more b (sym joined))
 nothing_stops (c ∷ rest) (no_blank, no_bracket, no_letter) (blanks, b, more, joined, all, unused, no_sign, no_line) section line =

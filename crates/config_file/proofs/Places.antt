@@ -8,7 +8,7 @@ use Rattle.config_file.specs.Pattern.{Item, byte, Passes, Matches, MatchesLater,
 use Rattle.config_file.specs.Pattern.{ends, one, no_more, passes}
 use Rattle.config_file.specs.Reading.Places.{Further, next, beyond, FromHere, Follows, size, MatchesDeep, FindsStar, FindsDeep}
 use Rattle.config_file.specs.declared.pattern.Found.{Found}
-use Rattle.config_file.specs.declared.pattern.Place.{Place}
+use Rattle.config_file.specs.declared.pattern.FilePlace.{FilePlace}
 use Rattle.config_file.specs.declared.pattern.Found.TheVariants.{Whole, Nothing, Stars}
 use Rattle.config_file.proofs.Patterns.{run_shortens, no_star_item, empty_no_item, one_inv, end_inv, stars_inv, stars_no_directory, stars_later, later_here}
 use Rattle.config_file.proofs.Same.{item_same}
@@ -259,14 +259,14 @@ deep_found i Whole some there from is = there is
 deep_found i Nothing some there from is = absurd (some refl)
 deep_found i (Stars place) some there from is = (λ m. there (is.0 m), λ g. is.1 (from g))
 
-pub deep_stars : (i : Bool) (P : Type 0) (F : Bool → Type 0) {more rest : List ℕ} (found : Found) (place : Place) → found ≡ Stars place
+pub deep_stars : (i : Bool) (P : Type 0) (F : Bool → Type 0) {more rest : List ℕ} (found : Found) (place : FilePlace) → found ≡ Stars place
     → FindsStar i P F found → Run is_star place.pattern.now more rest → crosses place.starts more rest ≡ true
     → (MatchesDeep i rest place.text.now → P) × (F true → MatchesDeep i rest place.text.now)
 deep_stars i P F found place e is run long =
     let both = subst (λ f. FindsStar i P F f) e is in
     (λ d. both.0 (deep_back run long d), λ g. deep_all run long (both.1 true g))
 
-pub star_next : (i : Bool) (P : Type 0) (F : Bool → Type 0) {more rest : List ℕ} (found : Found) (place : Place) → found ≡ Stars place
+pub star_next : (i : Bool) (P : Type 0) (F : Bool → Type 0) {more rest : List ℕ} (found : Found) (place : FilePlace) → found ≡ Stars place
     → FindsStar i P F found → Run is_star place.pattern.now more rest → crosses place.starts more rest ≡ false → (P → F false)
     → (found2 : Found)
     → FindsStar i (MatchesLater i false rest place.text.now) (λ c. FromHere i c false rest place.text.now) found2
@@ -276,7 +276,7 @@ star_next i P F found place e is run short whole found2 is2 =
     star_map i found2 (λ m. both.0 (short_back run short m)) (λ p. to_later (star_all run short (both.1 false (whole p))))
     (λ c f. star_all run short (both.1 c f)) is2
 
-pub smaller : {more rest : List ℕ} (found found2 : Found) (place : Place) → found ≡ Stars place
+pub smaller : {more rest : List ℕ} (found found2 : Found) (place : FilePlace) → found ≡ Stars place
     → Run is_star place.pattern.now more rest
     → size found2 ≤ length rest → size found2 < size found
 smaller found found2 place e run short = let less = run_shortens run in rw e (omega arith)

@@ -2,8 +2,8 @@
 use Rattle.std.proofs.Common.{◌≡◌, ◌≢◌, ℕ, ◌+◌, true, false, List, [], ◌∷◌, Option, Some, None, Result, Ok, Err, sym, ap, ◌∙◌, subst, arith}
 use Rattle.std.proofs.lemmas.Bool.Decides.{nat_tests}
 use Rattle.std.specs.Char.{is_ascii_alphabetic}
-use Rattle.config_file.specs.declared.errors.Error.{Error}
-use Rattle.config_file.specs.declared.errors.Fault.{Fault}
+use Rattle.config_file.specs.declared.errors.FileError.{FileError}
+use Rattle.config_file.specs.declared.errors.FileFault.{FileFault}
 use Rattle.config_file.specs.declared.entry.Entry as code
 use Rattle.config_file.specs.declared.reader.Entries as reader
 use Rattle.config_file.specs.Bytes.{is_blank, is_comment_sign, is_comment_byte}
@@ -14,7 +14,7 @@ use Rattle.config_file.specs.File.{Entry, TakesEntry, EntryStops, Reads, begins_
 use Rattle.config_file.specs.Left.{HasLeft, GivesEntry}
 use Rattle.config_file.specs.Views.{entry_of}
 
-module _ {section : Option Section} {line : ℕ} (left : List Entry) (error : Option Error) where
+module _ {section : Option Section} {line : ℕ} (left : List Entry) (error : Option FileError) where
   pub at_blank : {b : ℕ} {rest : List ℕ} (at : List ℕ) → at ≡ b ∷ rest → is_blank b ≡ true
       → Reads section line rest left error → Reads section line at left error
   at_blank at e is h = rw e (file.blank is h)
@@ -34,20 +34,20 @@ module _ {section : Option Section} {line : ℕ} (left : List Entry) (error : Op
   at_header at e is taken h = rw e (file.header is taken h)
 
 -- a text that is refused with an error of this line and this fault is refused with an equal error
-refused_as : {section : Option Section} {line at_line : ℕ} {fault : Fault} {text : List ℕ} (error : Error)
+refused_as : {section : Option Section} {line at_line : ℕ} {fault : FileFault} {text : List ℕ} (error : FileError)
     → error.line ≡ at_line → error.fault ≡ fault
     → Reads section line text [] (Some (record { line = at_line; fault = fault })) → Reads section line text [] (Some error)
 refused_as {section = section} {line = line} {fault = fault} {text = text} error same_line same_fault h =
     let first = subst (λ l. Reads section line text [] (Some (record { line = l; fault = fault }))) (sym same_line) h in
     subst (λ f. Reads section line text [] (Some (record { line = error.line; fault = f }))) (sym same_fault) first
 
-module _ {section : Option Section} {line : ℕ} (error : Error) where
-  pub header_refused : {b lines : ℕ} {fault : Fault} {rest : List ℕ} (at : List ℕ) → at ≡ b ∷ rest → b ≡ 91
+module _ {section : Option Section} {line : ℕ} (error : FileError) where
+  pub header_refused : {b lines : ℕ} {fault : FileFault} {rest : List ℕ} (at : List ℕ) → at ≡ b ∷ rest → b ≡ 91
       → HeaderStops rest lines fault
       → error.line ≡ line + lines → error.fault ≡ fault → Reads section line at [] (Some error)
   header_refused at e is stops same_line same_fault = refused_as error same_line same_fault (rw e (file.header_refused is stops))
 
-  pub entry_refused : {b lines : ℕ} {fault : Fault} {rest : List ℕ} (at : List ℕ) → at ≡ b ∷ rest
+  pub entry_refused : {b lines : ℕ} {fault : FileFault} {rest : List ℕ} (at : List ℕ) → at ≡ b ∷ rest
       → is_ascii_alphabetic b ≡ true → EntryStops at lines fault
       → error.line ≡ line + lines → error.fault ≡ fault → Reads section line at [] (Some error)
   entry_refused {lines = lines} {fault = fault} at e letter stops same_line same_fault =
@@ -59,7 +59,7 @@ module _ {section : Option Section} {line : ℕ} (error : Error) where
       let same : error.line ≡ line = omega arith in
       refused_as error same (same_fault ∙ ap fault_at e) (rw e (file.no_item other))
 
-pub at_entry : {section : Option Section} {line b lines : ℕ} {rest key after : List ℕ} {value : Option (List ℕ)} (left : List Entry) (error : Option Error) (at : List ℕ)
+pub at_entry : {section : Option Section} {line b lines : ℕ} {rest key after : List ℕ} {value : Option (List ℕ)} (left : List Entry) (error : Option FileError) (at : List ℕ)
     → at ≡ b ∷ rest → is_ascii_alphabetic b ≡ true → TakesEntry at key value lines after → Reads section (line + lines) after left error
     → Reads section line at (record { section = section; key = key; value = value; line = line + lines } ∷ left) error
 at_entry {lines = lines} {key = key} {after = after} {value = value} left error at e letter taken h =
@@ -69,8 +69,8 @@ pub none_left : {section : Option Section} {line : ℕ} (at : List ℕ) → at �
 none_left at e = rw e file.ends
 
 -- a reader that has what a later one has left returns what the later one returns
-pub gives_from : (old mid : reader.Entries) (result : Result code.Entry Error) (new : reader.Entries)
-    → ((left : List Entry) (error : Option Error) → HasLeft mid left error → HasLeft old left error)
+pub gives_from : (old mid : reader.Entries) (result : Result code.Entry FileError) (new : reader.Entries)
+    → ((left : List Entry) (error : Option FileError) → HasLeft mid left error → HasLeft old left error)
     → GivesEntry mid (Some result) new → GivesEntry old (Some result) new
 gives_from old mid (Ok entry) new same gives = λ left error h. same (entry_of entry ∷ left) error (gives left error h)
 gives_from old mid (Err error) new same gives = (same [] (Some error) gives.0, gives.1)

@@ -6,7 +6,7 @@ use Rattle.config_file.specs.declared.edit.removal.Count.{Count}
 use Rattle.config_file.specs.declared.edit.removal.Count.TheVariants as count
 use Rattle.config_file.specs.declared.edit.removal.Group.{Group}
 use Rattle.config_file.specs.declared.edit.removal.Taken.{Taken}
-use Rattle.config_file.specs.declared.entry.Parts.{Parts}
+use Rattle.config_file.specs.declared.entry.EntryParts.{EntryParts}
 use Rattle.config_file.specs.declared.edit.piece.Held.{Held}
 use Rattle.config_file.specs.declared.edit.piece.Held.TheVariants as held
 use Rattle.config_file.specs.declared.edit.piece.Piece.{Piece}
@@ -421,7 +421,7 @@ losing_keeps {key = key} {text = text} {rest = rest} {new = new} {section = sect
     }
 
 -- an entry that goes
-entry_is_lost : (key : Key) (h : Held) (parts : Parts) (section : Option Section) (blanks bytes rest : List ℕ)
+entry_is_lost : (key : Key) (h : Held) (parts : EntryParts) (section : Option Section) (blanks bytes rest : List ℕ)
     (is_line : Bool) (put : List ℕ)
     → h ≡ held.Entry parts → AreBlank blanks
     → IsMade h blanks bytes rest is_line → IsOf key (content_of section parts) → IsEnd put
@@ -433,7 +433,7 @@ entry_is_lost key h parts section blanks bytes rest is_line put e all made is en
     (content_of section parts, parts.lines, parts.rest.now, blanks, rest, is_line, is, all, entry, end)
 
 pub losing_loses : {key : Key} {text rest new : List ℕ} {section : Option Section} {g : Group} {n : Count}
-    (now : Group) (piece : Piece) (parts : Parts) (put : List ℕ)
+    (now : Group) (piece : Piece) (parts : EntryParts) (put : List ℕ)
     → Losing key text rest new section g n
     → IsPiece rest piece → length piece.rest.now < length rest → piece.held ≡ held.Entry parts
     → IsOf key (content_of section parts)
@@ -520,7 +520,7 @@ losing_ends {key = key} {text = text} {rest = rest} {new = new} {put = put} {con
     }
 
 -- what is no header
-pub entry_no_header : {h : Held} {parts : Parts} → h ≡ held.Entry parts → (header : code.Section)
+pub entry_no_header : {h : Held} {parts : EntryParts} → h ≡ held.Entry parts → (header : code.Section)
     → h ≡ held.Header header → ⊥
 entry_no_header e header f = cc
 

@@ -9,7 +9,7 @@ use Rattle.config_file.specs.Runs.{StopsRun}
 use Rattle.config_file.specs.Subsection as sub
 use Rattle.config_file.specs.Subsection.{SpellsSubsection}
 use Rattle.config_file.specs.Header.{Section, Header, plain, quoted, closes}
-use Rattle.config_file.specs.Spelling.{Names, IsHeader, IsShortestHeader, HasNoHeader, IsNoKey}
+use Rattle.config_file.specs.Spelling.{SpellsSection, IsHeader, IsShortestHeader, HasNoHeader, IsNoKey}
 use Rattle.config_file.specs.Reading.Spellings.{spelled_in_subsection, spelled_subsection, spelled_section, is_section, is_key}
 
 plain_in_quotes_is_text : (b : ℕ) → is_plain_in_quotes b ≡ true → is_text_byte b ≡ true
@@ -44,7 +44,7 @@ plain_named : (name : List ℕ) → name ≢ [] → list_all is_name_byte name �
 plain_named name some pass = rw (some_name name some, pass)
 
 header_is_section : {text rest : List ℕ} {section : Section} (name : List ℕ) (text_of : Option (List ℕ))
-    → Header text section rest → Names section name text_of
+    → Header text section rest → SpellsSection section name text_of
     → is_section name text_of ≡ true
 header_is_section name None (plain run some e) (same, h) = rw same at (plain_named _ some run.pass)
 header_is_section name (Some t) (plain run some e) (same, h) = absurd h
@@ -64,7 +64,7 @@ pub header_spelled : (name : List ℕ) (text : Option (List ℕ)) → is_section
     → IsHeader (91 ∷ spelled_section name text) name text
 header_spelled name None is =
     let pass : list_all is_name_byte name ≡ true = grind (arith, nat_tests) in
-    let names : Names (name, None) name None = (refl, tt) in (
+    let names : SpellsSection (name, None) name None = (refl, tt) in (
       name ++ 93 ∷ [],
       (name, None),
       refl,
@@ -76,7 +76,7 @@ header_spelled name (Some text) is =
     let all : list_all is_text_byte text ≡ true = grind (arith, nat_tests) in
     let raw = spelled_subsection text in
     let spells = subsection_spelled text all in
-    let names : Names (name, Some raw) name (Some text) = (refl, spells) in (
+    let names : SpellsSection (name, Some raw) name (Some text) = (refl, spells) in (
       name ++ (32 ∷ 34 ∷ (raw ++ 34 ∷ 93 ∷ [])),
       (name, Some raw),
       refl,
@@ -134,7 +134,7 @@ some_length [] some = absurd (some refl)
 some_length (b ∷ bytes) some = omega arith
 
 header_fits : {inner rest : List ℕ} {section : Section} (name : List ℕ) (text : Option (List ℕ))
-    → Header inner section rest → Names section name text
+    → Header inner section rest → SpellsSection section name text
     → length (spelled_section name text) + length rest ≤ length inner
 header_fits name None (plain {b = b} {name = same_name} {rest = rest} run some e) (same, h) =
     let joined = ap length run.joined ∙ length-append same_name (b ∷ rest) in

@@ -8,12 +8,12 @@ use Prim.Native.String.{String}
 use Rattle.config_file.proofs.Fronts.{is_front, lacks}
 use Rattle.config_file.proofs.PatternsOnLiterals.{AreMatched, all_matched}
 use Rattle.config_file.proofs.OnLiterals.{Row, Lists, AreListed, lists, all_listed}
-use Rattle.config_file.specs.declared.errors.Fault.TheVariants.{BadLine, Nul}
-use Rattle.config_file.specs.declared.errors.Error.{Error}
+use Rattle.config_file.specs.declared.errors.FileFault.TheVariants.{BadLine, Nul}
+use Rattle.config_file.specs.declared.errors.FileError.{FileError}
 use Rattle.config_file.specs.declared.include.Condition.TheVariants.{GitDir, GitDirIgnoringCase, OnBranch, HasRemoteUrl, Unknown}
 use Rattle.config_file.specs.Bytes.{line_feed}
 use Rattle.config_file.specs.File.{Entry, entry_at, error_at}
-use Rattle.config_file.specs.Include.{Names, IsPathIn, below, anywhere, at_home}
+use Rattle.config_file.specs.Include.{SpellsCondition, IsPathIn, below, anywhere, at_home}
 use Rattle.config_file.specs.Path.{Expands, below_home, below_prefix, other, BeginsUnknown, user, IsIncludedName, absolute, relative}
 
 -- ---- entries
@@ -108,7 +108,7 @@ pub example_is_listed : Lists example (
 example_is_listed = lists example _ _ refl
 
 -- a line that gives `k` a value
-abbrev valued : String × String → List ℕ × List Row × Option Error
+abbrev valued : String × String → List ℕ × List Row × Option FileError
 valued line = (codes line.0, row 1 "k" line.1 ∷ [], None)
 
 -- "Whitespace characters surrounding name, = and value are discarded", and quotes keep them; "# or ;" begins a
@@ -136,7 +136,7 @@ values_are_listed = all_listed (map valued values) refl
 -- "A line that defines a value can be continued to the next line by ending it with a backslash". "[section]",
 -- "[section "subsection"]" with the escapes \" and \\, where other backslashes are dropped, and
 -- "[section.subsection]"; names of sections and of variables in any case, but not subsections. A key alone.
-abbrev listings : List (List ℕ × List Row × Option Error)
+abbrev listings : List (List ℕ × List Row × Option FileError)
 listings =
     (codes "k = a \\\n b\nl = c", row 2 "k" "a  b" ∷ row 3 "l" "c" ∷ [], None)
     ∷ (codes "k = \"a\\\r\nb\"", row 2 "k" "ab" ∷ [], None)
@@ -157,7 +157,7 @@ pub listings_are_listed : AreListed listings
 listings_are_listed = all_listed listings refl
 
 -- a text that is refused on its second line, after the first entry
-abbrev refused : String → List ℕ × List Row × Option Error
+abbrev refused : String → List ℕ × List Row × Option FileError
 refused text = (codes "a = b\n" ++ codes text, row 1 "a" "b" ∷ [], Some (error_at 2 BadLine))
 
 -- "Other char escape sequences .. are invalid", and so is a quote that is not closed; names have "only alphanumeric
@@ -194,17 +194,17 @@ pub others_are_none : ¬ (IsPathIn (codes "include") None (alone "include" None 
 others_are_none = (λ is. let e = is.0 in cc, λ raw is. none-some raw (ap (λ s. s.1) (same_Some _ _ is.1.1)))
 
 -- the keywords gitdir, gitdir/i, onbranch and hasconfig:remote.*.url, each "followed by a colon and some data"
-pub conditions_are_named : Names (codes "gitdir:/path/to/foo/.git") (GitDir (lent "/path/to/foo/.git"))
-    × Names (codes "gitdir/i:~/to/group/") (GitDirIgnoringCase (lent "~/to/group/"))
-    × Names (codes "onbranch:foo-branch") (OnBranch (lent "foo-branch"))
-    × Names (codes "hasconfig:remote.*.url:https://example.com/**") (HasRemoteUrl (lent "https://example.com/**"))
+pub conditions_are_named : SpellsCondition (codes "gitdir:/path/to/foo/.git") (GitDir (lent "/path/to/foo/.git"))
+    × SpellsCondition (codes "gitdir/i:~/to/group/") (GitDirIgnoringCase (lent "~/to/group/"))
+    × SpellsCondition (codes "onbranch:foo-branch") (OnBranch (lent "foo-branch"))
+    × SpellsCondition (codes "hasconfig:remote.*.url:https://example.com/**") (HasRemoteUrl (lent "https://example.com/**"))
 conditions_are_named = (refl, refl, refl, refl)
 
 abbrev keywords : List (List ℕ)
 keywords = codes "gitdir:" ∷ codes "gitdir/i:" ∷ codes "onbranch:" ∷ codes "hasconfig:remote.*.url:" ∷ []
 
 unknown : (text : String) → map (λ k. is_front k (codes text)) keywords ≡ map (λ k. false) keywords
-    → Names (codes text) Unknown
+    → SpellsCondition (codes text) Unknown
 unknown text e = (
   lacks (codes "gitdir:") (codes text) (cc (e)),
   lacks (codes "gitdir/i:") (codes text) (cc (e)),
@@ -213,10 +213,10 @@ unknown text e = (
 )
 
 -- no keyword: another word, another case, no colon
-pub others_are_unknown : Names (codes "os:linux") Unknown
-    × Names (codes "GitDir:/a/") Unknown
-    × Names (codes "gitdir") Unknown
-    × Names (codes "hasconfig:remote.a.url:b") Unknown
+pub others_are_unknown : SpellsCondition (codes "os:linux") Unknown
+    × SpellsCondition (codes "GitDir:/a/") Unknown
+    × SpellsCondition (codes "gitdir") Unknown
+    × SpellsCondition (codes "hasconfig:remote.a.url:b") Unknown
 others_are_unknown = (unknown "os:linux" refl, unknown "GitDir:/a/" refl, unknown "gitdir" refl, unknown "hasconfig:remote.a.url:b" refl)
 
 -- ---- paths

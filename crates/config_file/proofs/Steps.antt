@@ -7,9 +7,9 @@ use Rattle.config_file.specs.File.{Entry, IsFile, Begins, Reads}
 use Rattle.config_file.specs.Left.{HasLeft, GivesEntry}
 use Rattle.config_file.specs.Views.{entry_of, section_of}
 use Rattle.config_file.specs.declared.entry.Entry as code
-use Rattle.config_file.specs.declared.errors.Error.{Error}
+use Rattle.config_file.specs.declared.errors.FileError.{FileError}
 use Rattle.config_file.specs.declared.reader.Entries.{Entries}
-use Rattle.config_file.specs.declared.walk.Place.{Place}
+use Rattle.config_file.specs.declared.walk.FilePlace.{FilePlace}
 use Rattle.config_file.specs.declared.walk.Known.{Known}
 use Rattle.config_file.specs.declared.walk.Include.{Include}
 use Rattle.config_file.specs.declared.walk.Include.TheVariants.{NotFollowed, MissingValue, UnknownDirectory, Named}
@@ -24,7 +24,7 @@ reverse_last : (below : List Frame) (f : Frame) → reverse (below ++ f ∷ []) 
 reverse_last below f = reverse-append below (f ∷ [])
 
 -- each reader has entries left, up to the end of its text or to an error
-some_left : (reader : Entries) → (left : List Entry) × (error : Option Error) × HasLeft reader left error
+some_left : (reader : Entries) → (left : List Entry) × (error : Option FileError) × HasLeft reader left error
 some_left reader =
     are_read (length reader.rest.now) (option_map section_of reader.section) reader.line reader.rest.now (omega arith)
 
@@ -59,7 +59,7 @@ exhausted contents known old below f items whole e fits has rest =
 
 -- at a line that cannot be read the file ends, and Git stops
 pub invalid : (contents : List ℕ → Content → Type 0) (known : Known) (old below : List Frame) (f : Frame)
-    (error : Error) (items : List (List ℕ × Item)) (whole : Bool) → old ≡ below ++ f ∷ [] → length old ≤ 11
+    (error : FileError) (items : List (List ℕ × Item)) (whole : Bool) → old ≡ below ++ f ∷ [] → length old ≤ 11
     → HasLeft f.entries [] (Some error) → Left contents known below items whole
     → Left contents known old (in_file f.place (Stops (w.Line error)) ∷ items) whole
 invalid contents known old below f error items whole e fits has rest =
@@ -71,7 +71,7 @@ invalid contents known old below f error items whole e fits has rest =
 passes : {contents : List ℕ → Content → Type 0} {known : Known} {f next : Frame} {below : List Frame}
     {items : List (List ℕ × Item)} {whole : Bool} (entry : code.Entry) (front : List (List ℕ × Item))
     → GivesEntry f.entries (Some (Ok entry)) next.entries → next.place ≡ f.place
-    → ((depth : ℕ) (entries : List Entry) (error : Option Error) (more : List (List ℕ × Item)) (whole : Bool)
+    → ((depth : ℕ) (entries : List Entry) (error : Option FileError) (more : List (List ℕ × Item)) (whole : Bool)
     → length below + depth ≡ 10 → Walks contents known depth f.place entries error more whole
     → Walks contents known depth f.place (entry_of entry ∷ entries) error (front ++ more) whole)
     → LeftOf contents known (next ∷ below) items whole → LeftOf contents known (f ∷ below) (front ++ items) whole
@@ -93,7 +93,7 @@ goes_in : {contents : List ℕ → Content → Type 0} {known : Known} {f next e
     → GivesEntry f.entries (Some (Ok entry)) next.entries → next.place ≡ f.place
     → IncludesFile known f.place (entry_of entry) entered.place.name.now
     → contents entered.place.name.now (w.Text entered.place.real_dir.now text)
-    → ((left : List Entry) (error : Option Error) → HasLeft entered.entries left error → IsFile text left error)
+    → ((left : List Entry) (error : Option FileError) → HasLeft entered.entries left error → IsFile text left error)
     → LeftOf contents known (entered ∷ next ∷ below) items whole
     → LeftOf contents known (f ∷ below) (in_file f.place (Found (entry_of entry)) ∷ items) whole
 goes_in {contents = contents} {known = known} {f = f} {entered = entered} {below = below} entry text gives same is said
@@ -119,7 +119,7 @@ goes_in {f = f} {next = next} {entered = entered} {below = below} entry text giv
     (gives inner end has)
     (w.cut_within less entered.place text inside end1 within is said (reads inside end1 has1) refl walks1)
 
-pub file_begins : (reader : Entries) (text : List ℕ) (left : List Entry) (error : Option Error) → reader.section ≡ None
+pub file_begins : (reader : Entries) (text : List ℕ) (left : List Entry) (error : Option FileError) → reader.section ≡ None
     → Begins text reader.line reader.rest.now → HasLeft reader left error → IsFile text left error
 file_begins reader text left error fresh begins has = record {
   line = reader.line;
@@ -128,7 +128,7 @@ file_begins reader text left error fresh begins has = record {
   reads = subst (λ s. Reads (option_map section_of s) reader.line reader.rest.now left error) fresh has;
 }
 
-pub enters : (old new : List Frame) (place : Place) (text : List ℕ) (reader : Entries) → reader.section ≡ None
+pub enters : (old new : List Frame) (place : FilePlace) (text : List ℕ) (reader : Entries) → reader.section ≡ None
     → Begins text reader.line reader.rest.now → new ≡ old ++ record { place = place; entries = reader } ∷ []
     → Enters old place text new
 enters old new place text reader fresh begins e = (
@@ -139,8 +139,8 @@ enters old new place text reader fresh begins e = (
 )
 
 -- a whole walk is one that may be cut
-may_be_cut : {contents : List ℕ → Content → Type 0} {known : Known} {depth : ℕ} {place : Place} {entries : List Entry}
-    {error : Option Error} {items : List (List ℕ × Item)} → Walks contents known depth place entries error items true
+may_be_cut : {contents : List ℕ → Content → Type 0} {known : Known} {depth : ℕ} {place : FilePlace} {entries : List Entry}
+    {error : Option FileError} {items : List (List ℕ × Item)} → Walks contents known depth place entries error items true
     → Walks contents known depth place entries error items false
 may_be_cut w.ends = w.ends
 may_be_cut w.line = w.line
@@ -154,16 +154,16 @@ may_be_cut (w.not_read name is has walks) = w.not_read name is has (may_be_cut w
 may_be_cut (w.too_deep name real_dir text is has deep walks) =
     w.too_deep name real_dir text is has deep (may_be_cut walks)
 
-either : {contents : List ℕ → Content → Type 0} {known : Known} {depth : ℕ} {place : Place} {entries : List Entry}
-    {error : Option Error} {items : List (List ℕ × Item)} (whole : Bool)
+either : {contents : List ℕ → Content → Type 0} {known : Known} {depth : ℕ} {place : FilePlace} {entries : List Entry}
+    {error : Option FileError} {items : List (List ℕ × Item)} (whole : Bool)
     → Walks contents known depth place entries error items true
     → Walks contents known depth place entries error items whole
 either true walks = walks
 either false walks = may_be_cut walks
 
-only : (contents : List ℕ → Content → Type 0) (known : Known) (place : Place) (text : List ℕ) (f : Frame)
+only : (contents : List ℕ → Content → Type 0) (known : Known) (place : FilePlace) (text : List ℕ) (f : Frame)
     (items : List (List ℕ × Item)) (whole : Bool) → f.place ≡ place
-    → ((left : List Entry) (error : Option Error) → HasLeft f.entries left error → IsFile text left error)
+    → ((left : List Entry) (error : Option FileError) → HasLeft f.entries left error → IsFile text left error)
     → LeftOf contents known (f ∷ []) items whole → WalksText contents known place text items whole
 only contents known place text f items whole at reads (goes_on depth inner end within deep has walks nothing) =
     let ten : depth ≡ 10 = omega arith in (
@@ -185,7 +185,7 @@ only contents known place text f items whole at reads (is_cut depth inner end wi
     )
 
 -- what is left of a walk of one text is the walk of it
-pub all_of : (contents : List ℕ → Content → Type 0) (known : Known) (place : Place) (text : List ℕ)
+pub all_of : (contents : List ℕ → Content → Type 0) (known : Known) (place : FilePlace) (text : List ℕ)
     (frames : List Frame) (items : List (List ℕ × Item)) (whole : Bool) → Enters [] place text frames
     → Left contents known frames items whole → WalksText contents known place text items whole
 all_of contents known place text frames items whole (f, e, at, reads) left =
@@ -209,7 +209,7 @@ cut_here contents known frames fits =
 passed : (contents : List ℕ → Content → Type 0) (known : Known) (old new below : List Frame) (f next : Frame)
     (entry : code.Entry) (front : List (List ℕ × Item)) → old ≡ below ++ f ∷ [] → new ≡ below ++ next ∷ []
     → next.place ≡ f.place → GivesEntry f.entries (Some (Ok entry)) next.entries
-    → ((depth : ℕ) (entries : List Entry) (error : Option Error) (more : List (List ℕ × Item)) (whole : Bool)
+    → ((depth : ℕ) (entries : List Entry) (error : Option FileError) (more : List (List ℕ × Item)) (whole : Bool)
     → length (reverse below) + depth ≡ 10 → Walks contents known depth f.place entries error more whole
     → Walks contents known depth f.place (entry_of entry ∷ entries) error (front ++ more) whole)
     → (items : List (List ℕ × Item)) (whole : Bool) → Left contents known new items whole

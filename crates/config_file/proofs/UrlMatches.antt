@@ -8,7 +8,7 @@ use Rattle.std.proofs.lemmas.Bool.Decides.{nat_tests}
 use Rattle.std.proofs.lemmas.List.{length-append}
 use Rattle.config_file.specs.Header.{BeginsWithout}
 use Rattle.config_file.specs.Runs.{Run}
-use Rattle.config_file.specs.Url.{closed, Parts, Url, url, IsPort, IsDefault, IsUser, IsForm, IsUrl, IsWritten}
+use Rattle.config_file.specs.Url.{closed, SplitUrl, Url, url, IsPort, IsDefault, IsUser, IsForm, IsUrl, IsWritten}
 use Rattle.config_file.specs.Url.{Matches, AllowsUser, StandsFor, pieces, fit, fit_of}
 use Rattle.config_file.proofs.OneRun.{run_only}
 use Rattle.config_file.proofs.UrlNormal.{normal_only}
@@ -128,7 +128,7 @@ url_same a b e f g h i =
     ∙ ap (λ x. url b.scheme b.user x a.port a.path) g ∙ ap (λ x. url b.scheme b.user b.host x a.path) h
     ∙ ap (λ x. url b.scheme b.user b.host b.port x) i
 
-pub form_only : {p : Parts} (a b : Url) → IsForm p a → IsForm p b → a ≡ b
+pub form_only : {p : SplitUrl} (a b : Url) → IsForm p a → IsForm p b → a ≡ b
 form_only {p = p} a b f g =
     let schemes : a.scheme ≡ b.scheme = f.scheme ∙ sym g.scheme in
     url_same a b schemes (user_only p.login a.user b.user f.user g.user) (f.host ∙ sym g.host)
@@ -141,11 +141,11 @@ url_only a b (p, w, f) (q, v, g) =
     let same = written_only p q w v in form_only a b (subst (λ r. IsForm r a) same f) g
 
 -- what is written so has no URL if its parts have none
-pub no_url : {s : Bool} {text : List ℕ} (p : Parts) → IsWritten s text p → ((u : Url) → ¬ (IsForm p u))
+pub no_url : {s : Bool} {text : List ℕ} (p : SplitUrl) → IsWritten s text p → ((u : Url) → ¬ (IsForm p u))
     → (u : Url) → ¬ (IsUrl s text u)
 no_url p w never u (q, v, f) = never u (subst (λ r. IsForm r u) (sym (written_only p q w v)) f)
 
-pub read_is : {V E : Type 0} (view : V → Url) {s : Bool} {text : List ℕ} (p : Parts) (r : Result (Option V) E)
+pub read_is : {V E : Type 0} (view : V → Url) {s : Bool} {text : List ℕ} (p : SplitUrl) (r : Result (Option V) E)
     → IsWritten s text p
     → IfOk r (λ found. MatchOption found ((u : Url) → ¬ (IsForm p u)) (λ v. IsForm p (view v)))
     → IfOk r (λ found. MatchOption found ((u : Url) → ¬ (IsUrl s text u)) (λ v. IsUrl s text (view v)))

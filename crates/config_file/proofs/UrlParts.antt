@@ -10,7 +10,7 @@ use Rattle.std.proofs.lemmas.List.{length-drop, drop_more, get_or-drop, take-app
 use Rattle.std.proofs.lemmas.List.Folds.{list_all-append}
 use Rattle.std.proofs.lemmas.List.Sums.{list_all-from_AllPass}
 use Rattle.config_file.specs.Runs.{Run}
-use Rattle.config_file.specs.Url.{Parts, IsWritten, IsWhole, place_text, is_scheme, is_scheme_byte, is_place_byte, is_login_byte, is_host_byte}
+use Rattle.config_file.specs.Url.{SplitUrl, IsWritten, IsWhole, place_text, is_scheme, is_scheme_byte, is_place_byte, is_login_byte, is_host_byte}
 use Rattle.config_file.specs.Reading.Urls.{CutsScheme, CutsLogin, CutsPort, IsCutUrl, no_at, is_port_byte}
 use Rattle.config_file.proofs.OneRun.{run_same, run_only}
 
@@ -189,18 +189,18 @@ port_only text h k (Some x) (Some y) e f =
 
 -- ---- all parts
 
-abbrev build : List ℕ → Option (List ℕ) → List ℕ → Option (List ℕ) → List ℕ → Parts
+abbrev build : List ℕ → Option (List ℕ) → List ℕ → Option (List ℕ) → List ℕ → SplitUrl
 build scheme login host port path =
     record { scheme = scheme; login = login; host = host; port = port; path = path }
 
-same_parts : (a b : Parts) → a.scheme ≡ b.scheme → a.login ≡ b.login → a.host ≡ b.host → a.port ≡ b.port
+same_parts : (a b : SplitUrl) → a.scheme ≡ b.scheme → a.login ≡ b.login → a.host ≡ b.host → a.port ≡ b.port
     → a.path ≡ b.path → a ≡ b
 same_parts a b e f g h i =
     ap (λ x. build x a.login a.host a.port a.path) e ∙ ap (λ x. build b.scheme x a.host a.port a.path) f
     ∙ ap (λ x. build b.scheme b.login x a.port a.path) g ∙ ap (λ x. build b.scheme b.login b.host x a.path) h
     ∙ ap (λ x. build b.scheme b.login b.host b.port x) i
 
-pub parts_only : {text : List ℕ} (a b : Parts) → IsCutUrl text a → IsCutUrl text b → a ≡ b
+pub parts_only : {text : List ℕ} (a b : SplitUrl) → IsCutUrl text a → IsCutUrl text b → a ≡ b
 parts_only a b first second =
     let (schemes, marks) = run_only (scheme_run first.cuts_scheme) (scheme_run second.cuts_scheme) in
     let afters : first.after ≡ second.after = cc in
@@ -248,7 +248,7 @@ port_cut : (host : List ℕ) (port : Option (List ℕ)) → IsWhole host port �
 port_cut host None whole = (refl, whole)
 port_cut host (Some port) whole = (refl, all_more is_ascii_digit is_port_byte digit_port port whole)
 
-pub written_cut : {s : Bool} {text : List ℕ} (p : Parts) → IsWritten s text p → IsCutUrl text p
+pub written_cut : {s : Bool} {text : List ℕ} (p : SplitUrl) → IsWritten s text p → IsCutUrl text p
 written_cut {s = s} p w = record {
   after = place_text p.login p.host p.port ++ p.path;
   place = place_text p.login p.host p.port;
@@ -287,7 +287,7 @@ login_of place named (Some login) cut pass =
     all_with is_place_byte no_at is_login_byte login_byte login
     (all_front is_place_byte login (64 ∷ named) (subst (λ t. list_all is_place_byte t ≡ true) cut.0 pass)) cut.1
 
-pub cut_written : {s : Bool} {text : List ℕ} (p : Parts) → IsCutUrl text p → list_all (is_host_byte s) p.host ≡ true
+pub cut_written : {s : Bool} {text : List ℕ} (p : SplitUrl) → IsCutUrl text p → list_all (is_host_byte s) p.host ≡ true
     → list_all is_ascii_digit (unwrap_or p.port []) ≡ true → IsWritten s text p
 cut_written p cut bytes digits = record {
   joined = cut.cuts_scheme.joined ∙ ap (λ t. p.scheme ++ (codes "://" ++ t)) (cut.cuts_place.joined
@@ -307,20 +307,20 @@ digits_of host (Some port) whole = whole
 
 -- ---- what is not written
 
-pub unwritten : {s : Bool} {text : List ℕ} → ((p : Parts) → ¬ (IsCutUrl text p)) → (p : Parts) → ¬ (IsWritten s text p)
+pub unwritten : {s : Bool} {text : List ℕ} → ((p : SplitUrl) → ¬ (IsCutUrl text p)) → (p : SplitUrl) → ¬ (IsWritten s text p)
 unwritten non p w = non p (written_cut p w)
 
-pub wrong_host : {s : Bool} {text : List ℕ} (p : Parts) → IsCutUrl text p → list_all (is_host_byte s) p.host ≡ false
-    → (q : Parts) → ¬ (IsWritten s text q)
+pub wrong_host : {s : Bool} {text : List ℕ} (p : SplitUrl) → IsCutUrl text p → list_all (is_host_byte s) p.host ≡ false
+    → (q : SplitUrl) → ¬ (IsWritten s text q)
 wrong_host {s = s} p cut non q w =
     let same : p ≡ q = parts_only p q cut (written_cut q w) in
     false≢true (sym non ∙ ap (λ r. list_all (is_host_byte s) r.host) same ∙ w.host)
 
-pub wrong_port : {s : Bool} {text : List ℕ} (p : Parts) → IsCutUrl text p
-    → list_all is_ascii_digit (unwrap_or p.port []) ≡ false → (q : Parts) → ¬ (IsWritten s text q)
+pub wrong_port : {s : Bool} {text : List ℕ} (p : SplitUrl) → IsCutUrl text p
+    → list_all is_ascii_digit (unwrap_or p.port []) ≡ false → (q : SplitUrl) → ¬ (IsWritten s text q)
 wrong_port p cut non q w =
     let same : p ≡ q = parts_only p q cut (written_cut q w) in
     false≢true (sym non ∙ ap (λ r. list_all is_ascii_digit (unwrap_or r.port [])) same ∙ digits_of q.host q.port w.port)
 
-pub written_only : {s : Bool} {text : List ℕ} (p q : Parts) → IsWritten s text p → IsWritten s text q → p ≡ q
+pub written_only : {s : Bool} {text : List ℕ} (p q : SplitUrl) → IsWritten s text p → IsWritten s text q → p ≡ q
 written_only p q v w = parts_only p q (written_cut p v) (written_cut q w)

@@ -4,7 +4,7 @@ use Rattle.std.proofs.lemmas.List.{append_cancel_right}
 use Rattle.std.specs.List.{list_all}
 use Rattle.std.proofs.lemmas.Bool.{cases_Bool, and_parts}
 use Rattle.std.proofs.lemmas.Bool.Decides.{nat_tests}
-use Rattle.config_file.specs.declared.errors.Fault.TheVariants.{BadLine, Nul}
+use Rattle.config_file.specs.declared.errors.FileFault.TheVariants.{BadLine, Nul}
 use Rattle.config_file.specs.Bytes.{is_plain, is_blank, is_comment_sign, EndsText}
 use Rattle.config_file.specs.Header.{fault_at}
 use Rattle.config_file.specs.Value.{Ending, outside, inside, at_backslash, Spells, itself, ends_outside, ends_inside, ends_at_backslash, quote, escaped, continued, continued_after_return, blank, plain, SpellsValue, IsPart, EndsValue, IsNoEscape, line_feeds, kept, escape}

@@ -10,7 +10,7 @@ use Rattle.config_file.specs.Bytes.{tab, line_feed, carriage_return, dot, space,
 use Rattle.config_file.specs.Bytes.{is_blank, is_comment_sign, is_comment_byte}
 use Rattle.config_file.specs.Header.{Section, Header}
 use Rattle.config_file.specs.Value.{Ending, SpellsValue}
-use Rattle.config_file.specs.Spelling.{Names, IsHeader, IsSpelling, HasNoHeader, LacksSpelling}
+use Rattle.config_file.specs.Spelling.{SpellsSection, IsHeader, IsSpelling, HasNoHeader, LacksSpelling}
 use Rattle.config_file.specs.File.{Entry, TakesEntry, IsFile}
 use Rattle.config_file.specs.Bytes.{BeginsWithLetter}
 use Rattle.config_file.specs.Listing.{IsListedSection}
@@ -39,7 +39,7 @@ IsIn key (Some section) = IsListedSection section (stem key ++ dot ∷ [])
 pub data Renames (from to : Key) : List Content → List Content → Type 0 where
   none : Renames from to [] []
   renamed : (x : Content) (section : Section) {old new : List Content}
-      → Renames from to old new → IsIn from x.0 → Names section to.section to.subsection
+      → Renames from to old new → IsIn from x.0 → SpellsSection section to.section to.subsection
       → Renames from to (old ++ x ∷ []) (new ++ (Some section, x.1, x.2) ∷ [])
   kept : (x : Content) {old new : List Content}
       → Renames from to old new → ¬ (IsIn from x.0)
@@ -257,7 +257,7 @@ NoneIn key contents = WithoutIn key contents contents
 
 -- The contents have one more, of the key and with this value, behind all others in its section. A value before it may be
 -- written with more bytes now, if a backslash ended the text.
-pub record Adds (key : Key) (value : List ℕ) (old new : List Content) : Type 0 where
+pub record AddsContent (key : Key) (value : List ℕ) (old new : List Content) : Type 0 where
   pub before : List Content
   pub kept : List Content
   pub after : List Content
@@ -370,7 +370,7 @@ RefusesEdit Several Absent key value text error.Absent =
 -- the new text has one entry more
 abbrev pub AddsKey : Key → List ℕ → List ℕ → List Content → List ℕ → Type 0
 AddsKey key value old contents new = (now : List Content) × HasContents new now
-    × Adds key value contents now × PutsLine key value contents old new
+    × AddsContent key value contents now × PutsLine key value contents old new
 
 -- the key had one entry, which has the value now
 abbrev pub ChangesKey : Key → List ℕ → List ℕ → List Content → List ℕ → Type 0

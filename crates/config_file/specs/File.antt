@@ -1,8 +1,8 @@
 -- Configuration files: the entries of a text, and the error if the text is refused.
 use Rattle.std.specs.Prelude.{◌≡◌, ℕ, ◌+◌, Bool, true, false, List, [], ◌∷◌, Option, Some, None, if◌then◌else◌, ◌==◌, ◌&&◌, ◌||◌, ◌⊎◌}
 use Rattle.std.specs.Char.{is_ascii_alphabetic}
-use Rattle.config_file.specs.declared.errors.Fault.{Fault}
-use Rattle.config_file.specs.declared.errors.Error.{Error}
+use Rattle.config_file.specs.declared.errors.FileFault.{FileFault}
+use Rattle.config_file.specs.declared.errors.FileError.{FileError}
 use Rattle.config_file.specs.Bytes.{line_feed, left_bracket, equals_sign, is_key_byte, is_space, is_blank, is_comment_sign, is_comment_byte, IsAtLineEnd}
 use Rattle.config_file.specs.Runs.{Run}
 use Rattle.config_file.specs.Header.{Section, Header, HeaderStops, fault_at, BeginsWithout}
@@ -18,7 +18,7 @@ pub record Entry : Type 0 where
 abbrev pub entry_at : Option Section → List ℕ → Option (List ℕ) → ℕ → Entry
 entry_at section key value line = record { section = section; key = key; value = value; line = line }
 
-abbrev pub error_at : ℕ → Fault → Error
+abbrev pub error_at : ℕ → FileFault → FileError
 error_at line fault = record { line = line; fault = fault }
 
 -- the text begins with this key, then has any number of spaces and TABs, and then this rest
@@ -38,11 +38,11 @@ pub data TakesEntry : List ℕ → List ℕ → Option (List ℕ) → ℕ → Li
       → TakesEntry text key (Some raw) lines rest
 
 -- an entry that is refused: how many lines after its first one the error is, and the fault
-pub data EntryStops : List ℕ → ℕ → Fault → Type 0 where
+pub data EntryStops : List ℕ → ℕ → FileFault → Type 0 where
   key : {text key rest : List ℕ}
       → TakesKey text key rest → BeginsWithout equals_sign rest → ¬ (IsAtLineEnd rest)
       → EntryStops text 0 (fault_at rest)
-  value : {b lines : ℕ} {fault : Fault} {text key after : List ℕ}
+  value : {b lines : ℕ} {fault : FileFault} {text key after : List ℕ}
       → TakesKey text key (b ∷ after) → b ≡ equals_sign → ValueStops after lines fault
       → EntryStops text lines fault
 
@@ -52,34 +52,34 @@ begins_item b =
     (b == line_feed || is_blank b) || (is_comment_sign b || (b == left_bracket || is_ascii_alphabetic b))
 
 -- read in this section and from this line on, the text has these entries, up to its end or to this error
-pub data Reads : Option Section → ℕ → List ℕ → List Entry → Option Error → Type 0 where
+pub data Reads : Option Section → ℕ → List ℕ → List Entry → Option FileError → Type 0 where
   ends : {section : Option Section} {line : ℕ} → Reads section line [] [] None
   blank : {section : Option Section} {line b : ℕ} {text : List ℕ}
-      {entries : List Entry} {error : Option Error}
+      {entries : List Entry} {error : Option FileError}
       → is_blank b ≡ true → Reads section line text entries error
       → Reads section line (b ∷ text) entries error
   line_end : {section : Option Section} {line b : ℕ} {text : List ℕ}
-      {entries : List Entry} {error : Option Error}
+      {entries : List Entry} {error : Option FileError}
       → b ≡ line_feed → Reads section (line + 1) text entries error
       → Reads section line (b ∷ text) entries error
   comment : {section : Option Section} {line b : ℕ} {text comment rest : List ℕ}
-      {entries : List Entry} {error : Option Error}
+      {entries : List Entry} {error : Option FileError}
       → is_comment_sign b ≡ true → Run is_comment_byte text comment rest
       → Reads section line rest entries error
       → Reads section line (b ∷ text) entries error
   header : {section : Option Section} {next : Section} {line b : ℕ} {text rest : List ℕ}
-      {entries : List Entry} {error : Option Error}
+      {entries : List Entry} {error : Option FileError}
       → b ≡ left_bracket → Header text next rest → Reads (Some next) line rest entries error
       → Reads section line (b ∷ text) entries error
   entry : {section : Option Section} {line lines b : ℕ} {text key rest : List ℕ} {value : Option (List ℕ)}
-      {entries : List Entry} {error : Option Error}
+      {entries : List Entry} {error : Option FileError}
       → is_ascii_alphabetic b ≡ true → TakesEntry (b ∷ text) key value lines rest
       → Reads section (line + lines) rest entries error
       → Reads section line (b ∷ text) (entry_at section key value (line + lines) ∷ entries) error
-  header_refused : {section : Option Section} {line lines b : ℕ} {fault : Fault} {text : List ℕ}
+  header_refused : {section : Option Section} {line lines b : ℕ} {fault : FileFault} {text : List ℕ}
       → b ≡ left_bracket → HeaderStops text lines fault
       → Reads section line (b ∷ text) [] (Some (error_at (line + lines) fault))
-  entry_refused : {section : Option Section} {line lines b : ℕ} {fault : Fault} {text : List ℕ}
+  entry_refused : {section : Option Section} {line lines b : ℕ} {fault : FileFault} {text : List ℕ}
       → is_ascii_alphabetic b ≡ true → EntryStops (b ∷ text) lines fault
       → Reads section line (b ∷ text) [] (Some (error_at (line + lines) fault))
   no_item : {section : Option Section} {line b : ℕ} {text : List ℕ}
@@ -104,7 +104,7 @@ pub data Begins : List ℕ → ℕ → List ℕ → Type 0 where
   unmarked : {text : List ℕ} → after_mark text ≡ None → ¬ (IsPartOfMark text) → Begins text 1 text
 
 -- the text has these entries, and this error if it is not a configuration file
-pub record IsFile (text : List ℕ) (entries : List Entry) (error : Option Error) : Type 0 where
+pub record IsFile (text : List ℕ) (entries : List Entry) (error : Option FileError) : Type 0 where
   pub line : ℕ
   pub rest : List ℕ
   pub begins : Begins text line rest

@@ -1,7 +1,7 @@
 -- Section headers, after their `[`.
 use Rattle.std.specs.Prelude.{◌≡◌, ◌≢◌, ℕ, List, [], ◌∷◌, Option, Some, None, if◌then◌else◌, ◌==◌, ⊤}
-use Rattle.config_file.specs.declared.errors.Fault.{Fault}
-use Rattle.config_file.specs.declared.errors.Fault.TheVariants.{BadLine, Nul}
+use Rattle.config_file.specs.declared.errors.FileFault.{FileFault}
+use Rattle.config_file.specs.declared.errors.FileFault.TheVariants.{BadLine, Nul}
 use Rattle.config_file.specs.Bytes.{double_quote, right_bracket, is_name_byte, is_blank, IsAtLineEnd}
 use Rattle.config_file.specs.Runs.{Run, StopsRun}
 use Rattle.config_file.specs.Subsection.{TakesSubsection, StopsInSubsection}
@@ -11,7 +11,7 @@ abbrev pub Section : Type 0
 Section = List ℕ × Option (List ℕ)
 
 -- the fault if the reading stops at this rest: `Nul` if a NUL comes next, otherwise `BadLine`
-abbrev pub fault_at : List ℕ → Fault
+abbrev pub fault_at : List ℕ → FileFault
 fault_at [] = BadLine
 fault_at (b ∷ rest) = if b == 0 then Nul else BadLine
 
@@ -28,7 +28,7 @@ pub data ClosesSubsection : List ℕ → List ℕ → List ℕ → Type 0 where
 
 -- A subsection that is refused: how many lines after its first one the error is, and the fault. Git counts
 -- one more line if a line end, or the end of the text, follows the closing quote.
-pub data SubsectionStops : List ℕ → ℕ → Fault → Type 0 where
+pub data SubsectionStops : List ℕ → ℕ → FileFault → Type 0 where
   within : {text rest : List ℕ} → StopsInSubsection text rest → SubsectionStops text 0 (fault_at rest)
   closed : {text raw rest : List ℕ}
       → TakesSubsection text raw rest → BeginsWithout right_bracket rest → ¬ (IsAtLineEnd rest)
@@ -57,7 +57,7 @@ pub data Header : List ℕ → Section → List ℕ → Type 0 where
       → Header text (name, Some raw) rest
 
 -- a name that is empty or that no `]` follows; if the text ends there, Git counts one more line
-pub data NameStops : List ℕ → List ℕ → ℕ → Fault → Type 0 where
+pub data NameStops : List ℕ → List ℕ → ℕ → FileFault → Type 0 where
   at_end : {name : List ℕ} → NameStops name [] 1 BadLine
   empty : {b : ℕ} {rest : List ℕ} → NameStops [] (b ∷ rest) 0 (fault_at (b ∷ rest))
   not_closed : {b : ℕ} {name rest : List ℕ}
@@ -65,14 +65,14 @@ pub data NameStops : List ℕ → List ℕ → ℕ → Fault → Type 0 where
       → NameStops name (b ∷ rest) 0 (fault_at (b ∷ rest))
 
 -- a header that is refused: how many lines after its first one the error is, and the fault
-pub data HeaderStops : List ℕ → ℕ → Fault → Type 0 where
-  name : {lines : ℕ} {fault : Fault} {text name rest : List ℕ}
+pub data HeaderStops : List ℕ → ℕ → FileFault → Type 0 where
+  name : {lines : ℕ} {fault : FileFault} {text name rest : List ℕ}
       → Run is_name_byte text name rest → StopsRun is_blank rest → NameStops name rest lines fault
       → HeaderStops text lines fault
   blanks : {text name blanked blanks rest : List ℕ}
       → Run is_name_byte text name blanked → Run is_blank blanked blanks rest → blanks ≢ []
       → BeginsWithout double_quote rest
       → HeaderStops text 0 (fault_at rest)
-  subsection : {lines : ℕ} {fault : Fault} {text name inner : List ℕ}
+  subsection : {lines : ℕ} {fault : FileFault} {text name inner : List ℕ}
       → OpensSubsection text name inner → SubsectionStops inner lines fault
       → HeaderStops text lines fault

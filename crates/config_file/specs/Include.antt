@@ -18,13 +18,13 @@ use Rattle.config_file.specs.Path.{is_rest}
 use Rattle.config_file.specs.Pattern.{MatchesText}
 
 -- the text is the prefix of this condition and its pattern; a text with no such prefix is `Unknown`
-abbrev pub Names : List ℕ → Condition → Type 0
-Names text Always = ⊥
-Names text (GitDir pattern) = text ≡ codes "gitdir:" ++ pattern.now
-Names text (GitDirIgnoringCase pattern) = text ≡ codes "gitdir/i:" ++ pattern.now
-Names text (OnBranch pattern) = text ≡ codes "onbranch:" ++ pattern.now
-Names text (HasRemoteUrl pattern) = text ≡ codes "hasconfig:remote.*.url:" ++ pattern.now
-Names text Unknown = LacksFront (codes "gitdir:") text × LacksFront (codes "gitdir/i:") text × LacksFront (codes "onbranch:") text
+abbrev pub SpellsCondition : List ℕ → Condition → Type 0
+SpellsCondition text Always = ⊥
+SpellsCondition text (GitDir pattern) = text ≡ codes "gitdir:" ++ pattern.now
+SpellsCondition text (GitDirIgnoringCase pattern) = text ≡ codes "gitdir/i:" ++ pattern.now
+SpellsCondition text (OnBranch pattern) = text ≡ codes "onbranch:" ++ pattern.now
+SpellsCondition text (HasRemoteUrl pattern) = text ≡ codes "hasconfig:remote.*.url:" ++ pattern.now
+SpellsCondition text Unknown = LacksFront (codes "gitdir:") text × LacksFront (codes "gitdir/i:") text × LacksFront (codes "onbranch:") text
     × LacksFront (codes "hasconfig:remote.*.url:") text
 
 -- the same condition; patterns are compared byte by byte
@@ -110,11 +110,11 @@ pub data EntryFollows (includes : Includes) (dir : List ℕ) (entry : Entry) : B
   never : IsPathIn (codes "include") None entry → ¬ (Holds includes dir Always) → EntryFollows includes dir entry false
   holds : (raw : List ℕ) → IsPathIn (codes "includeif") (Some raw) entry
       → ((text : List ℕ) → SpellsSubsection raw text
-      → (condition : Condition) × Names text condition × Holds includes dir condition)
+      → (condition : Condition) × SpellsCondition text condition × Holds includes dir condition)
       → EntryFollows includes dir entry true
   fails : (raw : List ℕ) → IsPathIn (codes "includeif") (Some raw) entry
       → ((text : List ℕ) → SpellsSubsection raw text
-      → (condition : Condition) × Names text condition × ¬ (Holds includes dir condition))
+      → (condition : Condition) × SpellsCondition text condition × ¬ (Holds includes dir condition))
       → EntryFollows includes dir entry false
   unrelated : ¬ (IsPathIn (codes "include") None entry)
       → ((raw : List ℕ) → ¬ (IsPathIn (codes "includeif") (Some raw) entry)) → EntryFollows includes dir entry false

@@ -1,20 +1,20 @@
 -- What the reader has left to read.
 use Rattle.std.specs.Prelude.{List, [], ◌∷◌, Option, Some, None, Result, Ok, Err, option_map}
-use Rattle.config_file.specs.declared.errors.Error.{Error}
+use Rattle.config_file.specs.declared.errors.FileError.{FileError}
 use Rattle.config_file.specs.declared.entry.Entry as code
 use Rattle.config_file.specs.declared.reader.Entries as reader
 use Rattle.config_file.specs.File.{Entry, Reads}
 use Rattle.config_file.specs.Views.{section_of, entry_of}
 
 -- the reader has these entries left, up to the end of its text or to this error
-abbrev pub HasLeft : reader.Entries → List Entry → Option Error → Type 0
+abbrev pub HasLeft : reader.Entries → List Entry → Option FileError → Type 0
 HasLeft entries left error =
     Reads (option_map section_of entries.section) entries.line entries.rest.now left error
 
 -- The reader returns the first of the entries that are left. After an error or `None` it has no entries left.
-abbrev pub GivesEntry : reader.Entries → Option (Result code.Entry Error) → reader.Entries → Type 0
+abbrev pub GivesEntry : reader.Entries → Option (Result code.Entry FileError) → reader.Entries → Type 0
 GivesEntry old None new = HasLeft old [] None × HasLeft new [] None
 GivesEntry old (Some (Ok entry)) new =
-    (left : List Entry) (error : Option Error)
+    (left : List Entry) (error : Option FileError)
     → HasLeft new left error → HasLeft old (entry_of entry ∷ left) error
 GivesEntry old (Some (Err error)) new = HasLeft old [] (Some error) × HasLeft new [] None

@@ -27,12 +27,12 @@ use Rattle.config_file.specs.Value.{Ending, SpellsValue}
 use Rattle.config_file.specs.Views.{entry_of}
 use Rattle.config_file.specs.Walk.{Content, Text, Missing, Unreadable, Stop, Line, NoValue, Unknown, NotRead, TooDeep}
 use Rattle.config_file.specs.Walk.{Item, Found, Stops, WalksText}
-use Rattle.config_file.specs.declared.errors.Error.{Error}
+use Rattle.config_file.specs.declared.errors.FileError.{FileError}
 use Rattle.config_file.specs.declared.files.Content.{Content as Given}
 use Rattle.config_file.specs.declared.files.Content.TheVariants as given
 use Rattle.config_file.specs.declared.settings.Setting.{Setting}
 use Rattle.config_file.specs.declared.settings.Settings.{Settings}
-use Rattle.config_file.specs.declared.settings.Refused.{Refused}
+use Rattle.config_file.specs.declared.settings.RefusedSetting.{RefusedSetting}
 use Rattle.config_file.specs.declared.settings.AddError.{AddError}
 use Rattle.config_file.specs.declared.settings.AddError.TheVariants as error
 use Rattle.config_file.specs.declared.settings.IncludeFault.{IncludeFault}
@@ -44,7 +44,7 @@ use Rattle.config_file.specs.declared.settings.Next.TheVariants as next
 use Rattle.config_file.specs.declared.walk.Include.{Include}
 use Rattle.config_file.specs.declared.walk.Include.TheVariants.{NotFollowed, MissingValue, UnknownDirectory, Named}
 use Rattle.config_file.specs.declared.walk.Known.{Known}
-use Rattle.config_file.specs.declared.walk.Place.{Place}
+use Rattle.config_file.specs.declared.walk.FilePlace.{FilePlace}
 
 -- the section of a key as it is written, with its dots, and U+FFFD for bytes that are not UTF-8
 abbrev pub written_section : Option Section → List ℕ
@@ -108,8 +108,8 @@ pub record IsSettingOf (found : List ℕ × Entry) (setting : Setting) : Type 0 
   pub value : IsValueOf found.1.value (value_text setting)
 
 -- the new settings are the old ones, followed by one for each of these entries
-abbrev pub Adds : List (List ℕ × Entry) → List Setting → List Setting → Type 0
-Adds found old new = (added : List Setting) × (new ≡ old ++ added) × AllZip IsSettingOf found added
+abbrev pub AddsEach : List (List ℕ × Entry) → List Setting → List Setting → Type 0
+AddsEach found old new = (added : List Setting) × (new ≡ old ++ added) × AllZip IsSettingOf found added
 
 -- the new settings are the old ones, followed by some that have the scope of the old ones, which stays
 abbrev pub AddsInScope : Settings → Settings → Type 0
@@ -118,18 +118,18 @@ AddsInScope old new = (new.scope ≡ old.scope)
     × All (λ setting. setting.scope ≡ old.scope) added)
 
 -- the entries of the text begin with these
-abbrev pub HasFirst : List ℕ → List Entry → Type 0
-HasFirst text entries = (rest : List Entry) × (error : Option Error) × IsFile text (entries ++ rest) error
+abbrev pub HasFirstEntries : List ℕ → List Entry → Type 0
+HasFirstEntries text entries = (rest : List Entry) × (error : Option FileError) × IsFile text (entries ++ rest) error
 
 -- what adding the entries of a file gives: all of them, those before the first line that Git cannot read, or
 -- those before memory is refused
 abbrev pub AddsFile : List ℕ → List ℕ → List Setting → List Setting → Result (Unit {0}) AddError → Type 0
 AddsFile file text old new (Ok _) =
-    (entries : List Entry) × IsFile text entries None × Adds (map (λ entry. (file, entry)) entries) old new
+    (entries : List Entry) × IsFile text entries None × AddsEach (map (λ entry. (file, entry)) entries) old new
 AddsFile file text old new (Err (error.Line name at)) = (name.now ≡ file)
-    × ((entries : List Entry) × IsFile text entries (Some at) × Adds (map (λ entry. (file, entry)) entries) old new)
+    × ((entries : List Entry) × IsFile text entries (Some at) × AddsEach (map (λ entry. (file, entry)) entries) old new)
 AddsFile file text old new (Err (error.Memory _)) =
-    (entries : List Entry) × HasFirst text entries × Adds (map (λ entry. (file, entry)) entries) old new
+    (entries : List Entry) × HasFirstEntries text entries × AddsEach (map (λ entry. (file, entry)) entries) old new
 AddsFile file text old new (Err _) = ⊥
 
 -- what is given for the file of this name is among what it may hold
@@ -146,7 +146,7 @@ IsPassed contents (Named name) = contents name.items Missing
 IsPassed contents _ = ⊥
 
 -- an entry that includes this is followed into the file at this place, which has this text
-abbrev pub IsEntered : (List ℕ → Content → Type 0) → Place → List ℕ → Include → Type 0
+abbrev pub IsEntered : (List ℕ → Content → Type 0) → FilePlace → List ℕ → Include → Type 0
 IsEntered contents place text (Named name) =
     (place.name.now ≡ name.items) × contents place.name.now (Text place.real_dir.now text)
 IsEntered contents place text _ = ⊥
@@ -191,14 +191,14 @@ found_item found = (found.0, Found found.1)
 
 -- what adding the entries of a walk gives: all of them, those up to where Git stops, or those before memory is
 -- refused
-abbrev pub AddsWalk : (List ℕ → Content → Type 0) → Known → Place → List ℕ → List Setting → List Setting
+abbrev pub AddsWalk : (List ℕ → Content → Type 0) → Known → FilePlace → List ℕ → List Setting → List Setting
     → Result (Unit {0}) AddError → Type 0
-AddsWalk contents known place text old new (Ok _) = (found : List (List ℕ × Entry)) × Adds found old new
+AddsWalk contents known place text old new (Ok _) = (found : List (List ℕ × Entry)) × AddsEach found old new
     × WalksText contents known place text (map found_item found) true
 AddsWalk contents known place text old new (Err (error.Memory _)) = (found : List (List ℕ × Entry))
-    × Adds found old new × WalksText contents known place text (map found_item found) false
+    × AddsEach found old new × WalksText contents known place text (map found_item found) false
 AddsWalk contents known place text old new (Err error) =
-    (found : List (List ℕ × Entry)) × (file : List ℕ) × (stop : Stop) × Adds found old new × TellsStop file stop error
+    (found : List (List ℕ × Entry)) × (file : List ℕ) × (stop : Stop) × AddsEach found old new × TellsStop file stop error
     × WalksText contents known place text (map found_item found ++ (file, Stops stop) ∷ []) false
 
 -- two settings of the same entry of the same file, with the same text
@@ -223,12 +223,12 @@ IsSameEnd (Err a) (Err b) = (file : List ℕ) × (stop : Stop) × TellsStop file
 IsSameEnd _ _ = ⊥
 
 -- the refusal is that of the setting, with this fault
-abbrev pub Tells : {F : Type 0} → Setting → F → Refused F → Type 0
-Tells setting fault refused = (refused.setting.now ≡ setting) × (refused.fault ≡ fault)
+abbrev pub IsRefusalOf : {F : Type 0} → Setting → F → RefusedSetting F → Type 0
+IsRefusalOf setting fault refused = (refused.setting.now ≡ setting) × (refused.fault ≡ fault)
 
 -- the value that the grammar gives the text of the setting, or a refusal of it with a fault of the text
 abbrev pub ReadsSetting : {V : Type 0} → (List ℕ → V → Type 0) → (List ℕ → Fault → Type 0) → Setting
-    → Result V (Refused Fault) → Type 0
+    → Result V (RefusedSetting Fault) → Type 0
 ReadsSetting grammar refusal setting result =
     ReadsOr grammar (λ r. (r.setting.now ≡ setting) × refusal (text_of setting) r.fault) (text_of setting) result
 
@@ -342,7 +342,7 @@ abbrev pub path_bytes : Setting → List ℕ
 path_bytes setting = option_map_or (λ text. text) (value_text setting) []
 
 -- what the path table gives for the value of a setting, after its mark is cut off
-abbrev pub IsPathOfSetting : paths.Known → Setting → Result (Bool × Parts) (Refused path_errors.Error) → Type 0
+abbrev pub IsPathOfSetting : paths.Known → Setting → Result (Bool × Parts) (RefusedSetting path_errors.Error) → Type 0
 IsPathOfSetting known setting (Ok (is_optional, parts)) =
     (path : List ℕ) × Marked (path_bytes setting) is_optional path × PathTable known path (parts_result (Ok parts))
 IsPathOfSetting known setting (Err refused) =

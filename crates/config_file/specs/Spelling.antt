@@ -16,13 +16,13 @@ SpellsOptional Spells (Some raw) None = ⊥
 SpellsOptional Spells None (Some text) = ⊥
 
 -- the section has this name, and its subsection spells this text, or both subsections are absent
-abbrev pub Names : Section → List ℕ → Option (List ℕ) → Type 0
-Names section name subsection = (section.0 ≡ name) × SpellsOptional SpellsSubsection section.1 subsection
+abbrev pub SpellsSection : Section → List ℕ → Option (List ℕ) → Type 0
+SpellsSection section name subsection = (section.0 ≡ name) × SpellsOptional SpellsSubsection section.1 subsection
 
 -- these bytes are a header of this name and this subsection, whatever follows them
 abbrev pub IsHeader : List ℕ → List ℕ → Option (List ℕ) → Type 0
 IsHeader bytes name subsection =
-    (inner : List ℕ) × (section : Section) × (bytes ≡ left_bracket ∷ inner) × Names section name subsection
+    (inner : List ℕ) × (section : Section) × (bytes ≡ left_bracket ∷ inner) × SpellsSection section name subsection
     × ((rest : List ℕ) → Header (inner ++ rest) section rest)
 
 -- these bytes are the shortest header of this name and this subsection
@@ -33,7 +33,7 @@ pub record IsShortestHeader (bytes name : List ℕ) (subsection : Option (List �
 -- no header has this name and this subsection
 abbrev pub HasNoHeader : List ℕ → Option (List ℕ) → Type 0
 HasNoHeader name subsection =
-    (text rest : List ℕ) (section : Section) → Names section name subsection → ¬ (Header text section rest)
+    (text rest : List ℕ) (section : Section) → SpellsSection section name subsection → ¬ (Header text section rest)
 
 -- no entry has this key: no text that begins with a letter has it as its first run of letters, digits and `-`
 abbrev pub IsNoKey : List ℕ → Type 0
@@ -80,7 +80,7 @@ EndsLine text = (text ≡ []) ⊎ HasLineEnd text
 pub record IsEntry
     (name : List ℕ) (subsection : Option (List ℕ)) (key : List ℕ) (value : Option (List ℕ)) (line : ℕ) (entry : Entry)
     : Type 0 where
-  pub section : (section : Section) × (entry.section ≡ Some section) × Names section name subsection
+  pub section : (section : Section) × (entry.section ≡ Some section) × SpellsSection section name subsection
   pub same_key : entry.key ≡ key
   pub spells : SpellsOptional IsSpelling entry.value value
   pub same_line : entry.line ≡ line

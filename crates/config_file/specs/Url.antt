@@ -50,7 +50,7 @@ is_host_byte has_stars b = is_ascii_alphanumeric b || (is_one_of (codes ".-_[:]"
 
 -- the parts of a URL as they are written: its scheme, what precedes `@`, its host, what follows the colon behind
 -- the host, and the path with the query and the fragment
-pub record Parts : Type 0 where
+pub record SplitUrl : Type 0 where
   pub scheme : List ℕ
   pub login : Option (List ℕ)
   pub host : List ℕ
@@ -71,7 +71,7 @@ IsWhole host None = (front back : List ℕ) → host ≡ front ++ colon ∷ back
 IsWhole host (Some port) = list_all is_ascii_digit port ≡ true
 
 -- the text is a URL of these parts, which may have `*` in its host if there are stars
-pub record IsWritten (has_stars : Bool) (text : List ℕ) (parts : Parts) : Type 0 where
+pub record IsWritten (has_stars : Bool) (text : List ℕ) (parts : SplitUrl) : Type 0 where
   pub joined : text ≡ parts.scheme
       ++ (codes "://" ++ (place_text parts.login parts.host parts.port ++ parts.path))
   pub scheme : is_scheme parts.scheme ≡ true
@@ -206,7 +206,7 @@ url scheme user host port path =
     record { scheme = scheme; user = user; host = host; port = port; path = path }
 
 -- the URL of these parts: only one of the scheme `file` lacks a host, and it has no port then
-pub record IsForm (parts : Parts) (u : Url) : Type 0 where
+pub record IsForm (parts : SplitUrl) (u : Url) : Type 0 where
   pub scheme : u.scheme ≡ map to_ascii_lowercase parts.scheme
   pub host : u.host ≡ compared_host parts.host
   pub only_files : is_missing parts.host ≡ true
@@ -217,7 +217,7 @@ pub record IsForm (parts : Parts) (u : Url) : Type 0 where
 
 -- the text is this URL, which may have `*` in its host if there are stars
 abbrev pub IsUrl : Bool → List ℕ → Url → Type 0
-IsUrl has_stars text u = (parts : Parts) × IsWritten has_stars text parts × IsForm parts u
+IsUrl has_stars text u = (parts : SplitUrl) × IsWritten has_stars text parts × IsForm parts u
 
 -- a label of a pattern stands for this label: it is the same, or `*`
 abbrev pub StandsFor : List ℕ → List ℕ → Type 0

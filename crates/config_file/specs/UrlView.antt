@@ -2,11 +2,11 @@
 use Rattle.std.specs.Prelude.{option_copied, option_map}
 use Rattle.config_file.specs.declared.url.Url as code
 use Rattle.config_file.specs.declared.url.Fit as fits
-use Rattle.config_file.specs.declared.url.parts.Parts as written
-use Rattle.config_file.specs.Url.{Url, url, Parts, Fit, fit}
+use Rattle.config_file.specs.declared.url.parts.SplitUrl as written
+use Rattle.config_file.specs.Url.{Url, url, SplitUrl, Fit, fit}
 
 -- the parts of a URL as they are written
-abbrev pub parts_of : written.Parts → Parts
+abbrev pub parts_of : written.SplitUrl → SplitUrl
 parts_of p = record {
   scheme = p.scheme.now;
   login = option_copied p.login;

@@ -1,8 +1,8 @@
 -- The value of an entry: the bytes from its `=` to the end of the line or to a comment.
 use Rattle.std.specs.Prelude.{◌≡◌, ◌≢◌, ℕ, ◌+◌, Bool, true, false, not, if◌then◌else◌, ◌||◌, ◌==◌, List, [], ◌∷◌, ◌++◌, Option, Some, None, ⊤, ◌⊎◌}
 use Rattle.std.specs.Prelude.{count_by}
-use Rattle.config_file.specs.declared.errors.Fault.{Fault}
-use Rattle.config_file.specs.declared.errors.Fault.TheVariants.{BadLine, Nul}
+use Rattle.config_file.specs.declared.errors.FileFault.{FileFault}
+use Rattle.config_file.specs.declared.errors.FileFault.TheVariants.{BadLine, Nul}
 use Rattle.config_file.specs.Header.{fault_at}
 use Rattle.config_file.specs.Bytes.{backspace, tab, line_feed, carriage_return, space, double_quote, backslash, is_blank, is_plain, is_comment_sign, EndsText}
 
@@ -96,7 +96,7 @@ IsNoEscape (e ∷ []) = (escape e ≡ None) × (e ≢ line_feed)
 IsNoEscape (e ∷ f ∷ rest) = (escape e ≡ None) × (e ≢ line_feed) × (e ≡ carriage_return → f ≢ line_feed)
 
 -- a value that is refused: how many lines after its first one the error is, and the fault
-pub data ValueStops : List ℕ → ℕ → Fault → Type 0 where
+pub data ValueStops : List ℕ → ℕ → FileFault → Type 0 where
   nul : {b : ℕ} {text : List ℕ} (raw rest : List ℕ)
       → text ≡ raw ++ b ∷ rest → IsPart false raw → b ≡ 0
       → ValueStops text (line_feeds raw) Nul

@@ -5,11 +5,11 @@ use Rattle.config_file.specs.Value.{Ending, SpellsValue}
 use Rattle.config_file.specs.Include.{EntryFollows}
 use Rattle.config_file.specs.Path.{Expands, BeginsUnknown, IsIncludedName}
 use Rattle.config_file.specs.declared.path.Directories.{Directories}
-use Rattle.config_file.specs.declared.walk.Place.{Place}
+use Rattle.config_file.specs.declared.walk.FilePlace.{FilePlace}
 use Rattle.config_file.specs.declared.walk.Known.{Known}
 use Rattle.config_file.specs.declared.walk.Include.{Include}
 use Rattle.config_file.specs.declared.walk.Include.TheVariants.{NotFollowed, MissingValue, UnknownDirectory, Named}
-use Rattle.config_file.specs.declared.errors.Error.{Error}
+use Rattle.config_file.specs.declared.errors.FileError.{FileError}
 
 -- the name of the file that a value includes, in the file of this name
 abbrev pub IsNameOf : Directories → List ℕ → List ℕ → List ℕ → Type 0
@@ -28,12 +28,12 @@ SpellsUnknown known raw = (text : List ℕ) (ending : Ending) → SpellsValue ra
     → BeginsUnknown (option_copied known.directories.home) (option_copied known.directories.install_dir) text
 
 -- the entry of this file is followed to the file of this name
-abbrev pub IncludesFile : Known → Place → Entry → List ℕ → Type 0
+abbrev pub IncludesFile : Known → FilePlace → Entry → List ℕ → Type 0
 IncludesFile known place entry name = EntryFollows known.includes place.real_dir.now entry true
     × ((raw : List ℕ) × (entry.value ≡ Some raw) × SpellsName known place.name.now raw name)
 
 -- what an entry of this file includes
-abbrev pub IsInclude : Known → Place → Entry → Include → Type 0
+abbrev pub IsInclude : Known → FilePlace → Entry → Include → Type 0
 IsInclude known place entry NotFollowed = EntryFollows known.includes place.real_dir.now entry false
 IsInclude known place entry MissingValue =
     EntryFollows known.includes place.real_dir.now entry true × (entry.value ≡ None)
@@ -53,7 +53,7 @@ HasOneContent contents = (name : List ℕ) (a b : Content) → contents name a �
 
 -- where Git stops: at a line that it cannot read, or at an entry that it cannot follow
 pub data Stop : Type 0 where
-  Line : Error → Stop
+  Line : FileError → Stop
   NoValue : Entry → Stop
   Unknown : Entry → Stop
   NotRead : Entry → Stop
@@ -65,59 +65,59 @@ pub data Item : Type 0 where
   Stops : Stop → Item
 
 -- an item, in the file of this place
-abbrev pub in_file : Place → Item → List ℕ × Item
+abbrev pub in_file : FilePlace → Item → List ℕ × Item
 in_file place item = (place.name.now, item)
 
 -- At most this many includes deep, a walk of these entries of a file, up to the end of its text or to this
 -- error, comes to these items: to each entry, and then to the items of the file that it includes. It may be cut
 -- anywhere unless the flag says that it is whole. `contents` says what the file of a name holds.
 pub data Walks (contents : List ℕ → Content → Type 0) (known : Known)
-    : ℕ → Place → List Entry → Option Error → List (List ℕ × Item) → Bool → Type 0 where
-  cut : {depth : ℕ} {place : Place} {entries : List Entry} {error : Option Error}
+    : ℕ → FilePlace → List Entry → Option FileError → List (List ℕ × Item) → Bool → Type 0 where
+  cut : {depth : ℕ} {place : FilePlace} {entries : List Entry} {error : Option FileError}
       → Walks contents known depth place entries error [] false
-  ends : {depth : ℕ} {place : Place} {whole : Bool} → Walks contents known depth place [] None [] whole
-  line : {depth : ℕ} {place : Place} {error : Error} {whole : Bool}
+  ends : {depth : ℕ} {place : FilePlace} {whole : Bool} → Walks contents known depth place [] None [] whole
+  line : {depth : ℕ} {place : FilePlace} {error : FileError} {whole : Bool}
       → Walks contents known depth place [] (Some error) (in_file place (Stops (Line error)) ∷ []) whole
-  plain : {depth : ℕ} {place : Place} {entry : Entry} {entries : List Entry} {error : Option Error}
+  plain : {depth : ℕ} {place : FilePlace} {entry : Entry} {entries : List Entry} {error : Option FileError}
       {items : List (List ℕ × Item)} {whole : Bool}
       → IsInclude known place entry NotFollowed → Walks contents known depth place entries error items whole
       → Walks contents known depth place (entry ∷ entries) error (in_file place (Found entry) ∷ items) whole
-  missing : {depth : ℕ} {place : Place} {entry : Entry} {entries : List Entry} {error : Option Error}
+  missing : {depth : ℕ} {place : FilePlace} {entry : Entry} {entries : List Entry} {error : Option FileError}
       {items : List (List ℕ × Item)} {whole : Bool} (name : List ℕ)
       → IncludesFile known place entry name → contents name Missing
       → Walks contents known depth place entries error items whole
       → Walks contents known depth place (entry ∷ entries) error (in_file place (Found entry) ∷ items) whole
-  included : {depth : ℕ} {place : Place} {entry : Entry} {entries : List Entry} {error : Option Error}
-      {items : List (List ℕ × Item)} {whole : Bool} (less : ℕ) (at : Place) (text : List ℕ) (inner : List Entry)
-      (end : Option Error) (within : List (List ℕ × Item))
+  included : {depth : ℕ} {place : FilePlace} {entry : Entry} {entries : List Entry} {error : Option FileError}
+      {items : List (List ℕ × Item)} {whole : Bool} (less : ℕ) (at : FilePlace) (text : List ℕ) (inner : List Entry)
+      (end : Option FileError) (within : List (List ℕ × Item))
       → IncludesFile known place entry at.name.now → contents at.name.now (Text at.real_dir.now text)
       → IsFile text inner end → depth ≡ less + 1 → Walks contents known less at inner end within true
       → Walks contents known depth place entries error items whole
       → Walks contents known depth place (entry ∷ entries) error
       (in_file place (Found entry) ∷ (within ++ items)) whole
-  cut_within : {depth : ℕ} {place : Place} {entry : Entry} {entries : List Entry} {error : Option Error}
-      (less : ℕ) (at : Place) (text : List ℕ) (inner : List Entry) (end : Option Error)
+  cut_within : {depth : ℕ} {place : FilePlace} {entry : Entry} {entries : List Entry} {error : Option FileError}
+      (less : ℕ) (at : FilePlace) (text : List ℕ) (inner : List Entry) (end : Option FileError)
       (within : List (List ℕ × Item))
       → IncludesFile known place entry at.name.now → contents at.name.now (Text at.real_dir.now text)
       → IsFile text inner end → depth ≡ less + 1 → Walks contents known less at inner end within false
       → Walks contents known depth place (entry ∷ entries) error (in_file place (Found entry) ∷ within) false
-  no_value : {depth : ℕ} {place : Place} {entry : Entry} {entries : List Entry} {error : Option Error}
+  no_value : {depth : ℕ} {place : FilePlace} {entry : Entry} {entries : List Entry} {error : Option FileError}
       {items : List (List ℕ × Item)} {whole : Bool}
       → IsInclude known place entry MissingValue → Walks contents known depth place entries error items whole
       → Walks contents known depth place (entry ∷ entries) error
       (in_file place (Found entry) ∷ in_file place (Stops (NoValue entry)) ∷ items) whole
-  unknown : {depth : ℕ} {place : Place} {entry : Entry} {entries : List Entry} {error : Option Error}
+  unknown : {depth : ℕ} {place : FilePlace} {entry : Entry} {entries : List Entry} {error : Option FileError}
       {items : List (List ℕ × Item)} {whole : Bool}
       → IsInclude known place entry UnknownDirectory → Walks contents known depth place entries error items whole
       → Walks contents known depth place (entry ∷ entries) error
       (in_file place (Found entry) ∷ in_file place (Stops (Unknown entry)) ∷ items) whole
-  not_read : {depth : ℕ} {place : Place} {entry : Entry} {entries : List Entry} {error : Option Error}
+  not_read : {depth : ℕ} {place : FilePlace} {entry : Entry} {entries : List Entry} {error : Option FileError}
       {items : List (List ℕ × Item)} {whole : Bool} (name : List ℕ)
       → IncludesFile known place entry name → contents name Unreadable
       → Walks contents known depth place entries error items whole
       → Walks contents known depth place (entry ∷ entries) error
       (in_file place (Found entry) ∷ in_file place (Stops (NotRead entry)) ∷ items) whole
-  too_deep : {depth : ℕ} {place : Place} {entry : Entry} {entries : List Entry} {error : Option Error}
+  too_deep : {depth : ℕ} {place : FilePlace} {entry : Entry} {entries : List Entry} {error : Option FileError}
       {items : List (List ℕ × Item)} {whole : Bool} (name real_dir text : List ℕ)
       → IncludesFile known place entry name → contents name (Text real_dir text) → depth ≡ 0
       → Walks contents known depth place entries error items whole
@@ -125,6 +125,6 @@ pub data Walks (contents : List ℕ → Content → Type 0) (known : Known)
       (in_file place (Found entry) ∷ in_file place (Stops (TooDeep entry)) ∷ items) whole
 
 -- what a walk of the text of the file at this place comes to; it follows includes ten deep, as Git does
-abbrev pub WalksText : (List ℕ → Content → Type 0) → Known → Place → List ℕ → List (List ℕ × Item) → Bool → Type 0
-WalksText contents known place text items whole = (entries : List Entry) × (error : Option Error)
+abbrev pub WalksText : (List ℕ → Content → Type 0) → Known → FilePlace → List ℕ → List (List ℕ × Item) → Bool → Type 0
+WalksText contents known place text items whole = (entries : List Entry) × (error : Option FileError)
     × IsFile text entries error × Walks contents known 10 place entries error items whole

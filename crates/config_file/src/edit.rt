@@ -24,7 +24,7 @@ use crate::edit::each::{change_at, change_each};
 use crate::edit::removal::{Count, without};
 use crate::edit::sections::{renamed, without_section};
 use crate::edit::setting::{Replacement, added, replace};
-use crate::errors::Error as FileError;
+use crate::errors::FileError;
 use crate::key::{Key, KeyError, is_name};
 use crate::reader::{Entries, after_mark};
 use crate::spelling::{is_section, is_spellable};

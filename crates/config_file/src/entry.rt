@@ -40,7 +40,7 @@ const USUAL_LENGTH: usize = 32;
 
 /// The parts of an entry without its section, how many line ends it continues over, and what follows it.
 #[derive(Clone, Copy)]
-pub(crate) struct Parts<'a> {
+pub(crate) struct EntryParts<'a> {
     pub key: &'a [u8],
     pub value: Option<Value<'a>>,
     pub lines: usize,
@@ -49,7 +49,7 @@ pub(crate) struct Parts<'a> {
 
 /// Reads the entry at the start of the text.
 #[inline(always)]
-pub(crate) fn read_entry(text: &[u8]) -> Result<Parts<'_>, Stop>
+pub(crate) fn read_entry(text: &[u8]) -> Result<EntryParts<'_>, Stop>
     ensures { MatchResult result
         (λ parts. TakesEntry text.now parts.key.now (value_of parts.value) parts.lines parts.rest.now)
         (λ stop. EntryStops text.now stop.lines stop.fault) }
@@ -57,7 +57,7 @@ pub(crate) fn read_entry(text: &[u8]) -> Result<Parts<'_>, Stop>
     let (key, spaced) = run(text, Class::Key);
     let (_, rest) = run(spaced, Class::Space);
     if is_at_line_end(rest) {
-        return Ok(Parts {
+        return Ok(EntryParts {
             key,
             value: None,
             lines: 0,
@@ -67,7 +67,7 @@ pub(crate) fn read_entry(text: &[u8]) -> Result<Parts<'_>, Stop>
     match after_byte(b'=', rest) {
         Some(after) => {
             let Taken { value, lines, rest } = read_value(after)?;
-            Ok(Parts {
+            Ok(EntryParts {
                 key,
                 value: Some(value),
                 lines,

@@ -1,6 +1,6 @@
 //! Why a text is not a configuration file.
 ghost use Rattle.std.specs.Prelude.{◌≡◌, Some};
-ghost use Rattle.config_file.specs.Errors.{fault_text, error_shown};
+ghost use Rattle.config_file.specs.Errors.{file_fault_text, error_shown};
 ghost use Rattle.config_file.specs.Header.{fault_at};
 
 use std::{error, fmt};
@@ -9,41 +9,41 @@ use std::{error, fmt};
 ///
 /// ```rust
 /// use config_file::Entries;
-/// use config_file::errors::Fault;
+/// use config_file::errors::FileFault;
 ///
 /// let error = Entries::new(b"[core]\nbare = \0").next().expect(&rt, "an item").unwrap_err();
-/// assert!(rt; error.fault == Fault::Nul);
+/// assert!(rt; error.fault == FileFault::Nul);
 /// assert_eq!(rt; error.fault.text(), "a NUL byte outside a comment");
 /// ```
 #[derive(Clone, Copy, PartialEq, Eq, Debug)]
-pub enum Fault {
+pub enum FileFault {
     /// A byte that is not allowed there, or the end of the text. Git reports `bad config line`.
     BadLine,
     /// A NUL outside a comment. Git reads on only in a value or a subsection, whose text it cuts at the NUL.
     Nul,
 }
 
-impl Fault {
+impl FileFault {
     /// The reason in words, which `Display` writes.
     pub fn text(self) -> &'static str
-        ensures { result.now ≡ fault_text self }
+        ensures { result.now ≡ file_fault_text self }
     {
         match self {
-            Fault::BadLine => "bad config line",
-            Fault::Nul => "a NUL byte outside a comment",
+            FileFault::BadLine => "bad config line",
+            FileFault::Nul => "a NUL byte outside a comment",
         }
     }
 }
 
-impl fmt::Display for Fault {
-    ghost output = { λ fault. Some (fault_text fault) };
+impl fmt::Display for FileFault {
+    ghost output = { λ fault. Some (file_fault_text fault) };
 
     fn fmt<W: fmt::Write>(&self, f: &mut fmt::Formatter<W>) -> fmt::Result {
         f.write_str(self.text())
     }
 }
 
-impl error::Error for Fault {}
+impl error::Error for FileFault {}
 
 /// Why a text is not a configuration file.
 ///
@@ -55,14 +55,14 @@ impl error::Error for Fault {}
 /// assert_eq!(rt; error.to_string(alloc)?.as_str(), "2: bad config line");
 /// ```
 #[derive(Clone, Copy, PartialEq, Eq, Debug)]
-pub struct Error {
+pub struct FileError {
     /// The line that Git reports, counted from 1.
     pub line: usize,
     /// Why the reading stops on that line.
-    pub fault: Fault,
+    pub fault: FileFault,
 }
 
-impl fmt::Display for Error {
+impl fmt::Display for FileError {
     ghost output = { λ error. Some (error_shown error) };
 
     /// Writes `LINE: reason`.
@@ -71,22 +71,22 @@ impl fmt::Display for Error {
     }
 }
 
-impl error::Error for Error {}
+impl error::Error for FileError {}
 
 /// Where the reading of an item stops: how many lines after its first one, and why.
 #[derive(Clone, Copy)]
 pub(crate) struct Stop {
     pub lines: usize,
-    pub fault: Fault,
+    pub fault: FileFault,
 }
 
 /// The fault if the reading stops at this rest: `Nul` if a NUL comes next, otherwise `BadLine`.
-pub(crate) fn fault_at(rest: &[u8]) -> Fault
+pub(crate) fn fault_at(rest: &[u8]) -> FileFault
     ensures { result ≡ fault_at rest.now }
 {
     match rest {
-        [0, ..] => Fault::Nul,
-        _ => Fault::BadLine,
+        [0, ..] => FileFault::Nul,
+        _ => FileFault::BadLine,
     }
 }
 

@@ -3,22 +3,22 @@ ghost use Rattle.std.specs.Prelude.{List, ℕ, IfOk};
 ghost use Rattle.config_file.specs.Walk as walk;
 ghost use Rattle.config_file.specs.Settings.{HoldsContent};
 
-use crate::walk::Place;
+use crate::walk::FilePlace;
 use std::alloc::{AllocError, Global};
 
 /// What the file of a name holds.
 ///
 /// ```rust
-/// use config_file::{Content, Place};
+/// use config_file::{Content, FilePlace};
 ///
-/// let place = Place { name: b"/etc/gitconfig", real_dir: b"/etc" };
+/// let place = FilePlace { name: b"/etc/gitconfig", real_dir: b"/etc" };
 /// let content = Content::Text(place, b"[core]\n\tbare");
 /// assert!(rt; matches!(content, Content::Text(_, text) if text.len() == 12));
 /// ```
 #[derive(Clone, Copy)]
 pub enum Content<'t> {
     /// A text, in the file at this place.
-    Text(Place<'t>, &'t [u8]),
+    Text(FilePlace<'t>, &'t [u8]),
     /// There is no such file: an include of it is skipped.
     Missing,
     /// The file cannot be read, for the reason that the text says.
@@ -28,7 +28,7 @@ pub enum Content<'t> {
 /// Files by their names: those of the system, or of a test, or texts in memory.
 ///
 /// ```rust
-/// use config_file::{Content, Directories, Files, Includes, Known, Place, Settings};
+/// use config_file::{Content, Directories, FilePlace, Files, Includes, Known, Settings};
 /// use std::alloc::{AllocError, Global};
 ///
 /// #[derive(Drop)]
@@ -39,7 +39,7 @@ pub enum Content<'t> {
 ///
 ///     fn read(&self, _alloc: Global, name: &[u8]) -> Result<Content<'t>, AllocError> {
 ///         match name {
-///             b"more" => Ok(Content::Text(Place { name: b"more", real_dir: b"" }, b"[core]\n\tbare")),
+///             b"more" => Ok(Content::Text(FilePlace { name: b"more", real_dir: b"" }, b"[core]\n\tbare")),
 ///             _ => Ok(Content::Missing),
 ///         }
 ///     }
@@ -47,7 +47,7 @@ pub enum Content<'t> {
 ///
 /// let directories = Directories { home: None, install_dir: None };
 /// let known = Known { directories, includes: Includes::All };
-/// let place = Place { name: b"config", real_dir: b"" };
+/// let place = FilePlace { name: b"config", real_dir: b"" };
 /// let mut settings = Settings::new(alloc);
 /// let text = b"[include]\n\tpath = more";
 /// assert!(rt; settings.add_with_includes(alloc, &OneFile, &known, place, text).is_ok());

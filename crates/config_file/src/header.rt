@@ -6,7 +6,7 @@ ghost use Rattle.config_file.specs.Subsection.{TakesSubsection, StopsInSubsectio
 ghost use Rattle.config_file.specs.Views.{section_of};
 
 use crate::bytes::{Class, after_byte, before, is_at_line_end, is_text_byte, run, split};
-use crate::errors::{Fault, Stop, stop_at};
+use crate::errors::{FileFault, Stop, stop_at};
 use crate::section::{Section, Subsection};
 
 /// Reads a header after its `[`. Returns the section, and what follows the header.
@@ -47,7 +47,7 @@ fn close_name<'a>(name: &[u8], after: &'a [u8]) -> Result<&'a [u8], Stop>
     if after.is_empty() {
         return Err(Stop {
             lines: 1,
-            fault: Fault::BadLine,
+            fault: FileFault::BadLine,
         });
     }
     if name.is_empty() {
@@ -74,7 +74,7 @@ fn read_subsection(text: &[u8]) -> Result<(Subsection<'_>, &[u8]), Stop>
     if is_at_line_end(after) {
         return Err(Stop {
             lines: 1,
-            fault: Fault::BadLine,
+            fault: FileFault::BadLine,
         });
     }
     Err(stop_at(after))

@@ -1,7 +1,7 @@
 //! The entries that include a file: their conditions.
 ghost use Rattle.std.specs.Prelude.{◌↔◌, ◌≡◌, ◌++◌, ℕ, List, IsTrue, IfOk, OnOk, option_map, option_copied};
 ghost use Rattle.config_file.specs.Include as spec;
-ghost use Rattle.config_file.specs.Include.{Names, IsGitDir, IsOnBranch, HasUrl, Holds, EntryFollows};
+ghost use Rattle.config_file.specs.Include.{SpellsCondition, IsGitDir, IsOnBranch, HasUrl, Holds, EntryFollows};
 ghost use Rattle.config_file.specs.Include.{IsSameName, MatchesBelow, MatchesDir, IsRemoteUrl};
 ghost use Rattle.config_file.specs.Listing.{IsListed};
 ghost use Rattle.config_file.specs.Views.{entry_of};
@@ -67,7 +67,7 @@ pub struct Repository<'r> {
 impl<'c> Condition<'c> {
     /// The condition that the subsection of `includeIf` has as its text.
     pub fn parse(text: &'c [u8]) -> Condition<'c>
-        ensures { Names text.now result }
+        ensures { SpellsCondition text.now result }
     {
         if let Some(pattern) = text.strip_prefix(b"gitdir:") {
             return Condition::GitDir(pattern);

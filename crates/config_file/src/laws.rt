@@ -1,7 +1,7 @@
 //! Laws of configuration files, in addition to the contracts of calls.
 ghost use Rattle.std.specs.Prelude.{◌≡◌, ◌↔◌, ℕ, List, Option, Result, MatchResult, map, codes};
 ghost use Rattle.std.specs.List.{All};
-ghost use Rattle.config_file.specs.declared.errors.Error.{Error};
+ghost use Rattle.config_file.specs.declared.errors.FileError.{FileError};
 ghost use Rattle.config_file.specs.declared.key.KeyError.{KeyError};
 ghost use Rattle.config_file.specs.File.{Entry, IsFile};
 ghost use Rattle.config_file.specs.Value.{Ending, SpellsValue, escape};
@@ -16,21 +16,21 @@ pub mod walks;
 /// A text has at most one reading: all derivations give the same entries, and the same error if the text is
 /// refused. So no text is both accepted and refused.
 pub fn one_reading()
-    ensures { (text : List ℕ) (a b : List Entry) (e f : Option Error) → IsFile text a e → IsFile text b f
+    ensures { (text : List ℕ) (a b : List Entry) (e f : Option FileError) → IsFile text a e → IsFile text b f
         → (a ≡ b) × (e ≡ f) }
 {}
 
 /// Each text has a reading: it is a configuration file, or it is refused on a line.
 pub fn each_is_read()
-    ensures { (text : List ℕ) → (entries : List Entry) × (error : Option Error) × IsFile text entries error }
+    ensures { (text : List ℕ) → (entries : List Entry) × (error : Option FileError) × IsFile text entries error }
 {}
 
 /// Git lists each entry of a file under a key, and the value of an entry, if it has one, spells a text. That
 /// is also true of the entries before the line on which a text is refused.
 pub fn each_is_listed()
-    ensures keys { (text : List ℕ) (entries : List Entry) (error : Option Error) → IsFile text entries error
+    ensures keys { (text : List ℕ) (entries : List Entry) (error : Option FileError) → IsFile text entries error
         → All (λ entry. (key : List ℕ) × IsListed entry.section entry.key key) entries }
-    ensures values { (text : List ℕ) (entries : List Entry) (error : Option Error) → IsFile text entries error
+    ensures values { (text : List ℕ) (entries : List Entry) (error : Option FileError) → IsFile text entries error
         → All (λ entry. (raw : List ℕ) → entry.value ≡ Some raw
         → (spelled : List ℕ) × (ending : Ending) × SpellsValue raw spelled ending) entries }
 {}
@@ -46,7 +46,7 @@ pub fn one_key()
 /// An entry of a file has a key exactly if Git lists the entry under that key. This is true of each key that
 /// a text is cut into, also if Git refuses the text.
 pub fn keys_of_entries()
-    ensures { (text written : List ℕ) (entries : List Entry) (error : Option Error) (key : Key)
+    ensures { (text written : List ℕ) (entries : List Entry) (error : Option FileError) (key : Key)
         → IsFile text entries error → IsCut written key
         → All (λ entry. HasKey entry key ↔ IsListed entry.section entry.key (listed key)) entries }
 {}

@@ -35,7 +35,7 @@ pub mod walk;
 
 pub use crate::command::{CommandError, count_of, push_parameters, push_setting};
 pub use crate::entry::Entry;
-pub use crate::errors::Error as FileError;
+pub use crate::errors::{FileError, FileFault};
 pub use crate::files::{Content, Files};
 pub use crate::include::{Condition, Includes, Repository, Urls, is_remote_url};
 pub use crate::key::{Key, KeyError};
@@ -43,7 +43,7 @@ pub use crate::path::Directories;
 pub use crate::reader::Entries;
 pub use crate::scope::Scope;
 pub use crate::settings::{
-    AddError, GetError, IncludeFault, Next, Refused, Setting, Settings, next_of,
+    AddError, GetError, IncludeFault, Next, RefusedSetting, Setting, Settings, next_of,
 };
 pub use crate::url::Url;
-pub use crate::walk::{Frame, Include, Known, Place, Step, Walk};
+pub use crate::walk::{FilePlace, Frame, Include, Known, Step, Walk};

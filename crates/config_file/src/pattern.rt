@@ -82,7 +82,7 @@ fn crosses(starts: bool, more: &[u8], rest: &[u8]) -> bool
 
 /// A place in a match: what is left of the pattern and of the text, and whether a name starts there.
 #[derive(Clone, Copy)]
-struct Place<'t> {
+struct FilePlace<'t> {
     pattern: &'t [u8],
     text: &'t [u8],
     starts: bool,
@@ -93,12 +93,17 @@ struct Place<'t> {
 enum Found<'t> {
     Whole,
     Nothing,
-    Stars(Place<'t>),
+    Stars(FilePlace<'t>),
 }
 
 /// The place after the items at the front of the pattern, up to a star or the first item that does not match.
 #[tactic(auto, using(crate::proofs::Patterns::item_shortens))]
-fn after_items<'t>(pattern: &'t [u8], text: &'t [u8], starts: bool, ignores_case: bool) -> Place<'t>
+fn after_items<'t>(
+    pattern: &'t [u8],
+    text: &'t [u8],
+    starts: bool,
+    ignores_case: bool,
+) -> FilePlace<'t>
     ensures follows { Follows ignores_case starts pattern.now text.now
         result.starts result.pattern.now result.text.now }
     ensures within { length result.pattern.now ≤ length pattern.now }
@@ -106,7 +111,7 @@ fn after_items<'t>(pattern: &'t [u8], text: &'t [u8], starts: bool, ignores_case
         → (Matches ignores_case result.starts result.pattern.now result.text.now)
         ↔ ((result.pattern.now ≡ []) × (result.text.now ≡ [])) }
 {
-    let mut at = Place {
+    let mut at = FilePlace {
         pattern,
         text,
         starts,
@@ -118,7 +123,7 @@ fn after_items<'t>(pattern: &'t [u8], text: &'t [u8], starts: bool, ignores_case
         let Some(pattern) = after_item(at.pattern, byte, ignores_case) else {
             return at;
         };
-        at = Place {
+        at = FilePlace {
             pattern,
             text,
             starts: byte == b'/',
@@ -134,7 +139,7 @@ fn found_here<'t>(pattern: &'t [u8], text: &'t [u8], starts: bool, ignores_case:
 {
     let at = after_items(pattern, text, starts, ignores_case);
     match after_byte(b'*', at.pattern) {
-        Some(rest) => Found::Stars(Place {
+        Some(rest) => Found::Stars(FilePlace {
             pattern: rest,
             text: at.text,
             starts: at.starts,
@@ -184,7 +189,7 @@ fn found_deep<'t>(pattern: &'t [u8], text: &'t [u8], starts: bool, ignores_case:
         };
         let (more, rest) = stars(at.pattern);
         if crosses(at.starts, more, rest) {
-            return Found::Stars(Place {
+            return Found::Stars(FilePlace {
                 pattern: rest,
                 text: at.text,
                 starts: true,

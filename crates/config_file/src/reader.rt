@@ -6,7 +6,7 @@ ghost use Rattle.config_file.specs.Bytes.{BeginsWithLetter};
 
 use crate::bytes::{Class, is_at_line_end, is_blank, is_comment_sign, run, split};
 use crate::entry::{Entry, read_entry};
-use crate::errors::{Error, Stop, fault_at};
+use crate::errors::{FileError, Stop, fault_at};
 use crate::header::read_header;
 use crate::section::Section;
 
@@ -14,7 +14,7 @@ use crate::section::Section;
 /// the error, and nothing after that. It reads texts of any length in linear time.
 ///
 /// ```rust
-/// use config_file::errors::Fault;
+/// use config_file::errors::FileFault;
 /// use config_file::reader::Entries;
 ///
 /// let mut entries = Entries::new(b"[core]\n\tbare = false\n[remote \"origin\"");
@@ -23,7 +23,7 @@ use crate::section::Section;
 /// assert_eq!(rt; entry.line, 2);
 /// let error = entries.next().expect(&rt, "an error").unwrap_err();
 /// assert_eq!(rt; error.line, 4); // Git counts the end of the text after a closing quote
-/// assert!(rt; error.fault == Fault::BadLine);
+/// assert!(rt; error.fault == FileFault::BadLine);
 /// ```
 #[derive(Drop)]
 pub struct Entries<'a> {
@@ -110,7 +110,7 @@ impl<'a> Entries<'a> {
 
     /// The entry that begins with the next byte, or why it is refused.
     #[inline(always)]
-    fn entry_here(&mut self) -> Result<Entry<'a>, Error>
+    fn entry_here(&mut self) -> Result<Entry<'a>, FileError>
         requires { BeginsWithLetter self.old.rest.now }
         ensures gives { GivesEntry self.old (Some result) self.new }
         ensures shorter { length self.new.rest.now < length self.old.rest.now }
@@ -131,7 +131,7 @@ impl<'a> Entries<'a> {
     }
 
     /// Ends the reading with an error.
-    fn refused(&mut self, stop: Stop) -> Error
+    fn refused(&mut self, stop: Stop) -> FileError
         requires { self.old.line + stop.lines < 2 ^ 64 }
         ensures line { result.line ≡ self.old.line + stop.lines }
         ensures fault { result.fault ≡ stop.fault }
@@ -139,7 +139,7 @@ impl<'a> Entries<'a> {
         ensures end { self.new.rest.now ≡ [] }
     {
         self.rest = &[];
-        Error {
+        FileError {
             line: self.line + stop.lines,
             fault: stop.fault,
         }
@@ -150,7 +150,7 @@ impl<'a> Iterator for Entries<'a> {
     ghost use Rattle.std.specs.Iterator.{at_most};
     ghost use Rattle.config_file.specs.Left.{GivesEntry};
 
-    type Item = Result<Entry<'a>, Error>;
+    type Item = Result<Entry<'a>, FileError>;
 
     ghost next_gives = { GivesEntry };
 
@@ -159,7 +159,7 @@ impl<'a> Iterator for Entries<'a> {
     /// The next entry, or the error at which the text is refused. After the last entry and after an error it
     /// returns `None`.
     #[inline(always)]
-    fn next(&mut self) -> Option<Result<Entry<'a>, Error>> {
+    fn next(&mut self) -> Option<Result<Entry<'a>, FileError>> {
         'items: while let Some((byte, rest)) = split(self.rest) {
             if is_blank(byte) {
                 self.rest = rest;

@@ -5,7 +5,7 @@ ghost use Rattle.std.specs.Option.{ForSome};
 ghost use Rattle.config_path.specs.Interpolation.{known_in};
 ghost use Rattle.config_file.specs.Settings.{place_shown, text_shown, refused_shown, get_error_shown};
 ghost use Rattle.config_file.specs.Settings.{add_error_shown, include_fault_text, value_text, text_of, path_bytes};
-ghost use Rattle.config_file.specs.Settings.{IsSettingOf, Tells, ReadsSetting, IsPathOfSetting};
+ghost use Rattle.config_file.specs.Settings.{IsSettingOf, IsRefusalOf, ReadsSetting, IsPathOfSetting};
 ghost use Rattle.config_file.specs.Settings.{AddsFile, AddsWalk, AddsInScope, IsNext};
 ghost use Rattle.config_file.specs.Reading.Adds.{AddsEntry, AddsNext, AddsOnce, Decides};
 ghost use Rattle.config_file.specs.Settings.{AreListed, LacksKey, IsLast, AllWithKey, Gets, GetsWord};
@@ -16,13 +16,13 @@ ghost use Rattle.config_file.specs.Listing.{IsListed};
 ghost use Rattle.config_file.specs.Views.{entry_of};
 
 use crate::entry::Entry;
-use crate::errors::Error as FileError;
+use crate::errors::FileError;
 use crate::files::{Content, Files};
 use crate::key::{Key, KeyError};
 use crate::reader::Entries;
 use crate::scope::Scope;
 use crate::shown::Quoted;
-use crate::walk::{Include, Known, Place, Step, Walk};
+use crate::walk::{FilePlace, Include, Known, Step, Walk};
 use bstr::BStr;
 use config_path::interpolate::{Context, Error as PathError};
 use config_path::parts::{Parts, parts_of};
@@ -73,7 +73,7 @@ pub struct Setting<'t> {
 /// assert_eq!(rt; refused.setting.entry.line, 2);
 /// ```
 #[derive(Clone, Copy, Debug)]
-pub struct Refused<'s, 't, F> {
+pub struct RefusedSetting<'s, 't, F> {
     /// The setting.
     pub setting: &'s Setting<'t>,
     /// Why its text is refused.
@@ -115,7 +115,7 @@ impl fmt::Display for TextOf<'_, '_> {
     }
 }
 
-impl<F: fmt::Display> fmt::Display for Refused<'_, '_, F> {
+impl<F: fmt::Display> fmt::Display for RefusedSetting<'_, '_, F> {
     ghost output = { λ refused. option_map (refused_shown refused.setting.now) (F.output refused.fault) };
 
     /// Writes `FILE:LINE: KEY: reason: "text"`, with the key as it is written in the file. In the text
@@ -242,7 +242,7 @@ pub enum GetError<'s, 't> {
     /// Its last setting is a key alone, which the type does not accept.
     NoValue(&'s Setting<'t>),
     /// The text of its last setting has no value of the type.
-    Refused(Refused<'s, 't, Fault>),
+    Refused(RefusedSetting<'s, 't, Fault>),
     /// The text of its last setting is none of the words: [`Settings::one_of`].
     NoWord(&'s Setting<'t>),
 }
@@ -251,12 +251,12 @@ impl fmt::Display for GetError<'_, '_> {
     ghost output = { λ error. Some (get_error_shown error) };
 
     /// Writes the reason that a text is no key, or `FILE:LINE: KEY: reason`, followed by `: "text"` if the
-    /// setting has a text, as a [`Refused`] is written.
+    /// setting has a text, as a [`RefusedSetting`] is written.
     fn fmt<W: fmt::Write>(&self, f: &mut fmt::Formatter<W>) -> fmt::Result {
         match self {
             GetError::Key(error) => write!(f, "{error}"),
             GetError::NoValue(setting) => write!(f, "{}no value", PlaceOf(setting)),
-            GetError::Refused(Refused { setting, fault }) => {
+            GetError::Refused(RefusedSetting { setting, fault }) => {
                 write!(f, "{}{}{}", PlaceOf(setting), fault.text(), TextOf(setting))
             }
             GetError::NoWord(setting) => {
@@ -315,17 +315,17 @@ impl<'t> Setting<'t> {
     }
 
     /// A refusal of this setting, with this fault.
-    pub fn refused<F>(&self, fault: F) -> Refused<'_, 't, F>
-        ensures { Tells self.now fault result }
+    pub fn refused<F>(&self, fault: F) -> RefusedSetting<'_, 't, F>
+        ensures { IsRefusalOf self.now fault result }
     {
-        Refused {
+        RefusedSetting {
             setting: self,
             fault,
         }
     }
 
     /// The value of the text, or a refusal with the place of the entry.
-    pub fn read<V: TryRead>(&self) -> Result<V, Refused<'_, 't, Fault>>
+    pub fn read<V: TryRead>(&self) -> Result<V, RefusedSetting<'_, 't, Fault>>
         ensures { ReadsSetting V.grammar V.refusal self.now result }
     {
         match V::try_read(self.text()) {
@@ -380,7 +380,7 @@ impl<'t> Setting<'t> {
     pub fn path<'s, 'c, F>(
         &'s self,
         context: Context<'c, F>,
-    ) -> Result<(bool, Parts<'c, 's>), Refused<'s, 't, PathError<'s>>>
+    ) -> Result<(bool, Parts<'c, 's>), RefusedSetting<'s, 't, PathError<'s>>>
     where
         F: FnOnce(&str) -> Option<&'c str> + Drop,
         requires { ForSome context.home_for_user (λ f. (name : _) → IsUtf8 name.now → F.pre f name) }
@@ -460,7 +460,7 @@ pub enum Next<'t> {
     /// Behind it: the entry includes no file, or there is no such file.
     Behind,
     /// In the file at this place, which has this text.
-    In(Place<'t>, &'t [u8]),
+    In(FilePlace<'t>, &'t [u8]),
     /// Not at all, as Git stops here.
     Stops(IncludeFault<'t>),
 }
@@ -544,7 +544,7 @@ impl<'t> Settings<'t> {
         alloc: Global,
         files: &S,
         known: &Known<'_>,
-        place: Place<'t>,
+        place: FilePlace<'t>,
         text: &'t [u8],
     ) -> Result<(), AddError<'t>>
         ensures adds { AddsWalk (S.contents files.now) known.now place.entry text.now

@@ -27,7 +27,7 @@ use crate::key::Key;
 use crate::settings::{Setting, Settings};
 use crate::url::host::{port_of, stands_for_host};
 use crate::url::normal::normal;
-use crate::url::parts::{Parts, read_parts};
+use crate::url::parts::{SplitUrl, read_parts};
 use crate::url::path::path_of;
 use crate::url::pieces::cut_piece;
 use std::alloc::{AllocError, Global};
@@ -180,7 +180,7 @@ impl Url {
     }
 
     /// The URL of these parts.
-    fn of_parts(alloc: Global, parts: Parts<'_>) -> Result<Option<Url>, AllocError>
+    fn of_parts(alloc: Global, parts: SplitUrl<'_>) -> Result<Option<Url>, AllocError>
         requires { list_all is_ascii_digit (unwrap_or (option_copied parts.port) []) ≡ true }
         ensures { IfOk result (λ found. MatchOption found
             ((u : spec.Url) → ¬ (IsForm (parts_of parts.entry) u))

@@ -10,7 +10,7 @@ ghost use Rattle.config_file.specs.Reading.Scans.{unescape};
 use crate::bytes::{
     Class, after_byte, before, is_blank, is_comment_sign, is_text_byte, line_feeds, run, split,
 };
-use crate::errors::{Fault, Stop, fault_at};
+use crate::errors::{FileFault, Stop, fault_at};
 use std::alloc::{AllocError, Global};
 use std::borrow::CowSlice;
 
@@ -230,11 +230,11 @@ fn end<'a>(text: &'a [u8], at: &'a [u8], quoted: bool) -> Result<Taken<'a>, Stop
         });
     }
     match fault_at(at) {
-        Fault::Nul => Err(Stop {
+        FileFault::Nul => Err(Stop {
             lines,
-            fault: Fault::Nul,
+            fault: FileFault::Nul,
         }),
-        Fault::BadLine => Ok(Taken {
+        FileFault::BadLine => Ok(Taken {
             value: Value { raw },
             lines,
             rest: at,
@@ -265,7 +265,7 @@ fn end_after_backslash<'a>(
     if quoted {
         return Err(Stop {
             lines: line_feeds(before(text, at)) + 1,
-            fault: Fault::BadLine,
+            fault: FileFault::BadLine,
         });
     }
     Ok(Taken {

@@ -7,7 +7,7 @@ ghost use Rattle.config_file.specs.Walk.{Content, IsNameOf, IsInclude};
 ghost use Rattle.config_file.specs.Reading.Walks.{Enters, Takes};
 
 use crate::entry::Entry;
-use crate::errors::Error;
+use crate::errors::FileError;
 use crate::include::Includes;
 use crate::path::{Directories, expand, included_name, joined};
 use crate::reader::Entries;
@@ -17,15 +17,15 @@ use std::alloc::{AllocError, Global};
 /// Where a file is.
 ///
 /// ```rust
-/// use config_file::Place;
+/// use config_file::FilePlace;
 /// use config_file::path::included_name;
 ///
-/// let place = Place { name: b"/home/ann/.gitconfig", real_dir: b"/home/ann" };
+/// let place = FilePlace { name: b"/home/ann/.gitconfig", real_dir: b"/home/ann" };
 /// let name = included_name(alloc, place.name, b"more")?;
 /// assert_eq!(rt; name.as_slice(), b"/home/ann/more".as_slice());
 /// ```
 #[derive(Clone, Copy)]
-pub struct Place<'t> {
+pub struct FilePlace<'t> {
     /// The name of the file, as it is included.
     pub name: &'t [u8],
     /// The absolute path of its directory, with all links resolved and no `/` at its end. Only conditions
@@ -36,14 +36,14 @@ pub struct Place<'t> {
 /// What a walk over files knows.
 ///
 /// ```rust
-/// use config_file::{Directories, Entries, Include, Includes, Known, Place, Urls};
+/// use config_file::{Directories, Entries, FilePlace, Include, Includes, Known, Urls};
 /// use config_file::walk::include_of;
 ///
 /// let known = Known {
 ///     directories: Directories { home: Some(b"/home/ann"), install_dir: None },
 ///     includes: Includes::AsGit(None, Urls::Known(&[])), // outside of any repository
 /// };
-/// let place = Place { name: b"/etc/gitconfig", real_dir: b"/etc" };
+/// let place = FilePlace { name: b"/etc/gitconfig", real_dir: b"/etc" };
 /// let entry = Entries::new(b"[include]path = ~/b").next().expect(&rt, "an entry").expect(&rt, "no error");
 /// let Include::Named(name) = include_of(alloc, &known, place, &entry)? else {
 ///     panic!(rt; "the name of a file");
@@ -61,12 +61,12 @@ pub struct Known<'k> {
 /// What an entry includes.
 ///
 /// ```rust
-/// use config_file::{Directories, Entries, Include, Includes, Known, Place};
+/// use config_file::{Directories, Entries, FilePlace, Include, Includes, Known};
 /// use config_file::walk::include_of;
 ///
 /// let directories = Directories { home: None, install_dir: None };
 /// let known = Known { directories, includes: Includes::All };
-/// let place = Place { name: b".git/config", real_dir: b"/a/.git" };
+/// let place = FilePlace { name: b".git/config", real_dir: b"/a/.git" };
 /// let mut entries = Entries::new(b"[include]\n\tpath\n\tpath = ~/b\n[core]\n\tbare");
 /// let first = entries.next().expect(&rt, "an entry").expect(&rt, "no error");
 /// assert!(rt; matches!(include_of(alloc, &known, place, &first)?, Include::MissingValue));
@@ -110,7 +110,7 @@ fn name_of(
 pub fn include_of(
     alloc: Global,
     known: &Known<'_>,
-    place: Place<'_>,
+    place: FilePlace<'_>,
     entry: &Entry<'_>,
 ) -> Result<Include, AllocError>
     ensures { IfOk result (λ include. IsInclude known.now place.entry (entry_of entry.now) include) }
@@ -131,9 +131,9 @@ pub fn include_of(
 /// A file that a walk is in, and the entries that are left of it.
 ///
 /// ```rust
-/// use config_file::{Entries, Frame, Place, Walk};
+/// use config_file::{Entries, FilePlace, Frame, Walk};
 ///
-/// let place = Place { name: b"/etc/gitconfig", real_dir: b"/etc" };
+/// let place = FilePlace { name: b"/etc/gitconfig", real_dir: b"/etc" };
 /// let walk = Walk::new(place, b"[core]\n\tbare");
 /// let mut same = Walk::default();
 /// for frame in walk.frames() {
@@ -146,7 +146,7 @@ pub fn include_of(
 #[derive(Drop)]
 pub struct Frame<'t> {
     /// Where the file is.
-    pub place: Place<'t>,
+    pub place: FilePlace<'t>,
     /// What is left of it.
     pub entries: Entries<'t>,
 }
@@ -155,7 +155,7 @@ impl Default for Frame<'_> {
     ghost is_default = { λ frame. (frame.place.name.now ≡ []) × (frame.place.real_dir.now ≡ []) };
 
     fn default() -> Self {
-        let place = Place {
+        let place = FilePlace {
             name: b"",
             real_dir: b"",
         };
@@ -169,11 +169,11 @@ impl Default for Frame<'_> {
 /// A step of a walk.
 ///
 /// ```rust
-/// use config_file::{Directories, Includes, Known, Place, Step, Walk};
+/// use config_file::{Directories, FilePlace, Includes, Known, Step, Walk};
 ///
 /// let directories = Directories { home: None, install_dir: None };
 /// let known = Known { directories, includes: Includes::All };
-/// let mut walk = Walk::new(Place { name: b"config", real_dir: b"/a" }, b"[core]\n\tbare\n[us er]");
+/// let mut walk = Walk::new(FilePlace { name: b"config", real_dir: b"/a" }, b"[core]\n\tbare\n[us er]");
 /// assert!(rt; matches!(walk.next(alloc, &known)?, Step::Entry(_, entry, _) if entry.line == 2));
 /// assert!(rt; matches!(walk.next(alloc, &known)?, Step::Line(_, error) if error.line == 3));
 /// assert!(rt; matches!(walk.next(alloc, &known)?, Step::Ends));
@@ -181,9 +181,9 @@ impl Default for Frame<'_> {
 #[derive(Drop)]
 pub enum Step<'t> {
     /// An entry of the file at this place, and what it includes.
-    Entry(Place<'t>, Entry<'t>, Include),
+    Entry(FilePlace<'t>, Entry<'t>, Include),
     /// A line of the file at this place that Git cannot read. The file ends there.
-    Line(Place<'t>, Error),
+    Line(FilePlace<'t>, FileError),
     /// The walk has ended.
     Ends,
 }
@@ -197,18 +197,18 @@ pub enum Step<'t> {
 /// all the same. A walk takes no memory, and it borrows from the texts.
 ///
 /// ```rust
-/// use config_file::{Directories, Include, Includes, Known, Place, Step, Urls, Walk};
+/// use config_file::{Directories, FilePlace, Include, Includes, Known, Step, Urls, Walk};
 ///
 /// let known = Known {
 ///     directories: Directories { home: None, install_dir: None },
 ///     includes: Includes::AsGit(None, Urls::Known(&[])),
 /// };
-/// let place = Place { name: b"/etc/gitconfig", real_dir: b"/etc" };
+/// let place = FilePlace { name: b"/etc/gitconfig", real_dir: b"/etc" };
 /// let mut walk = Walk::new(place, b"[include]\n\tpath = more\n[core]\n\tbare");
 /// match walk.next(alloc, &known)? {
 ///     Step::Entry(_, _, Include::Named(name)) => {
 ///         assert_eq!(rt; name.as_slice(), b"/etc/more".as_slice());
-///         let place = Place { name: b"/etc/more", real_dir: b"/etc" };
+///         let place = FilePlace { name: b"/etc/more", real_dir: b"/etc" };
 ///         assert!(rt; walk.enter(place, b"[user]\n\tname = Ann"));
 ///     }
 ///     _ => panic!(rt; "an include"),
@@ -240,7 +240,7 @@ impl Default for Walk<'_> {
 
 impl<'t> Walk<'t> {
     /// A walk over the text of the file at this place.
-    pub fn new(place: Place<'t>, text: &'t [u8]) -> Walk<'t>
+    pub fn new(place: FilePlace<'t>, text: &'t [u8]) -> Walk<'t>
         ensures { Enters [] place.entry text.now result.frames.items }
     {
         let mut frames = ArrayVec::new();
@@ -253,7 +253,7 @@ impl<'t> Walk<'t> {
 
     /// Goes on in the text of an included file. Returns false, and changes nothing, if the file is more than
     /// ten includes deep.
-    pub fn enter(&mut self, place: Place<'t>, text: &'t [u8]) -> bool
+    pub fn enter(&mut self, place: FilePlace<'t>, text: &'t [u8]) -> bool
         ensures entered { result ≡ true
             → Enters self.old.frames.items place.entry text.now self.new.frames.items }
         ensures too_deep { result ≡ false

@@ -7,9 +7,9 @@ use crate::names::{answer, copied, inside, real_name, split_last, text_of};
 use bstr::BStr;
 use bumpalo::Bump;
 use bumpalo::collections::into_bump_slice;
-use config_file::errors::Fault;
+use config_file::errors::FileFault;
 use config_file::reader::Entries;
-use config_file::{Content, Files, Place};
+use config_file::{Content, FilePlace, Files};
 use std::alloc::{AllocError, Global};
 use std::fs::{self, File, FileType, OpenFile};
 use std::io::{self, ErrorKind, Read};
@@ -98,7 +98,7 @@ fn is_refused(text: &[u8]) -> bool {
     let lines = text.iter().filter(|byte| **byte == b'\n').count();
     for entry in Entries::new(text) {
         if let Err(error) = entry {
-            return error.fault == Fault::Nul || error.line < lines;
+            return error.fault == FileFault::Nul || error.line < lines;
         }
     }
     false
@@ -321,7 +321,7 @@ impl<'t, R: Host> Disk<'t, R> {
     }
 
     /// The place of the file of this name.
-    pub fn place(&self, name: &[u8]) -> Result<Place<'t>, AllocError>
+    pub fn place(&self, name: &[u8]) -> Result<FilePlace<'t>, AllocError>
         ensures { IfOk result (λ place. place.name.now ≡ name.now) }
     {
         let real = self.real_name(name)?;
@@ -329,14 +329,14 @@ impl<'t, R: Host> Disk<'t, R> {
             Some((folder, _)) => folder,
             None => b"",
         };
-        Ok(Place {
+        Ok(FilePlace {
             name: self.texts.try_alloc_slice_copy(name)?,
             real_dir: self.kept(folder)?,
         })
     }
 
     /// The text of a file that the user names, or that Git reads by itself. It may be a pipe or a terminal.
-    pub fn first(&self, name: &[u8]) -> Result<(Place<'t>, &'t [u8]), ReadError> {
+    pub fn first(&self, name: &[u8]) -> Result<(FilePlace<'t>, &'t [u8]), ReadError> {
         let text = self.read_file(name, true)?;
         Ok((self.place(name)?, text))
     }

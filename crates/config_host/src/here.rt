@@ -7,7 +7,7 @@ use crate::names::copied;
 use crate::reading::{seek_urls, settings_at};
 use crate::repository::{Location, find};
 use crate::sources::{Named, Source, is_there, names};
-use crate::surroundings::{Repository, Surroundings};
+use crate::surroundings::{RepositoryBuf, Surroundings};
 use bumpalo::Bump;
 use config_file::Settings;
 use std::io::{self, ErrorKind};
@@ -38,7 +38,7 @@ pub struct Here<'t> {
 fn settings_in<'t, R: Host>(
     disk: &Disk<'t, R>,
     folder: &[u8],
-    repository: Option<Repository>,
+    repository: Option<RepositoryBuf>,
 ) -> Result<Settings<'t>, HereError<'t>> {
     let inner = disk.within(folder)?;
     let names = names(disk.host, repository.as_ref())?;

@@ -5,10 +5,10 @@ use crate::disk::Disk;
 use crate::environment::Host;
 use crate::error::HereError;
 use crate::sources::{Named, Source, sources};
-use crate::surroundings::{Followed, Repository, Surroundings, has_includes};
+use crate::surroundings::{Followed, RepositoryBuf, Surroundings, has_includes};
 use config_file::{
-    AddError, Condition, Entry, Include, IncludeFault, Known, Next, Place, Settings, Step, Walk,
-    is_remote_url, next_of,
+    AddError, Condition, Entry, FilePlace, Include, IncludeFault, Known, Next, Settings, Step,
+    Walk, is_remote_url, next_of,
 };
 use std::alloc::{AllocError, Global};
 use std::io;
@@ -35,7 +35,7 @@ use std::io;
 #[derive(Drop)]
 pub struct Taken<'t> {
     /// The file in which it is.
-    pub place: Place<'t>,
+    pub place: FilePlace<'t>,
     /// The entry.
     pub entry: Entry<'t>,
     /// How many files the walk was in, each included by the one before.
@@ -333,7 +333,10 @@ fn add<'t, R: Host>(
 }
 
 /// What includes ask about where this is the repository.
-fn around<'t, R: Host>(host: &R, repository: Option<Repository>) -> io::Result<Surroundings<'t>> {
+fn around<'t, R: Host>(
+    host: &R,
+    repository: Option<RepositoryBuf>,
+) -> io::Result<Surroundings<'t>> {
     let mut surroundings = Surroundings::new(host, Followed::AsGit)?;
     surroundings.set_repository(host, repository)?;
     Ok(surroundings)
@@ -344,7 +347,7 @@ fn around<'t, R: Host>(host: &R, repository: Option<Repository>) -> io::Result<S
 pub(crate) fn settings_at<'t, R: Host>(
     disk: &Disk<'t, R>,
     names: &[Named],
-    repository: Option<Repository>,
+    repository: Option<RepositoryBuf>,
 ) -> Result<Settings<'t>, HereError<'t>> {
     let mut surroundings = around(disk.host, repository)?;
     settings_of(disk, &mut surroundings, &sources(disk, names)?)

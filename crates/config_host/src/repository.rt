@@ -7,7 +7,7 @@ use crate::format::{Format, format_in, take_own_file};
 use crate::head::branch_of;
 use crate::names::{copied, inside, resolved};
 use crate::search::{Folder, Form, Found, GitDir, opened_folder, search, shared_folder};
-use crate::surroundings::Repository;
+use crate::surroundings::RepositoryBuf;
 use std::io::{self, ErrorKind};
 
 /// Where Git works once it has looked for the repository of a folder.
@@ -27,7 +27,7 @@ pub struct Location<'t> {
     /// itself.
     pub folder: Vec<u8>,
     /// The repository whose settings Git reads, if there is one.
-    pub repository: Option<Repository>,
+    pub repository: Option<RepositoryBuf>,
     /// Why Git uses no repository although one is there.
     pub refusal: Option<Refusal>,
     /// Where Git stops as it looks for the repository.
@@ -46,7 +46,7 @@ impl<'t> Location<'t> {
     }
 
     /// The repository that Git uses there, or why it stops.
-    pub fn used(self) -> Result<Option<Repository>, HereError<'t>> {
+    pub fn used(self) -> Result<Option<RepositoryBuf>, HereError<'t>> {
         let Location {
             repository,
             stop,
@@ -190,9 +190,9 @@ fn repository_in<R: Host>(
     git_dir: &GitDir,
     shared: Option<&[u8]>,
     has_worktree_files: bool,
-) -> io::Result<Repository> {
+) -> io::Result<RepositoryBuf> {
     let path = inside(host, path, &named_dir)?;
-    Ok(Repository {
+    Ok(RepositoryBuf {
         real_git_dir: resolved(host, &git_dir.name, &path)?,
         branch: branch_of(host, &git_dir.name)?,
         common_dir: shown_shared(host, shared, &named_dir)?,

@@ -6,9 +6,9 @@ use crate::environment::{Host, variable};
 use crate::error::HereError;
 use crate::lines::is_on;
 use crate::names::{below, copied, exists};
-use crate::surroundings::Repository;
+use crate::surroundings::RepositoryBuf;
 use bstr::ByteSlice;
-use config_file::{Place, Scope};
+use config_file::{FilePlace, Scope};
 use std::alloc::AllocError;
 use std::io;
 
@@ -58,7 +58,7 @@ pub struct Source<'t> {
     /// Where Git has it from.
     pub scope: Scope,
     /// Where the file is. The settings of a command have the name `command line`.
-    pub place: Place<'t>,
+    pub place: FilePlace<'t>,
     /// The text of the file, or the settings of a command as the text of a file.
     pub text: &'t [u8],
     /// Whether it is the text of a file, in whose folder the names of what it includes begin.
@@ -67,7 +67,7 @@ pub struct Source<'t> {
 
 /// The settings of a command as a file. No name begins with the NUL of its folder, so that no condition on a
 /// folder below it holds, as in Git.
-const COMMAND: Place<'static> = Place {
+const COMMAND: FilePlace<'static> = FilePlace {
     name: b"command line",
     real_dir: b"\0",
 };
@@ -141,7 +141,7 @@ fn shown_name<R: Host>(host: &R, folder: &[u8], name: &[u8]) -> io::Result<Vec<u
 fn push_repository<R: Host>(
     host: &R,
     names: &mut Vec<Named>,
-    repository: &Repository,
+    repository: &RepositoryBuf,
 ) -> io::Result<()> {
     let shared = shown_name(host, &repository.common_dir, b"config")?;
     push(names, Scope::Local, shared)?;
@@ -161,7 +161,7 @@ pub(crate) fn protected_names<R: Host>(host: &R) -> io::Result<Vec<Named>> {
 }
 
 /// The files that Git reads, whether they are there or not. They come in the order in which it reads them.
-pub fn names<R: Host>(host: &R, repository: Option<&Repository>) -> io::Result<Vec<Named>> {
+pub fn names<R: Host>(host: &R, repository: Option<&RepositoryBuf>) -> io::Result<Vec<Named>> {
     let mut names = protected_names(host)?;
     if let Some(repository) = repository {
         push_repository(host, &mut names, repository)?;

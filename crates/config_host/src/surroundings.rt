@@ -3,7 +3,7 @@
 use crate::environment::{Host, variable};
 use crate::names::resolved;
 use bstr::ByteSlice;
-use config_file::{Directories, Includes, Known, Repository as Conditions, Urls};
+use config_file::{Directories, Includes, Known, Repository, Urls};
 use std::alloc::AllocError;
 use std::io;
 
@@ -75,7 +75,7 @@ pub enum Followed {
 /// }
 /// ```
 #[derive(Drop)]
-pub struct Repository {
+pub struct RepositoryBuf {
     /// The absolute path of the git directory, with its links resolved.
     pub real_git_dir: Vec<u8>,
     /// The absolute path of the git directory, with its links kept.
@@ -110,7 +110,7 @@ pub struct Surroundings<'t> {
     followed: Followed,
     home: Option<Vec<u8>>,
     real_home: Option<Vec<u8>>,
-    repository: Option<Repository>,
+    repository: Option<RepositoryBuf>,
     urls: Vec<&'t [u8]>,
     is_known: bool,
     are_sought: bool,
@@ -149,7 +149,7 @@ impl<'t> Surroundings<'t> {
     pub fn set_repository<R: Host>(
         &mut self,
         host: &R,
-        repository: Option<Repository>,
+        repository: Option<RepositoryBuf>,
     ) -> io::Result<()> {
         self.repository = repository;
         if let Some(home) = &self.home {
@@ -166,7 +166,7 @@ impl<'t> Surroundings<'t> {
     }
 
     /// The repository, or `None` if there is none, or if it is not known yet.
-    pub fn repository(&self) -> Option<&Repository> {
+    pub fn repository(&self) -> Option<&RepositoryBuf> {
         self.repository.as_ref()
     }
 
@@ -194,9 +194,9 @@ impl<'t> Surroundings<'t> {
         }
     }
 
-    fn conditions(&self) -> Option<Conditions<'_>> {
+    fn conditions(&self) -> Option<Repository<'_>> {
         let repository = self.repository.as_ref()?;
-        Some(Conditions {
+        Some(Repository {
             real_git_dir: &repository.real_git_dir,
             git_dir: &repository.git_dir,
             branch: repository.branch.as_deref(),

@@ -3,7 +3,7 @@
 use crate::output::{Ending, tell};
 use crate::request::{Override, Request, Style, Subject, Texts};
 use bumpalo::Bump;
-use config_file::{Place, Scope, push_setting};
+use config_file::{FilePlace, Scope, push_setting};
 use config_host::disk::ReadError;
 use config_host::environment::variable;
 use config_host::reading::seek_urls;
@@ -28,8 +28,8 @@ pub struct Opened<'t> {
 }
 
 /// The place of settings that are in no file. No folder is above it, so that no condition on one holds.
-fn place_of(name: &'static [u8]) -> Place<'static> {
-    Place {
+fn place_of(name: &'static [u8]) -> FilePlace<'static> {
+    FilePlace {
         name,
         real_dir: b"\0",
     }

@@ -5,8 +5,8 @@ use Rattle.std.specs.Cow.{cow_slice_items}
 use Rattle.config_file.specs.File.{Entry}
 use Rattle.config_file.specs.Listing.{IsListed}
 use Rattle.config_file.specs.Value.{Ending, SpellsValue}
-use Rattle.config_file.specs.declared.errors.Fault.{Fault}
-use Rattle.config_file.specs.declared.errors.Fault.TheVariants.{BadLine, Nul}
+use Rattle.config_file.specs.declared.errors.FileFault.{FileFault}
+use Rattle.config_file.specs.declared.errors.FileFault.TheVariants.{BadLine, Nul}
 use Rattle.gix_config_value_c.specs.declared.files.Setting.{Setting}
 use Rattle.gix_config_value_c.specs.declared.status.Status.{Status}
 use Rattle.gix_config_value_c.specs.declared.status.Status.TheVariants as statuses
@@ -36,6 +36,6 @@ abbrev pub setting_bytes : Setting → List ℕ
 setting_bytes s = ended s.key.items ++ option_map_or ended (value_of s) []
 
 -- the status for the fault of a refused line
-abbrev pub fault_status : Fault → Status
+abbrev pub fault_status : FileFault → Status
 fault_status BadLine = statuses.BadLine
 fault_status Nul = statuses.Nul

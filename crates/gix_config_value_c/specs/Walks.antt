@@ -9,7 +9,7 @@ use Rattle.config_file.specs.Views.{entry_of}
 use Rattle.config_file.specs.Walk.{Content}
 use Rattle.config_file.specs.Reading.Walks.{Enters, Takes}
 use Rattle.config_file.specs.declared.entry.Entry as code
-use Rattle.config_file.specs.declared.errors.Error.{Error}
+use Rattle.config_file.specs.declared.errors.FileError.{FileError}
 use Rattle.config_file.specs.declared.include.Includes.{Includes}
 use Rattle.config_file.specs.declared.include.Includes.TheVariants.{AsGit, Skipped}
 use Rattle.config_file.specs.declared.include.Repository.{Repository}
@@ -20,7 +20,7 @@ use Rattle.config_file.specs.declared.walk.Frame.{Frame}
 use Rattle.config_file.specs.declared.walk.Include.{Include}
 use Rattle.config_file.specs.declared.walk.Include.TheVariants.{NotFollowed, MissingValue, UnknownDirectory, Named}
 use Rattle.config_file.specs.declared.walk.Known.{Known}
-use Rattle.config_file.specs.declared.walk.Place.{Place}
+use Rattle.config_file.specs.declared.walk.FilePlace.{FilePlace}
 use Rattle.config_file.specs.declared.walk.Step.{Step}
 use Rattle.config_file.specs.declared.walk.Step.TheVariants as step
 use Rattle.gix_config_value_c.specs.declared.files.Setting.{Setting}
@@ -56,7 +56,7 @@ pub record HoldsFrame (frame : GcvFrame) (held : Frame) : Type 0 where
 -- directory; or there are eleven frames already
 pub data EntersInto (count : ℕ) (frame : GcvFrame) (name real_dir text : List ℕ) (count' : ℕ) (frame' : GcvFrame)
     (status : ℕ) : Type 0 where
-  entered : (place : Place) (held : Frame) → count < 11 → place.name.now ≡ name → place.real_dir.now ≡ real_dir
+  entered : (place : FilePlace) (held : Frame) → count < 11 → place.name.now ≡ name → place.real_dir.now ≡ real_dir
       → Enters [] place text (held ∷ []) → HoldsFrame frame' held → count' ≡ count + 1
       → status ≡ status_number statuses.Ok
       → EntersInto count frame name real_dir text count' frame' status
@@ -118,7 +118,7 @@ AreTextsOf entry include texts = (setting : Setting) × IsSettingOf entry settin
     × (texts.has_value ≡ option_map_or (λ v. 1) (value_of setting) 0)
 
 -- what is told of an entry
-abbrev pub step_struct : Place → code.Entry → Include → Texts → GcvStep
+abbrev pub step_struct : FilePlace → code.Entry → Include → Texts → GcvStep
 step_struct place entry include texts = record {
   name = place.name;
   line = entry.line;
@@ -130,7 +130,7 @@ step_struct place entry include texts = record {
 }
 
 -- what is told of a line that is refused
-abbrev pub line_struct : Place → Error → GcvStep
+abbrev pub line_struct : FilePlace → FileError → GcvStep
 line_struct place error = record {
   name = place.name;
   line = error.line;
@@ -147,14 +147,14 @@ StepsFrom frames given step new = (known : Known) × (old : List Frame) × IsKno
     × (length old ≤ 11) × AllZip HoldsFrame frames old × ((answers : List (List ℕ × Content)) → Takes answers known old step new)
 
 -- the step is told: an entry with its texts, a line that is refused, or the end of the walk
-abbrev pub Tells : Step → List ℕ → List ℕ → GcvStep → GcvStep → ℕ → Type 0
-Tells (step.Entry place entry include) buffer buffer' out out' status =
+abbrev pub TellsStep : Step → List ℕ → List ℕ → GcvStep → GcvStep → ℕ → Type 0
+TellsStep (step.Entry place entry include) buffer buffer' out out' status =
     (texts : Texts) × AreTextsOf (entry_of entry) include texts × (out' ≡ step_struct place entry include texts)
     × (length texts.bytes.items ≤ length buffer)
     × (buffer' ≡ texts.bytes.items ++ drop (length texts.bytes.items) buffer) × (status ≡ status_number statuses.Ok)
-Tells (step.Line place error) buffer buffer' out out' status = (buffer' ≡ buffer)
+TellsStep (step.Line place error) buffer buffer' out out' status = (buffer' ≡ buffer)
     × (out' ≡ line_struct place error) × (status ≡ status_number (fault_status error.fault))
-Tells step.Ends buffer buffer' out out' status =
+TellsStep step.Ends buffer buffer' out out' status =
     (buffer' ≡ buffer) × (out' ≡ out) × (status ≡ status_number statuses.Absent)
 
 -- A step is taken and told, and the first frames hold the walk that is left, as many as are told. Or the buffer is too short for the
@@ -162,9 +162,9 @@ Tells step.Ends buffer buffer' out out' status =
 pub data NextInto (frames : List GcvFrame) (count : ℕ) (known : GcvKnown) (buffer : List ℕ) (out : GcvStep)
     (frames' : List GcvFrame) (count' : ℕ) (buffer' : List ℕ) (out' : GcvStep) (status : ℕ) : Type 0 where
   told : (taken : Step) (new : List Frame) → StepsFrom frames known taken new
-      → count' ≡ length new → AllZip HoldsFrame (take count' frames') new → Tells taken buffer buffer' out out' status
+      → count' ≡ length new → AllZip HoldsFrame (take count' frames') new → TellsStep taken buffer buffer' out out' status
       → NextInto frames count known buffer out frames' count' buffer' out' status
-  short : (place : Place) (entry : code.Entry) (include : Include) (new : List Frame) (texts : Texts)
+  short : (place : FilePlace) (entry : code.Entry) (include : Include) (new : List Frame) (texts : Texts)
       → StepsFrom frames known (step.Entry place entry include) new → AreTextsOf (entry_of entry) include texts
       → length buffer < length texts.bytes.items → out' ≡ step_struct place entry include texts
       → frames' ≡ frames → count' ≡ count → buffer' ≡ buffer → status ≡ status_number statuses.ShortBuffer

@@ -8,7 +8,7 @@ ghost use Rattle.gix_config_value_c.specs.Numbers.{status_number};
 
 use crate::status::Status;
 use config_file::entry::Entry;
-use config_file::errors::Fault;
+use config_file::errors::FileFault;
 use std::alloc::{AllocError, Global};
 use std::borrow::CowSlice;
 
@@ -66,11 +66,11 @@ pub(crate) fn push_value(
 }
 
 /// Returns the status for the fault of a refused line.
-pub(crate) fn fault_status(fault: Fault) -> u32
+pub(crate) fn fault_status(fault: FileFault) -> u32
     ensures { result ≡ status_number (status_of fault) }
 {
     match fault {
-        Fault::BadLine => Status::BadLine as u32,
-        Fault::Nul => Status::Nul as u32,
+        FileFault::BadLine => Status::BadLine as u32,
+        FileFault::Nul => Status::Nul as u32,
     }
 }

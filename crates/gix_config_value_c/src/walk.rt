@@ -18,11 +18,11 @@ use crate::files::{Setting, fault_status, push_text, push_value};
 use crate::numbers::flag_of;
 use crate::paths::given;
 use crate::status::Status;
-use config_file::errors::Error;
+use config_file::errors::FileError;
 use config_file::section::{Section, Subsection};
 use config_file::{
-    Directories, Entries, Entry, Frame, Include, Includes, Known, Place, Repository, Step, Urls,
-    Walk,
+    Directories, Entries, Entry, FilePlace, Frame, Include, Includes, Known, Repository, Step,
+    Urls, Walk,
 };
 use std::alloc::{AllocError, Global};
 
@@ -141,7 +141,7 @@ fn frame_of<'t>(frame: &GcvFrame<'t>) -> Option<Frame<'t>>
 {
     let section = section_of(frame)?;
     let entries = Entries::resume(section, frame.line, frame.rest)?;
-    let place = Place {
+    let place = FilePlace {
         name: frame.name,
         real_dir: frame.real_dir,
     };
@@ -152,7 +152,7 @@ fn frame_of<'t>(frame: &GcvFrame<'t>) -> Option<Frame<'t>>
 fn held<'t>(frame: &Frame<'t>) -> GcvFrame<'t>
     ensures { HoldsFrame result frame.now }
 {
-    let Place { name, real_dir } = frame.place;
+    let FilePlace { name, real_dir } = frame.place;
     let (section, line, rest) = frame.entries.parts();
     let bare = GcvFrame {
         name,
@@ -315,7 +315,7 @@ fn include_status(include: &Include) -> u32
 
 /// Returns what the step to an entry tells.
 fn step_struct<'t>(
-    place: Place<'t>,
+    place: FilePlace<'t>,
     entry: &Entry<'_>,
     include: &Include,
     texts: &Texts,
@@ -334,7 +334,7 @@ fn step_struct<'t>(
 }
 
 /// Returns what the step to a line that is refused tells.
-fn line_struct(place: Place<'_>, error: Error) -> GcvStep<'_>
+fn line_struct(place: FilePlace<'_>, error: FileError) -> GcvStep<'_>
     ensures { result ≡ line_struct place.entry error }
 {
     GcvStep {
@@ -365,7 +365,7 @@ pub extern "C" fn gcv_raw_enter<'t>(
     if *count >= MOST_FRAMES {
         return Status::TooDeep as u32;
     }
-    let place = Place { name, real_dir };
+    let place = FilePlace { name, real_dir };
     let entries = Entries::new(text);
     *frame = held(&Frame { place, entries });
     *count += 1;

@@ -10,7 +10,7 @@ use config_host::environment::{HostError, arguments, variable};
 use config_host::error::HereError;
 use config_host::names::exists;
 use config_host::repository::find;
-use config_host::surroundings::Repository;
+use config_host::surroundings::RepositoryBuf;
 use config_host::{files_here, read_here, shown};
 use std::alloc::{Alloc, AllocError, Allocator, Global};
 use std::cell::Cell;
@@ -417,7 +417,7 @@ fn what_is_no_file(rt: HostRuntime) -> Result<(), Fail> {
 }
 
 /// The branch of a repository, or nothing.
-fn branch_of(repository: Option<Repository>, alloc: Global) -> Vec<u8> {
+fn branch_of(repository: Option<RepositoryBuf>, alloc: Global) -> Vec<u8> {
     match repository {
         Some(repository) => repository.branch.unwrap_or(Vec::new(alloc)),
         None => Vec::new(alloc),

@@ -5,8 +5,8 @@ ghost use Rattle.config_file.specs.Settings.{HoldsContent};
 use crate::support::{equal, holds};
 use config_file::settings::IncludeFault;
 use config_file::{
-    AddError, Content, Directories, Entries, Files, Include, Includes, Known, Place, Repository,
-    Settings, Step, Urls, Walk, is_remote_url,
+    AddError, Content, Directories, Entries, FilePlace, Files, Include, Includes, Known,
+    Repository, Settings, Step, Urls, Walk, is_remote_url,
 };
 use gix_config_value::{Boolean, Fault};
 use std::alloc::{AllocError, Global};
@@ -47,10 +47,10 @@ fn held<'t>(name: &'t str, text: Option<&'t str>) -> Content<'t>
 }
 
 /// The place of a file of the directory `/r`.
-fn place<'t>(name: &'t str) -> Place<'t>
+fn place<'t>(name: &'t str) -> FilePlace<'t>
     ensures { result.name.now ≡ name.now }
 {
-    Place {
+    FilePlace {
         name: name.as_bytes(),
         real_dir: b"/r",
     }
@@ -426,14 +426,14 @@ fn a_walk_goes_on_after_a_stop(rt: HostRuntime) {
 /// Two first files, the second of which includes a third file.
 const FIRST: [FirstFile<'static>; 2] = [
     FirstFile {
-        place: Place {
+        place: FilePlace {
             name: b"/etc/a",
             real_dir: b"/etc",
         },
         text: b"[core]\n\tbare = no\n\tx = 1\n[b]\n\tx",
     },
     FirstFile {
-        place: Place {
+        place: FilePlace {
             name: b"/r/b",
             real_dir: b"/r",
         },

@@ -10,18 +10,18 @@ use Rattle.config_file.specs.File.{Entry, IsFile}
 use Rattle.config_file.specs.Key.{Key, HasKey}
 use Rattle.config_file.specs.Listing.{IsListed}
 use Rattle.config_file.specs.Settings as settings
-use Rattle.config_file.specs.Settings.{Adds, AddsFile, AddsWalk, AreListed, IsSettingOf, IsValueOf, LacksKey}
+use Rattle.config_file.specs.Settings.{AddsEach, AddsFile, AddsWalk, AreListed, IsSettingOf, IsValueOf, LacksKey}
 use Rattle.config_file.specs.Settings.{found_item, text_of, value_text}
 use Rattle.config_file.specs.Value.{Ending, SpellsValue}
 use Rattle.config_file.specs.Views.{entry_of}
 use Rattle.config_file.specs.Walk as walk
 use Rattle.config_file.specs.Walk.{Content, Item, Found, Stops, Stop, Walks, WalksText}
-use Rattle.config_file.specs.declared.errors.Error.{Error}
+use Rattle.config_file.specs.declared.errors.FileError.{FileError}
 use Rattle.config_file.specs.declared.settings.AddError.{AddError}
 use Rattle.config_file.specs.declared.settings.AddError.TheVariants as error
 use Rattle.config_file.specs.declared.settings.Setting.{Setting}
 use Rattle.config_file.specs.declared.walk.Known.{Known}
-use Rattle.config_file.specs.declared.walk.Place.{Place}
+use Rattle.config_file.specs.declared.walk.FilePlace.{FilePlace}
 use Rattle.uses.specs.SettingHeadline.{WalksAll, ends, whole, stops, NoneHas, IsLast, here, later, HasText, alone, spelled, IsDecided, StopsWith}
 use Rattle.uses.specs.Reading.{AreRead}
 use Rattle.uses.specs.declared.setting_headline.FirstFile.{FirstFile}
@@ -34,12 +34,12 @@ pub record IsRead (entry : Entry) : Type 0 where
 
 -- the entries of each file are so
 abbrev pub EachIsRead : Type 0
-EachIsRead = (text : List ℕ) (entries : List Entry) (error : Option Error) → IsFile text entries error
+EachIsRead = (text : List ℕ) (entries : List Entry) (error : Option FileError) → IsFile text entries error
     → AllByRecursion IsRead entries
 
-pub each_is_read : ((text : List ℕ) (entries : List Entry) (error : Option Error) → IsFile text entries error
+pub each_is_read : ((text : List ℕ) (entries : List Entry) (error : Option FileError) → IsFile text entries error
     → All (λ entry. (key : List ℕ) × IsListed entry.section entry.key key) entries)
-    → ((text : List ℕ) (entries : List Entry) (error : Option Error) → IsFile text entries error
+    → ((text : List ℕ) (entries : List Entry) (error : Option FileError) → IsFile text entries error
     → All (λ entry. (raw : List ℕ) → entry.value ≡ Some raw
     → (spelled : List ℕ) × (ending : Ending) × SpellsValue raw spelled ending) entries)
     → EachIsRead
@@ -62,8 +62,8 @@ items_append [] more read rest = rest
 items_append ((file, Found entry) ∷ items) more read rest = (read.0, items_append items more read.1 rest)
 items_append ((file, Stops stop) ∷ items) more read rest = items_append items more read rest
 
-items_of_walk : {contents : List ℕ → Content → Type 0} {known : Known} {depth : ℕ} {place : Place}
-    {entries : List Entry} {error : Option Error} {items : List (List ℕ × Item)} {flag : Bool}
+items_of_walk : {contents : List ℕ → Content → Type 0} {known : Known} {depth : ℕ} {place : FilePlace}
+    {entries : List Entry} {error : Option FileError} {items : List (List ℕ × Item)} {flag : Bool}
     → EachIsRead → Walks contents known depth place entries error items flag → AllByRecursion IsRead entries
     → AreItemsRead items
 items_of_walk each walk.cut read = tt
@@ -92,7 +92,7 @@ found_append : (found more : List (List ℕ × Entry)) → AreFoundRead found �
 found_append [] more read rest = rest
 found_append (one ∷ found) more read rest = (read.0, found_append found more read.1 rest)
 
-items_of_text : {contents : List ℕ → Content → Type 0} {known : Known} {place : Place} {text : List ℕ}
+items_of_text : {contents : List ℕ → Content → Type 0} {known : Known} {place : FilePlace} {text : List ℕ}
     {items : List (List ℕ × Item)} {flag : Bool}
     → EachIsRead → WalksText contents known place text items flag → AreItemsRead items
 items_of_text {text = text} each (entries, error, file, walks) =

@@ -5,7 +5,7 @@ ghost use Rattle.uses.specs.Reading.{AreRead};
 ghost use Rattle.uses.specs.SettingHeadline.{SettingHeadline, StopsWith};
 
 use config_file::laws::each_is_listed;
-use config_file::{AddError, Files, Key, KeyError, Known, Place, Settings};
+use config_file::{AddError, FilePlace, Files, Key, KeyError, Known, Settings};
 use gix_config_value::Fault;
 use gix_config_value::canonical::TryRead;
 use std::alloc::Global;
@@ -14,7 +14,7 @@ use std::alloc::Global;
 #[derive(Clone, Copy)]
 pub struct FirstFile<'t> {
     /// Where the file is.
-    pub place: Place<'t>,
+    pub place: FilePlace<'t>,
     /// The text of the file.
     pub text: &'t [u8],
 }

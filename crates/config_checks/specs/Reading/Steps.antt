@@ -1,7 +1,7 @@
 -- What the steps of a check count, and what is received.
 use Rattle.std.specs.Prelude.{◌≡◌, ◌≢◌, ⊤, ℕ, ◌+◌, ◌^◌, ◌<◌, ◌≤◌, List, [], ◌∷◌, ◌++◌, Option, None, Some, option_map}
 use Rattle.std.specs.Prelude.{Bool, true, false}
-use Rattle.config_file.specs.declared.errors.Error as errors
+use Rattle.config_file.specs.declared.errors.FileError as errors
 use Rattle.config_checks.specs.declared.options.Options.{Options}
 use Rattle.config_checks.specs.declared.code.Code.TheVariants as kind
 use Rattle.config_checks.specs.declared.row.Row.{Row}
@@ -86,8 +86,8 @@ abbrev pub is_reported : Said → Bool
 is_reported said = is_some (option_map (λ t. t.items) said.reason)
 
 -- if the file is refused, its error is received and counted
-abbrev pub Tells : List ℕ → Option errors.Error → Counts → Counts → Option (List Finding) → Option (List Finding) → Type 0
-Tells file error s s' known known' =
+abbrev pub ReportsError : List ℕ → Option errors.FileError → Counts → Counts → Option (List Finding) → Option (List Finding) → Type 0
+ReportsError file error s s' known known' =
     (last : List Finding) × EndsReport file error s last s' × Receives known known' last
 
 -- the findings of these settings are received
@@ -97,7 +97,7 @@ ReportsAll rows options settings known known' s =
 
 -- the findings of the settings of a file are received, up to its end or to this error
 pub record ReportsEntries (rows : List Row) (options : Options) (file text : List ℕ) (known known' : Option (List Finding))
-    (s : Counts) (error : Option errors.Error) : Type 0 where
+    (s : Counts) (error : Option errors.FileError) : Type 0 where
   pub settings : List Setting
   pub of_file : HasSettings file text settings error
   pub all : ReportsAll rows options settings known known' s

@@ -5,7 +5,7 @@ use Rattle.std.specs.declared.alloc.AllocError.{AllocError}
 use Rattle.config_file.specs.File.{Entry}
 use Rattle.config_file.specs.Walk.{Content, Item, Stops, Stop}
 use Rattle.config_file.specs.Key.{RefusesKey}
-use Rattle.config_file.specs.Settings.{Adds, IsUnset, IsDecided, TellsStop, found_item}
+use Rattle.config_file.specs.Settings.{AddsEach, IsUnset, IsDecided, TellsStop, found_item}
 use Rattle.config_file.specs.Reading.Walks.{Said, Passes}
 use Rattle.config_file.specs.declared.key.KeyError.{KeyError}
 use Rattle.config_file.specs.declared.settings.AddError.{AddError}
@@ -16,7 +16,7 @@ use Rattle.config_file.specs.declared.walk.Known.{Known}
 
 -- an entry is added, or nothing if memory is refused
 abbrev pub AddsEntry : List ℕ × Entry → List Setting → List Setting → Result (Unit {0}) AllocError → Type 0
-AddsEntry found old new (Ok _) = Adds (found ∷ []) old new
+AddsEntry found old new (Ok _) = AddsEach (found ∷ []) old new
 AddsEntry found old new (Err _) = new ≡ old
 
 -- the text, if there is one, is among these, or it is put behind them
@@ -44,10 +44,10 @@ Comes contents known old items new = (answers : List (List ℕ × Content)) × W
 abbrev pub AddsNext : (List ℕ → Content → Type 0) → Known → List Frame → List Frame → List Setting → List Setting
     → Result Bool AddError → Type 0
 AddsNext contents known from to old new (Ok true) =
-    (found : List ℕ × Entry) × Adds (found ∷ []) old new × Comes contents known from (found_item found ∷ []) to
+    (found : List ℕ × Entry) × AddsEach (found ∷ []) old new × Comes contents known from (found_item found ∷ []) to
 AddsNext contents known from to old new (Ok false) = (new ≡ old) × (to ≡ []) × Comes contents known from [] to
 AddsNext contents known from to old new (Err (error.Memory _)) = new ≡ old
 AddsNext contents known from to old new (Err error) =
-    (found : List (List ℕ × Entry)) × (file : List ℕ) × (stop : Stop) × Adds found old new × TellsStop file stop error
+    (found : List (List ℕ × Entry)) × (file : List ℕ) × (stop : Stop) × AddsEach found old new × TellsStop file stop error
     × ((frames : List Frame) × (length frames ≤ 11)
     × Comes contents known from (map found_item found ++ (file, Stops stop) ∷ []) frames)

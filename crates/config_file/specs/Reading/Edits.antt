@@ -3,10 +3,10 @@ use Rattle.std.specs.Prelude.{◌≡◌, ◌≢◌, ℕ, ◌+◌, Bool, true, fa
 use Rattle.std.specs.Prelude.{map, ◌⊎◌, ◌↔◌, ⊤, IsTrue, MatchOption, ◌≤◌, length, option_copied}
 use Rattle.std.specs.List.{AllZip}
 use Rattle.std.specs.Char.{is_ascii_alphabetic}
-use Rattle.config_file.specs.declared.entry.Parts.{Parts}
+use Rattle.config_file.specs.declared.entry.EntryParts.{EntryParts}
 use Rattle.config_file.specs.declared.edit.Change.{Change}
 use Rattle.config_file.specs.declared.edit.setting.Found.{Found}
-use Rattle.config_file.specs.declared.edit.setting.Place.{Place}
+use Rattle.config_file.specs.declared.edit.setting.Insertion.{Insertion}
 use Rattle.config_file.specs.declared.edit.setting.Places.{Places}
 use Rattle.config_file.specs.declared.edit.setting.Replacement.{Replacement}
 use Rattle.config_file.specs.declared.edit.setting.Replacement.TheVariants as replacement
@@ -27,13 +27,13 @@ use Rattle.config_file.specs.File.{Entry, entry_at, TakesEntry, Reads, IsFile, a
 use Rattle.config_file.specs.declared.edit.EditError.{EditError}
 use Rattle.config_file.specs.declared.edit.EditError.TheVariants as error
 use Rattle.config_file.specs.Key.{Key, IsKey, RefusesKey, is_name}
-use Rattle.config_file.specs.Spelling.{Names, HasNoHeader}
+use Rattle.config_file.specs.Spelling.{SpellsSection, HasNoHeader}
 use Rattle.config_file.specs.Value.{outside, SpellsValue, line_feeds}
 use Rattle.config_file.specs.Edit.{Content, content, WithoutIn, LosesSection, LosesOne, IsHeaderOf, IsBody}
 use Rattle.config_file.specs.Edit.{IsLostTail, MayUnset, AreBlank, IsTail, IsEntry, IsEnd}
 use Rattle.config_file.specs.Edit.{LosesEntry, MayReplace, IsIn, IsOf, HasValue, Renames, Without, HasNone}
 use Rattle.config_file.specs.Edit.{HasSeveral, Replaces, Changes, ChangesOne, ChangesValue, ChangesBytes}
-use Rattle.config_file.specs.Edit.{RenamesHeader, SameEntry, NoneIn, IsLineEnd, Adds, PutsLine, entry_line}
+use Rattle.config_file.specs.Edit.{RenamesHeader, SameEntry, NoneIn, IsLineEnd, AddsContent, PutsLine, entry_line}
 use Rattle.config_file.specs.Listing.{IsListedSection}
 use Rattle.config_file.specs.Edit.{ChangesEach, ChangesEntry, MayChange, AreInOrder}
 use Rattle.config_file.specs.Reading.Spellings.{git_spelled, is_spellable}
@@ -152,7 +152,7 @@ IsHeaderHeld key _ = ⊥
 -- where a reading of the new text is, if one of the old text is in this section
 pub data Corresponds (from to : Key) : Option Section → Option Section → Type 0 where
   renamed : {old : Option Section} {new : Section}
-      → IsIn from old → Names new to.section to.subsection
+      → IsIn from old → SpellsSection new to.section to.subsection
       → Corresponds from to old (Some new)
   same : {section : Option Section} → ¬ (IsIn from section) → Corresponds from to section section
 
@@ -198,7 +198,7 @@ pub record IsPutIn (raw value put : List ℕ) : Type 0 where
 
 -- In the place of the piece of an entry, these bytes are an entry of the same key with this value. They are those of the
 -- piece if the entry has the value already.
-pub record IsSet (parts : Parts) (piece : Piece) (value put : List ℕ) : Type 0 where
+pub record IsSet (parts : EntryParts) (piece : Piece) (value put : List ℕ) : Type 0 where
   pub raw : List ℕ
   pub lines : ℕ
   pub at : List ℕ
@@ -219,7 +219,7 @@ pub record IsPast (text rest front : List ℕ) (contents : List Content) (sectio
   pub listable : IsListable section
 
 -- the content of an entry of these parts
-abbrev pub content_of : Option Section → Parts → Content
+abbrev pub content_of : Option Section → EntryParts → Content
 content_of section parts = (section, parts.key.now, value_of parts.value)
 
 -- the piece is an entry of the key
@@ -282,7 +282,7 @@ IsLeft None left = left ≡ []
 IsLeft (Some f) left = IsEnd left
 
 -- the value of these parts ends in a backslash that ends the text
-abbrev pub IsOpen : Parts → Type 0
+abbrev pub IsOpen : EntryParts → Type 0
 IsOpen parts = (raw : List ℕ) × (value_of parts.value ≡ Some raw) × (line_feeds raw ≢ parts.lines)
 
 abbrev pub IsOpenHeld : Held → Type 0
@@ -313,7 +313,7 @@ is_item (held.Entry parts) = true
 is_item _ = false
 
 -- before this place the text has these contents in a section of the key, and then this text, in which none is in it
-pub record IsPlace (key : Key) (text rest : List ℕ) (contents : List Content) (section : Option Section) (place : Place) : Type 0 where
+pub record IsPlace (key : Key) (text rest : List ℕ) (contents : List Content) (section : Option Section) (place : Insertion) : Type 0 where
   pub front : List ℕ
   pub between : List ℕ
   pub before : List Content
@@ -328,13 +328,13 @@ pub record IsPlace (key : Key) (text rest : List ℕ) (contents : List Content) 
   pub contents_are : contents ≡ before ++ after
 
 -- the last place so far, if an entry or a header was in a section of the key
-abbrev pub IsPlaceSoFar : Key → List ℕ → List ℕ → List Content → Option Section → Bool → Option Place → Type 0
+abbrev pub IsPlaceSoFar : Key → List ℕ → List ℕ → List Content → Option Section → Bool → Option Insertion → Type 0
 IsPlaceSoFar key text rest contents section is_inside None = NoneIn key contents × (is_inside ≡ false)
 IsPlaceSoFar key text rest contents section is_inside (Some place) =
     IsPlace key text rest contents section place
 
 -- what precedes this rest of a text, in which a place for an entry of the key is looked for
-pub record Placing (key : Key) (text rest : List ℕ) (is_inside : Bool) (inside : Option Place) (end : End) : Type 0 where
+pub record Placing (key : Key) (text rest : List ℕ) (is_inside : Bool) (inside : Option Insertion) (end : End) : Type 0 where
   pub front : List ℕ
   pub contents : List Content
   pub section : Option Section
@@ -354,7 +354,7 @@ pub record ArePlaces (key : Key) (text : List ℕ) (contents : List Content) (pl
 pub record IsAdded (key : Key) (value text : List ℕ) (contents : List Content) (new : List ℕ) : Type 0 where
   pub now : List Content
   pub ends : Ends None new now
-  pub adds : Adds key value contents now
+  pub adds : AddsContent key value contents now
   pub bytes : PutsLine key value contents text new
 
 -- whether a piece has only blanks
@@ -515,7 +515,7 @@ AreLater [] index = ⊤
 AreLater (change ∷ changes) index = change.entry ≢ index
 
 -- in the place of the piece of an entry, these bytes are an entry of the same key with this value, or with the old one
-pub record IsValued (value : Option (List ℕ)) (parts : Parts) (piece : Piece) (put : List ℕ) : Type 0 where
+pub record IsValued (value : Option (List ℕ)) (parts : EntryParts) (piece : Piece) (put : List ℕ) : Type 0 where
   pub raw : Option (List ℕ)
   pub lines : ℕ
   pub at : List ℕ
@@ -529,7 +529,7 @@ name_after None key = key
 name_after (Some name) key = name
 
 -- in the place of the piece of an entry, these bytes are the entry after the change
-pub record IsChangedIn (change : Change) (parts : Parts) (piece : Piece) (put : List ℕ) : Type 0 where
+pub record IsChangedIn (change : Change) (parts : EntryParts) (piece : Piece) (put : List ℕ) : Type 0 where
   pub raw : Option (List ℕ)
   pub lines : ℕ
   pub at : List ℕ

@@ -3,7 +3,7 @@ use Rattle.std.specs.Prelude.{◌≡◌, ◌↔◌, ℕ, Bool, true, false, not,
 use Rattle.std.specs.List.{list_all}
 use Rattle.config_file.specs.Bytes.{right_bracket}
 use Rattle.config_file.specs.Runs.{Run}
-use Rattle.config_file.specs.Url.{Parts, IsWhole, is_scheme, is_place_byte, at_sign, colon}
+use Rattle.config_file.specs.Url.{SplitUrl, IsWhole, is_scheme, is_place_byte, at_sign, colon}
 use Rattle.config_file.specs.Url.{IsNormal, escaped, is_unsafe, is_reserved, Leads}
 
 abbrev pub no_at : ℕ → Bool
@@ -29,7 +29,7 @@ CutsPort text host None = (text ≡ host) × IsWhole host None
 CutsPort text host (Some port) = (text ≡ host ++ colon ∷ port) × (list_all is_port_byte port ≡ true)
 
 -- the parts into which the text is cut
-pub record IsCutUrl (text : List ℕ) (parts : Parts) : Type 0 where
+pub record IsCutUrl (text : List ℕ) (parts : SplitUrl) : Type 0 where
   pub after : List ℕ
   pub place : List ℕ
   pub named : List ℕ

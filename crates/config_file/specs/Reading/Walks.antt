@@ -6,8 +6,8 @@ use Rattle.config_file.specs.Left.{HasLeft}
 use Rattle.config_file.specs.Views.{entry_of}
 use Rattle.config_file.specs.Walk.{Content, Text, Missing, Unreadable, Item, Found, Stops, Walks, in_file}
 use Rattle.config_file.specs.Walk.{Line, NoValue, Unknown, NotRead, TooDeep}
-use Rattle.config_file.specs.declared.errors.Error.{Error}
-use Rattle.config_file.specs.declared.walk.Place.{Place}
+use Rattle.config_file.specs.declared.errors.FileError.{FileError}
+use Rattle.config_file.specs.declared.walk.FilePlace.{FilePlace}
 use Rattle.config_file.specs.declared.walk.Known.{Known}
 use Rattle.config_file.specs.declared.walk.Frame.{Frame}
 use Rattle.config_file.specs.declared.walk.Step.{Step}
@@ -19,12 +19,12 @@ pub data LeftOf (contents : List ℕ → Content → Type 0) (known : Known)
     : List Frame → List (List ℕ × Item) → Bool → Type 0 where
   nothing : {whole : Bool} → LeftOf contents known [] [] whole
   goes_on : {frame : Frame} {below : List Frame} {rest : List (List ℕ × Item)} {whole : Bool}
-      (depth : ℕ) (inner : List Entry) (end : Option Error) (within : List (List ℕ × Item))
+      (depth : ℕ) (inner : List Entry) (end : Option FileError) (within : List (List ℕ × Item))
       → length below + depth ≡ 10 → HasLeft frame.entries inner end
       → Walks contents known depth frame.place inner end within true
       → LeftOf contents known below rest whole → LeftOf contents known (frame ∷ below) (within ++ rest) whole
   is_cut : {frame : Frame} {below : List Frame}
-      (depth : ℕ) (inner : List Entry) (end : Option Error) (within : List (List ℕ × Item))
+      (depth : ℕ) (inner : List Entry) (end : Option FileError) (within : List (List ℕ × Item))
       → length below + depth ≡ 10 → HasLeft frame.entries inner end
       → Walks contents known depth frame.place inner end within false
       → LeftOf contents known (frame ∷ below) within false
@@ -34,9 +34,9 @@ abbrev pub Left : (List ℕ → Content → Type 0) → Known → List Frame →
 Left contents known frames items whole = LeftOf contents known (reverse frames) items whole
 
 -- the new frames are the old ones and, last, the whole text of the file at this place
-abbrev pub Enters : List Frame → Place → List ℕ → List Frame → Type 0
+abbrev pub Enters : List Frame → FilePlace → List ℕ → List Frame → Type 0
 Enters old place text new = (frame : Frame) × (new ≡ old ++ frame ∷ []) × (frame.place ≡ place)
-    × ((left : List Entry) (error : Option Error) → HasLeft frame.entries left error → IsFile text left error)
+    × ((left : List Entry) (error : Option FileError) → HasLeft frame.entries left error → IsFile text left error)
 
 -- the answers that a caller gave say that the file of this name holds this
 abbrev pub Said : List (List ℕ × Content) → List ℕ → Content → Type 0
@@ -49,14 +49,14 @@ Passes answers known old items new = (left : List (List ℕ × Item)) (whole : B
 
 -- How the walk goes on after an entry that includes the file of this name, by what the file holds: as if the
 -- entry included nothing, after a stop there, or in the text that is entered.
-pub record Asks (answers : List (List ℕ × Content)) (known : Known) (old : List Frame) (place : Place)
+pub record Asks (answers : List (List ℕ × Content)) (known : Known) (old : List Frame) (place : FilePlace)
     (entry : Entry) (name : List ℕ) (new : List Frame) : Type 0 where
   pub missing : Said answers name Missing → Passes answers known old (in_file place (Found entry) ∷ []) new
   pub not_read : Said answers name Unreadable
       → Passes answers known old (in_file place (Found entry) ∷ in_file place (Stops (NotRead entry)) ∷ []) new
   pub too_deep : (real_dir text : List ℕ) → Said answers name (Text real_dir text) → length new ≡ 11
       → Passes answers known old (in_file place (Found entry) ∷ in_file place (Stops (TooDeep entry)) ∷ []) new
-  pub entered : (at : Place) (text : List ℕ) (frames : List Frame) → at.name.now ≡ name
+  pub entered : (at : FilePlace) (text : List ℕ) (frames : List Frame) → at.name.now ≡ name
       → Said answers at.name.now (Text at.real_dir.now text) → Enters new at text frames
       → Passes answers known old (in_file place (Found entry) ∷ []) frames
 

@@ -7,7 +7,7 @@ ghost use Rattle.config_file.specs.Reading.Edits.{AreLater, AreWritable, Ends, I
 use crate::edit::Change;
 use crate::edit::piece::{Held, Piece, next_piece};
 use crate::edit::write::push_changed;
-use crate::entry::Parts;
+use crate::entry::EntryParts;
 use std::alloc::{AllocError, Global};
 
 /// A text in which entries have changed, or `None` if a change is of no entry, or not of one behind that of the
@@ -73,7 +73,7 @@ fn push_change(
     new: &mut Vec<u8>,
     alloc: Global,
     piece: &Piece<'_>,
-    parts: &Parts<'_>,
+    parts: &EntryParts<'_>,
     change: &Change<'_>,
 ) -> Result<(), AllocError>
     requires writable { IsWritable change.now }
@@ -110,7 +110,7 @@ fn push_valued(
     new: &mut Vec<u8>,
     alloc: Global,
     piece: &Piece<'_>,
-    parts: &Parts<'_>,
+    parts: &EntryParts<'_>,
     value: Option<&[u8]>,
 ) -> Result<(), AllocError>
     requires writable { IsWritableValue (option_copied value) }

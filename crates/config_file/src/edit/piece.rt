@@ -6,7 +6,7 @@ ghost use Rattle.config_file.specs.Edit.{IsLineEnd};
 ghost use Rattle.config_file.specs.Bytes.{BeginsWithLetter};
 
 use crate::bytes::{Class, before, is_comment_sign, run, split};
-use crate::entry::{Parts, read_entry};
+use crate::entry::{EntryParts, read_entry};
 use crate::header::read_header;
 use crate::section::Section;
 
@@ -20,7 +20,7 @@ pub(crate) enum Held<'a> {
     /// A header. What follows it on its line is another piece.
     Header(Section<'a>),
     /// An entry, and a comment behind it if there is one, up to the end of its line.
-    Entry(Parts<'a>),
+    Entry(EntryParts<'a>),
 }
 
 /// The first piece of a text.

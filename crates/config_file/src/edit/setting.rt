@@ -10,14 +10,14 @@ ghost use Rattle.config_file.specs.Reading.Spellings.{is_section, is_spellable, 
 use crate::bytes::before;
 use crate::edit::piece::{Held, Piece, last_line_end, next_piece};
 use crate::edit::write::{End, push_changed, push_line};
-use crate::entry::{Entry, Parts};
+use crate::entry::{Entry, EntryParts};
 use crate::key::Key;
 use crate::section::Section;
 use crate::spelling::push_header;
 use std::alloc::{AllocError, Global};
 
 /// Whether an entry of these parts, in this section, has the key.
-pub(crate) fn is_of(key: &Key<'_>, section: &Option<Section<'_>>, parts: &Parts<'_>) -> bool
+pub(crate) fn is_of(key: &Key<'_>, section: &Option<Section<'_>>, parts: &EntryParts<'_>) -> bool
     ensures { IsListable (option_map section_of section.now)
         → (IsTrue result ↔ IsOf (key_of key.now) (content_of (option_map section_of section.now) parts.now)) }
 {
@@ -33,7 +33,7 @@ pub(crate) fn is_of(key: &Key<'_>, section: &Option<Section<'_>>, parts: &Parts<
 #[derive(Clone, Copy)]
 pub(crate) struct Found<'a> {
     pub piece: Piece<'a>,
-    pub parts: Parts<'a>,
+    pub parts: EntryParts<'a>,
     pub in_line: bool,
 }
 
@@ -124,7 +124,7 @@ fn push_before(
 
 /// Where a new entry comes: what follows it, and what ends the line before it.
 #[derive(Clone, Copy)]
-pub(crate) struct Place<'a> {
+pub(crate) struct Insertion<'a> {
     pub rest: &'a [u8],
     pub end: End,
 }
@@ -132,7 +132,7 @@ pub(crate) struct Place<'a> {
 /// After the last entry of the last section of the key, or after its header; and the end of the text.
 #[derive(Clone, Copy)]
 pub(crate) struct Places<'a> {
-    pub inside: Option<Place<'a>>,
+    pub inside: Option<Insertion<'a>>,
     pub end: End,
 }
 
@@ -155,7 +155,7 @@ fn find_places<'a>(text: &'a [u8], key: &Key<'_>) -> Places<'a>
     let mut rest = text;
     let mut is_inside = false;
     let mut after_header = false;
-    let mut inside: Option<Place<'_>> = None;
+    let mut inside: Option<Insertion<'_>> = None;
     let mut end = End::Line;
     'pieces: while let Some(piece) = next_piece(rest) {
         end = End::of(&piece);
@@ -166,7 +166,7 @@ fn find_places<'a>(text: &'a [u8], key: &Key<'_>) -> Places<'a>
             is_header = true;
         }
         if is_inside && (after_header || is_item(&piece.held)) {
-            inside = Some(Place { rest, end });
+            inside = Some(Insertion { rest, end });
         }
         after_header = is_header;
     }
@@ -177,7 +177,7 @@ fn find_places<'a>(text: &'a [u8], key: &Key<'_>) -> Places<'a>
 fn push_inside(
     new: &mut Vec<u8>,
     text: &[u8],
-    place: &Place<'_>,
+    place: &Insertion<'_>,
     key: &Key<'_>,
     value: &[u8],
 ) -> Result<(), AllocError>

@@ -10,7 +10,7 @@ ghost use Rattle.config_file.specs.Reading.Spellings.{is_spellable, git_spelled}
 
 use crate::bytes::{Class, before, is_blank, is_comment_sign, run, split};
 use crate::edit::piece::{Held, Piece};
-use crate::entry::Parts;
+use crate::entry::EntryParts;
 use crate::spelling::push_as_git;
 use crate::value::Value;
 use std::alloc::{AllocError, Global};
@@ -83,7 +83,7 @@ impl End {
 }
 
 /// Whether a backslash ends the text of an entry.
-fn is_open(parts: &Parts<'_>) -> bool
+fn is_open(parts: &EntryParts<'_>) -> bool
     ensures { IsTrue result ↔ IsOpen parts.now }
 {
     match &parts.value {
@@ -114,7 +114,7 @@ pub(crate) fn push_changed(
     text: &mut Vec<u8>,
     alloc: Global,
     piece: &Piece<'_>,
-    parts: &Parts<'_>,
+    parts: &EntryParts<'_>,
     value: &[u8],
 ) -> Result<(), AllocError>
     requires spellable { is_spellable value.now ≡ true }
@@ -145,7 +145,7 @@ pub(crate) fn push_changed(
 }
 
 /// Whether an entry of these parts has this value already.
-fn has_value(alloc: Global, parts: &Parts<'_>, value: &[u8]) -> Result<bool, AllocError>
+fn has_value(alloc: Global, parts: &EntryParts<'_>, value: &[u8]) -> Result<bool, AllocError>
     ensures spelled { (raw spelled : List ℕ) (ending : Ending) → value_of parts.now.value ≡ Some raw → SpellsValue raw spelled ending
         → IfOk result (λ same. IsTrue same ↔ (spelled ≡ value.now)) }
     ensures alone { value_of parts.now.value ≡ None → IfOk result (λ same. same ≡ false) }

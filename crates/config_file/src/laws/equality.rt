@@ -5,27 +5,27 @@ ghost use Rattle.config_file.specs.Include.{IsSameCondition};
 
 use crate::edit::Change;
 use crate::entry::Entry;
-use crate::errors::{Error, Fault};
+use crate::errors::{FileError, FileFault};
 use crate::files::Content;
 use crate::include::{Condition, Includes, Repository, Urls};
 use crate::key::{Key, KeyError};
 use crate::path::{Directories, Expanded};
 use crate::scope::Scope;
 use crate::section::{Section, Subsection};
-use crate::settings::{AddError, GetError, IncludeFault, Refused};
+use crate::settings::{AddError, GetError, IncludeFault, RefusedSetting};
 use crate::value::Value;
-use crate::walk::{Known, Place};
+use crate::walk::{FilePlace, Known};
 
 /// Faults are equal exactly if they are the same.
 pub fn faults()
-    ensures equality { Equates (◌≡◌) ⟦<Fault as PartialEq>⟧.eq }
-    ensures clones { IsCopied ⟦<Fault as Clone>⟧.is_clone ⟦<Fault as Clone>⟧.is_infallible }
+    ensures equality { Equates (◌≡◌) ⟦<FileFault as PartialEq>⟧.eq }
+    ensures clones { IsCopied ⟦<FileFault as Clone>⟧.is_clone ⟦<FileFault as Clone>⟧.is_infallible }
 {}
 
 /// Errors are equal exactly if their lines and their faults are the same.
 pub fn errors()
-    ensures equality { Equates (◌≡◌) ⟦<Error as PartialEq>⟧.eq }
-    ensures clones { IsCopied ⟦<Error as Clone>⟧.is_clone ⟦<Error as Clone>⟧.is_infallible }
+    ensures equality { Equates (◌≡◌) ⟦<FileError as PartialEq>⟧.eq }
+    ensures clones { IsCopied ⟦<FileError as Clone>⟧.is_clone ⟦<FileError as Clone>⟧.is_infallible }
 {}
 
 /// Scopes are equal exactly if they are the same.
@@ -71,7 +71,7 @@ pub fn changes()
 /// A clone of what a walk knows or finds is the same, and never fails.
 pub fn walks()
     ensures known { IsCopied ⟦<Known<'static> as Clone>⟧.is_clone ⟦<Known<'static> as Clone>⟧.is_infallible }
-    ensures places { IsCopied ⟦<Place<'static> as Clone>⟧.is_clone ⟦<Place<'static> as Clone>⟧.is_infallible }
+    ensures places { IsCopied ⟦<FilePlace<'static> as Clone>⟧.is_clone ⟦<FilePlace<'static> as Clone>⟧.is_infallible }
     ensures contents { IsCopied ⟦<Content<'static> as Clone>⟧.is_clone
         ⟦<Content<'static> as Clone>⟧.is_infallible }
     ensures includes { IsCopied ⟦<Includes<'static> as Clone>⟧.is_clone
@@ -98,6 +98,6 @@ pub fn errors_of_settings()
 /// A clone of a refusal is the same refusal, and never fails, if both are true of clones of its fault.
 pub fn refusals<F: Clone>()
     ensures { IsCopied F.is_clone F.is_infallible
-        → IsCopied ⟦<Refused<'static, 'static, F> as Clone>⟧.is_clone
-        ⟦<Refused<'static, 'static, F> as Clone>⟧.is_infallible }
+        → IsCopied ⟦<RefusedSetting<'static, 'static, F> as Clone>⟧.is_clone
+        ⟦<RefusedSetting<'static, 'static, F> as Clone>⟧.is_infallible }
 {}

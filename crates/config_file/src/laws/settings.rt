@@ -10,7 +10,7 @@ ghost use Rattle.std.specs.declared.alloc.AllocError.{AllocError};
 ghost use Rattle.config_file.specs.declared.settings.GetError.{GetError};
 ghost use Rattle.config_file.specs.declared.settings.Setting.{Setting};
 ghost use Rattle.config_file.specs.declared.walk.Known.{Known};
-ghost use Rattle.config_file.specs.declared.walk.Place.{Place};
+ghost use Rattle.config_file.specs.declared.walk.FilePlace.{FilePlace};
 
 use crate::files::Files;
 use config_text::readers::TryRead;
@@ -18,12 +18,12 @@ use config_text::readers::TryRead;
 /// If each name has at most one content, then two additions of a text to the same settings give the same
 /// settings, and stop at the same place. An addition that lacks memory gives a beginning of these settings.
 pub fn one_addition<'t, S: Files<'t>>()
-    ensures whole { (files : S) (known : Known) (place : Place) (text : List ℕ) (old a b : List Setting)
+    ensures whole { (files : S) (known : Known) (place : FilePlace) (text : List ℕ) (old a b : List Setting)
         (r s : Result (Unit {0}) AddError) → HasOneContent (S.contents files) → HasMemory r → HasMemory s
         → AddsWalk (S.contents files) known place text old a r
         → AddsWalk (S.contents files) known place text old b s
         → AllZip IsSameSetting a b × IsSameEnd r s }
-    ensures cut { (files : S) (known : Known) (place : Place) (text : List ℕ) (old a b : List Setting)
+    ensures cut { (files : S) (known : Known) (place : FilePlace) (text : List ℕ) (old a b : List Setting)
         (e : AllocError) (s : Result (Unit {0}) AddError) → HasOneContent (S.contents files) → HasMemory s
         → AddsWalk (S.contents files) known place text old a (Err (error.Memory e))
         → AddsWalk (S.contents files) known place text old b s → HasSameFront a b }

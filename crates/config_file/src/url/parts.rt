@@ -13,7 +13,7 @@ use crate::url::pieces::cut_piece;
 
 /// The parts of a URL, which are borrowed from its text.
 #[derive(Clone, Copy)]
-pub(crate) struct Parts<'t> {
+pub(crate) struct SplitUrl<'t> {
     pub scheme: &'t [u8],
     /// What precedes `@`: a user, and a password behind a colon.
     pub login: Option<&'t [u8]>,
@@ -145,15 +145,15 @@ fn are_digits(port: &[u8]) -> bool
 }
 
 /// The parts into which a text is cut.
-fn cut(text: &[u8]) -> Option<Parts<'_>>
-    ensures { MatchOption result ((parts : spec.Parts) → ¬ (IsCutUrl text.now parts))
+fn cut(text: &[u8]) -> Option<SplitUrl<'_>>
+    ensures { MatchOption result ((parts : spec.SplitUrl) → ¬ (IsCutUrl text.now parts))
         (λ parts. IsCutUrl text.now (parts_of parts)) }
 {
     let (scheme, rest) = cut_scheme(text)?;
     let (place, path) = cut_place(rest);
     let (login, place) = cut_login(place);
     let (host, port) = cut_port(place);
-    Some(Parts {
+    Some(SplitUrl {
         scheme,
         login,
         host,
@@ -163,8 +163,8 @@ fn cut(text: &[u8]) -> Option<Parts<'_>>
 }
 
 /// The parts of a URL, or `None` if the text is none. A byte `*` in its host is allowed if it has stars.
-pub(crate) fn read_parts(text: &[u8], has_stars: bool) -> Option<Parts<'_>>
-    ensures { MatchOption result ((parts : spec.Parts) → ¬ (IsWritten has_stars text.now parts))
+pub(crate) fn read_parts(text: &[u8], has_stars: bool) -> Option<SplitUrl<'_>>
+    ensures { MatchOption result ((parts : spec.SplitUrl) → ¬ (IsWritten has_stars text.now parts))
         (λ parts. IsWritten has_stars text.now (parts_of parts)) }
 {
     let parts = cut(text)?;

@@ -1,5 +1,5 @@
 use Rattle.std.proofs.Common.{◌++◌, List, Option}
-use Rattle.config_file.specs.declared.errors.Error.{Error}
+use Rattle.config_file.specs.declared.errors.FileError.{FileError}
 use Rattle.config_file.specs.File.{Entry, IsFile}
 use Rattle.config_file.specs.Left.{HasLeft}
 use Rattle.config_file.proofs.edit.check_file.Given as goal
@@ -7,5 +7,5 @@ use Rattle.config_file.proofs.edit.check_file.Given as goal
 abbrev pub invariant-loop-entry : goal.invariant-loop-entry
 invariant-loop-entry l =
     (entries : List Entry)
-    × ((left : List Entry) (error : Option Error) → HasLeft l.entry-iterator left error → IsFile l.text
+    × ((left : List Entry) (error : Option FileError) → HasLeft l.entry-iterator left error → IsFile l.text
     (entries ++ left) error)

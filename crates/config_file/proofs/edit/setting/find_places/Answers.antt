@@ -1,6 +1,6 @@
 use Rattle.std.proofs.Common.{◌≡◌, ◌⊎◌, ◌∙◌, inl, inr, sym, false, IsTrue}
 use Rattle.std.proofs.Common.{◌↔◌, refl, true≢false}
-use Rattle.config_file.specs.declared.edit.setting.Place.{Place}
+use Rattle.config_file.specs.declared.edit.setting.Insertion.{Insertion}
 use Rattle.config_file.specs.declared.edit.setting.Places.{Places}
 use Rattle.config_file.specs.KeyView.{key_of}
 use Rattle.config_file.specs.Edit.{IsIn}
@@ -30,7 +30,7 @@ pieces-preserved-then-is_item c =
       | in_default-held w ↦ rw w.is_inside-is
           (inside_after_other key p.section c.pieces.is_inside piece.held w.in_default-held.not-Header p.inside_is)
     ] in
-    let here : Place = record { rest = piece.rest; end = c.of-end.result } in
+    let here : Insertion = record { rest = piece.rest; end = c.of-end.result } in
     placing_here c.pieces.is_inside m.is_inside piece p is c.in-Some.ensures.shorter c.of-end.ensures inside c.if-is_inside.true here refl refl
 
 pub pieces-preserved : goal.pieces-preserved
