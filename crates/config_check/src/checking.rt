@@ -282,7 +282,8 @@ impl<'c, 't> Checking<'c, 't> {
         Ok(())
     }
 
-    /// Checks the text of a file. Changes are looked for if there is something to look for them, which is given back.
+    /// Checks the text of a file. Changes are looked for if there is something to look for them, which is
+    /// given back.
     fn check_text(
         &mut self,
         file: &'t str,
@@ -317,7 +318,8 @@ impl<'c, 't> Checking<'c, 't> {
         Mender::new(self.rt.alloc(), self.judge, self.asked.options, file, text)
     }
 
-    /// Makes the changes in a file, and returns its text, which is the old one if it has none or is not changed.
+    /// Makes the changes in a file, and returns its text, which is the old one if it has none or is not
+    /// changed.
     fn mended(&mut self, file: &'t str, text: &'t [u8]) -> Result<&'t [u8], Failure<'static>> {
         if !is_readable(text) {
             return Ok(text);

@@ -50,7 +50,7 @@ fn run_in<'m, 't>(
     check(rt, texts, rows, &asked)
 }
 
-/// The same, with memory for what is read.
+/// Does what the arguments ask for, with memory for what is read.
 fn run<'m>(rt: &HostRuntime, matches: &ArgMatches<'m>) -> Result<u8, Failure<'m>> {
     let texts = Bump::new(rt.alloc());
     run_in(rt, &texts, matches)

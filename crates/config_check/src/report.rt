@@ -59,7 +59,7 @@ pub(crate) struct Report<'c> {
     pub(crate) hidden: Hidden,
     /// How many findings there were by now, by their fingerprints without their counts.
     seen: BTreeMap<String, u64>,
-    /// The same for those for which changes were collected.
+    /// How many of the findings whose changes were collected there were by now, by their fingerprints.
     collected: BTreeMap<String, u64>,
     /// How many findings each code has, in the order of the codes.
     counts: Vec<u64>,

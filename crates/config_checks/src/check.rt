@@ -214,7 +214,7 @@ fn said_of(alloc: Global, runs: &[Run<'_, '_>], key: &[u8]) -> Result<Said, Allo
     }
 }
 
-/// The same: what was said last, if it was said of this key.
+/// What is said of a key that no row covers. It is what was said last, if that was of this key.
 fn recalled(
     alloc: Global,
     runs: &[Run<'_, '_>],

@@ -18,7 +18,7 @@ fn push_part(out: &mut Vec<u8>, text: &[u8]) -> Result<(), AllocError>
     out.extend_from_slice(b"\0")
 }
 
-/// The same for a text that may be missing.
+/// Appends a text and a NUL, or nothing if the text is missing.
 fn push_part_or_nothing(out: &mut Vec<u8>, text: Option<&[u8]>) -> Result<(), AllocError>
     ensures { OnOk result (out.new.items ≡ out.old.items ++ part_or_nothing (option_copied text.entry)) }
 {
@@ -50,8 +50,8 @@ pub fn fingerprint(alloc: Global, equal: u64, finding: &Finding<'_>) -> Result<S
     hex::encode(alloc, &digest[..16])
 }
 
-/// Whether a baseline has a finding, which `equal` findings of the same four precede. These are the fingerprints
-/// in it.
+/// Whether a baseline has a finding, which `equal` findings of the same four precede. These are the
+/// fingerprints in it.
 pub fn is_known(
     alloc: Global,
     baseline: &BTreeSet<String>,

@@ -239,7 +239,7 @@ fn is_only_unknown(
     }
 }
 
-/// The same for any key: none is suggested for one that a row covers.
+/// Whether no key but this one is suggested for a key. None is suggested for a key that a row covers.
 fn is_only_key(
     alloc: Global,
     runs: &[Run<'_, '_>],

@@ -35,14 +35,14 @@ fn str_json(alloc: Global, text: &str) -> Result<Value, AllocError>
     Ok(Value::from(String::from_str(alloc, text)?))
 }
 
-/// The same for bytes, with U+FFFD for bytes that are not UTF-8.
+/// A text as a JSON string, with U+FFFD for bytes that are not UTF-8.
 fn text_json(alloc: Global, text: &[u8]) -> Result<Value, AllocError>
     ensures { IfOk result (λ v. view v ≡ text_json text.now) }
 {
     Ok(Value::from(String::from_utf8_lossy(alloc, text)?))
 }
 
-/// The same for a text that may be missing, which is then `null`.
+/// A text as a JSON string, or `null` if it is missing.
 fn text_or_null(alloc: Global, text: Option<&[u8]>) -> Result<Value, AllocError>
     ensures { IfOk result (λ v. view v ≡ text_or_null (option_copied text.entry)) }
 {
@@ -62,7 +62,7 @@ fn bytes_json(alloc: Global, text: &[u8]) -> Result<Value, AllocError>
     }
 }
 
-/// The same for a text that may be missing.
+/// The bytes of a text that is not UTF-8, in base64, and `null` for any other and for a missing one.
 fn bytes_or_null(alloc: Global, text: Option<&[u8]>) -> Result<Value, AllocError>
     ensures { IfOk result (λ v. view v ≡ bytes_or_null (option_copied text.entry)) }
 {

@@ -27,7 +27,8 @@ pub fn one_finding()
 {}
 
 /// A file has one report. Two checks of one file name and text, with the same rows and options, find the same
-/// and return the same counts unless they fail. What a failed check found are the first findings of that report.
+/// and return the same counts unless they fail. What a failed check found are the first findings of that
+/// report.
 pub fn one_report()
     ensures one { (rows : List Row) (options : Options) (file text : List ℕ) (a b : List Finding) (s t : Counts)
         → IsReport rows options file text a s → IsReport rows options file text b t → (a ≡ b) × (s ≡ t) }

@@ -173,7 +173,7 @@ fn first_moved<'r, 't>(rows: &'r [Row<'t>], key: &Key<'_>) -> Option<&'r Row<'t>
     rows.iter().find(|row| is_moved(&row.key, key))
 }
 
-/// The same for the rows of runs.
+/// The first row of these runs that has the name of a key in another section, or `None` if there is none.
 fn moved<'r, 't>(runs: &[Run<'r, 't>], key: &Key<'_>) -> Option<&'r Row<'t>>
     ensures { MatchOption result (HasNone (IsMovedRow (key_of key.now)) (rows_of runs.now))
         (λ row. IsFirstSuch (IsMovedRow (key_of key.now)) (rows_of runs.now) row.now) }
@@ -186,7 +186,7 @@ fn moved<'r, 't>(runs: &[Run<'r, 't>], key: &Key<'_>) -> Option<&'r Row<'t>>
     None
 }
 
-/// The same if a row has the section of the key, and otherwise `None`.
+/// The first row that has the name of the key in another section. `None` unless a row has the key's section.
 fn elsewhere<'r, 't>(runs: &[Run<'r, 't>], key: &Key<'_>) -> Option<&'r Row<'t>>
     ensures { MatchOption result (IsNowhere (rows_of runs.now) (key_of key.now))
         (λ row. IsElsewhere (rows_of runs.now) (key_of key.now) row.now) }
@@ -207,7 +207,8 @@ fn filled<'k>(row: &'k [u8], part: &'k [u8]) -> &'k [u8]
 /// What stands for the subsection of a key without one.
 const NAME: &[u8] = b"NAME";
 
-/// The same for subsections, with `NAME` for that of a key without one. `None` if the row's key has none.
+/// The subsection of the key if that of the row's key is `*`, or `NAME` if the key has none, and otherwise
+/// the row's. `None` if the row's key has no subsection.
 fn filled_subsection<'k>(row: &Key<'k>, key: &Key<'k>) -> Option<&'k [u8]>
     ensures { FillsSubsection (key_of row.now).subsection (key_of key.now).subsection
         (option_copied result) }
@@ -281,9 +282,10 @@ pub struct UnknownKey<'k> {
 }
 
 /// Returns the unknown key if a check should report it: it is near the key of a row, or a row has its name in
-/// another section, or it has no subsection, and only rows have settings in its section. Two keys are near if they differ in exactly one part: by one
-/// edit, by two if the part is long in both or, in the name of a key without a subsection, by a missing
-/// run of bytes. Returns `None` for any other text, and an error if there is no memory.
+/// another section, or it has no subsection, and only rows have settings in its section. Two keys are near if
+/// they differ in exactly one part: by one edit, by two if the part is long in both or, in the name of a key
+/// without a subsection, by a missing run of bytes. Returns `None` for any other text, and an error if there
+/// is no memory.
 pub(crate) fn unknown_key<'k>(
     alloc: Global,
     runs: &[Run<'_, 'k>],

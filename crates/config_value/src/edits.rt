@@ -402,8 +402,8 @@ fn canonical_of(kind: Option<Kind>, value: &str) -> Option<CanonicalText> {
     normalize(kind?, BStr::new(value.as_bytes()))
 }
 
-/// The text of a value that is written as a type asks, or `None` if the value is none of the type. A color stays
-/// as it is.
+/// The text of a value that is written as a type asks, or `None` if the value is none of the type. A color
+/// stays as it is.
 fn written(alloc: Global, shown: Shown, value: &str) -> Result<Option<Vec<u8>>, AllocError> {
     let (first, second) = kinds_of(shown);
     let found = match canonical_of(first, value) {

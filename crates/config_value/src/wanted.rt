@@ -88,7 +88,8 @@ enum Keys<'k> {
     One(Key<'k>),
     /// Those that are listed as this text, byte for byte.
     Listed(&'k str),
-    /// The same, and those that say whether the output of diffs, or all output, is colored.
+    /// Those that are listed as this text, and those that say whether the output of diffs, or all output, is
+    /// colored.
     OfUse(&'k str),
     /// Those of this section, and with this name if there is one, whatever their subsection is.
     OfSection(&'k str, Option<&'k str>),

@@ -44,7 +44,7 @@ pub enum Misuse {
     /// Options that do not go together, as this says.
     #[error("{0}")]
     Apart(&'static str),
-    /// The same, where Git has a status of its own for it.
+    /// Options that do not go together, where Git has a status of its own for it.
     #[error("{0}")]
     Fatal(&'static str),
     /// There is no such type.

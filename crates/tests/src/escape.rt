@@ -1,5 +1,5 @@
-//! Escape sequences of colors, as Git 2.39.5 writes them for `git config --type=color`, and those of colors that
-//! no text reads to. One color over another, and the composition of colors without a text.
+//! Escape sequences of colors, as Git 2.39.5 writes them for `git config --type=color`, and those of colors
+//! that no text reads to. One color over another, and the composition of colors without a text.
 
 use crate::support::equal;
 use bitflags::Flags;

@@ -297,8 +297,8 @@ fn follows_an_include_whose_condition_holds(rt: HostRuntime) {
     }
 }
 
-/// URLs of remotes, a pattern, and whether Git 2.39.5 and 2.55.0 follow an include that asks for it. They answer
-/// the same in a repository and outside of any.
+/// URLs of remotes, a pattern, and whether Git 2.39.5 and 2.55.0 follow an include that asks for it. They
+/// answer the same in a repository and outside of any.
 static REMOTES: [(&[&[u8]], &str, bool); 20] = [
     (&[], "**", false),
     (&[b""], "**", true),
