@@ -1,6 +1,6 @@
 //! Lists the entries of texts, or prints values of them.
 
-use crate::output::{Ending, Listed, Origin, push_as_git, push_entry, tell, tell_refusal};
+use crate::output::{Ending, Listed, Name, Origin, push_as_git, push_entry, tell, tell_refusal};
 use crate::request::{Request, Style, Subject, Texts};
 use crate::shown::{Homes, Outcome, Shown, put_value};
 use crate::sources::{COMMAND, Opened, open_texts};
@@ -36,8 +36,6 @@ pub struct Reading<'r, 'm, 'a, 'p, 't, W: Write + Drop> {
     found: Vec<Setting<'t>>,
     /// A value as it is shown.
     text: Vec<u8>,
-    /// The key of an entry as it is listed.
-    name: Vec<u8>,
     /// What is still to be written.
     pub output: Vec<u8>,
 }
@@ -103,15 +101,14 @@ impl<'t, W: Write + Drop> Reading<'_, '_, '_, '_, 't, W> {
             self.output.clear();
         }
         let value = shown_value(outcome, setting, &self.text);
-        if key.is_none() && self.request.shows_names {
-            self.name.clear();
-            setting.entry.push_key(&mut self.name)?;
-        }
         let listed = Listed {
             scope: setting.scope,
             file: setting.file,
             line: setting.entry.line,
-            key: key.unwrap_or(&self.name),
+            key: match key {
+                Some(key) => Name::Text(key),
+                None => Name::Of(&setting.entry),
+            },
         };
         push_as_git(&mut self.output, self.request, origin, listed, value)?;
         Ok(outcome)
@@ -124,14 +121,12 @@ impl<'t, W: Write + Drop> Reading<'_, '_, '_, '_, 't, W> {
         file: &'t [u8],
         entry: &Entry<'t>,
         value: Option<&[u8]>,
-    ) -> io::Result<()> {
-        self.name.clear();
-        entry.push_key(&mut self.name)?;
+    ) -> Result<(), AllocError> {
         let listed = Listed {
             scope,
             file,
             line: entry.line,
-            key: &self.name,
+            key: Name::Of(entry),
         };
         if matches!(self.request.style, Style::Places) {
             return push_entry(&mut self.output, self.request, listed, value);
@@ -190,8 +185,8 @@ impl<'t, W: Write + Drop> Reading<'_, '_, '_, '_, 't, W> {
         Ok(())
     }
 
-    /// Takes the next entries of a walk, up to one that includes a file. Returns the text of that file, in which
-    /// the walk goes on, or `None` at the end.
+    /// Takes the next entries of a walk, up to one that includes a file. Returns the text of that file, in
+    /// which the walk goes on, or `None` at the end.
     fn pull(
         &mut self,
         disk: &Disk<'t, HostRuntime>,
@@ -214,8 +209,8 @@ impl<'t, W: Write + Drop> Reading<'_, '_, '_, '_, 't, W> {
         Ok(None)
     }
 
-    /// Takes the entries of a text, and of the files that it includes, up to where Git stops. Before each text is
-    /// read, it finds what its conditions ask about.
+    /// Takes the entries of a text, and of the files that it includes, up to where Git stops. Before each
+    /// text is read, it finds what its conditions ask about.
     fn walk(
         &mut self,
         surroundings: &mut Surroundings<'t>,
@@ -393,7 +388,6 @@ fn answer_in<'t, 'a>(
         wanted,
         found: Vec::new(rt.alloc()),
         text: Vec::new(rt.alloc()),
-        name: Vec::new(rt.alloc()),
         output: Vec::new(rt.alloc()),
     };
     let mut ending = reading.walk_all(&mut surroundings, ending)?;

@@ -3,10 +3,11 @@
 use crate::request::{Request, Subject};
 use crate::shown::Shown;
 use bstr::BStr;
-use config_file::{Scope, Setting};
+use config_file::{Entry, Scope, Setting};
 use config_host::shown;
 use gix_config_value::canonical::{Kind, refusal};
 use itoa::Buffer;
+use std::alloc::AllocError;
 use std::fmt;
 use std::io::{self, Write};
 
@@ -33,7 +34,11 @@ pub fn tell<M: fmt::Display + Drop>(rt: &HostRuntime, message: M) -> io::Result<
 }
 
 /// Appends the word for a scope, if it is to be shown.
-fn push_scope(line: &mut Vec<u8>, request: &Request<'_, '_>, scope: Scope) -> io::Result<()> {
+fn push_scope(
+    line: &mut Vec<u8>,
+    request: &Request<'_, '_>,
+    scope: Scope,
+) -> Result<(), AllocError> {
     if request.shows_scope {
         line.extend_from_slice(scope.name().as_bytes())?;
         line.push(if request.null { 0 } else { b'\t' })?;
@@ -41,22 +46,41 @@ fn push_scope(line: &mut Vec<u8>, request: &Request<'_, '_>, scope: Scope) -> io
     Ok(())
 }
 
+/// The key under which an entry is listed.
+#[derive(Clone, Copy)]
+pub enum Name<'s, 't> {
+    /// This text.
+    Text(&'s [u8]),
+    /// The key of this entry, as Git lists it.
+    Of(&'s Entry<'t>),
+}
+
+impl Name<'_, '_> {
+    /// Appends the key.
+    fn push_to(self, line: &mut Vec<u8>) -> Result<(), AllocError> {
+        match self {
+            Name::Text(text) => line.extend_from_slice(text),
+            Name::Of(entry) => entry.push_key(line),
+        }
+    }
+}
+
 /// What is listed of an entry besides its value: the scope and the name of its file, its line, and its key.
 #[derive(Clone, Copy)]
-pub struct Listed<'s> {
+pub struct Listed<'s, 't> {
     pub scope: Scope,
     pub file: &'s [u8],
     pub line: usize,
-    pub key: &'s [u8],
+    pub key: Name<'s, 't>,
 }
 
 /// Appends an entry after its file and its line.
 pub fn push_entry(
     line: &mut Vec<u8>,
     request: &Request<'_, '_>,
-    listed: Listed<'_>,
+    listed: Listed<'_, '_>,
     value: Option<&[u8]>,
-) -> io::Result<()> {
+) -> Result<(), AllocError> {
     let (place, equals, end) = if request.null {
         (b"\0".as_slice(), b'\n', 0)
     } else {
@@ -67,7 +91,7 @@ pub fn push_entry(
     line.push(b':')?;
     line.extend_from_slice(Buffer::new().format(listed.line).as_bytes())?;
     line.extend_from_slice(place)?;
-    line.extend_from_slice(listed.key)?;
+    listed.key.push_to(line)?;
     if let Some(value) = value {
         line.push(equals)?;
         line.extend_from_slice(value)?;
@@ -106,15 +130,14 @@ fn is_escaped(byte: u8) -> bool {
 }
 
 /// Appends a byte of the name of a file, as Git escapes it.
-fn push_escaped(line: &mut Vec<u8>, byte: u8) -> io::Result<()> {
+fn push_escaped(line: &mut Vec<u8>, byte: u8) -> Result<(), AllocError> {
     if !is_escaped(byte) {
         line.push(byte)?;
         return Ok(());
     }
     for (letter, escape) in LETTERS {
         if *letter == byte {
-            line.extend_from_slice(escape)?;
-            return Ok(());
+            return line.extend_from_slice(escape);
         }
     }
     line.extend_from_slice(&[
@@ -122,15 +145,13 @@ fn push_escaped(line: &mut Vec<u8>, byte: u8) -> io::Result<()> {
         b'0' + byte / 64,
         b'0' + byte / 8 % 8,
         b'0' + byte % 8,
-    ])?;
-    Ok(())
+    ])
 }
 
 /// Appends the name of a file: in quotes if one of its bytes is escaped, unless a NUL ends it.
-fn push_file(line: &mut Vec<u8>, name: &[u8], null: bool) -> io::Result<()> {
+fn push_file(line: &mut Vec<u8>, name: &[u8], null: bool) -> Result<(), AllocError> {
     if null || !name.iter().any(|byte| is_escaped(*byte)) {
-        line.extend_from_slice(name)?;
-        return Ok(());
+        return line.extend_from_slice(name);
     }
     line.push(b'"')?;
     for byte in name {
@@ -141,7 +162,12 @@ fn push_file(line: &mut Vec<u8>, name: &[u8], null: bool) -> io::Result<()> {
 }
 
 /// Appends where an entry is, as Git writes it.
-fn push_origin(line: &mut Vec<u8>, null: bool, origin: Origin, file: &[u8]) -> io::Result<()> {
+fn push_origin(
+    line: &mut Vec<u8>,
+    null: bool,
+    origin: Origin,
+    file: &[u8],
+) -> Result<(), AllocError> {
     match origin {
         Origin::File => {
             line.extend_from_slice(b"file:")?;
@@ -160,16 +186,16 @@ pub fn push_as_git(
     line: &mut Vec<u8>,
     request: &Request<'_, '_>,
     origin: Origin,
-    listed: Listed<'_>,
+    listed: Listed<'_, '_>,
     value: Option<&[u8]>,
-) -> io::Result<()> {
+) -> Result<(), AllocError> {
     let null = request.null;
     push_scope(line, request, listed.scope)?;
     if request.shows_origin {
         push_origin(line, null, origin, listed.file)?;
     }
     if request.shows_names {
-        line.extend_from_slice(listed.key)?;
+        listed.key.push_to(line)?;
     }
     if let Some(value) = value {
         if request.shows_values {
