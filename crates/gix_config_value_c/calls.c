@@ -118,7 +118,7 @@ static gcv_status write_text(const char *text, size_t length, char *buffer, size
 gcv_status gcv_fault_text(gcv_fault fault, char *GCV_RESTRICT buffer, size_t capacity, size_t *size)
 {
     /* the text for a refused suffix, whose fault has no text in the proved library */
-    static const char suffix[] = "Suffixes need to be 'k', 'm' or 'g'";
+    static const char suffix[] = "Suffixes are k, m and g, in either case";
     if (fault == GCV_FAULT_NONE) {
         return write_text(suffix, sizeof suffix - 1, buffer, capacity, size);
     }

@@ -205,7 +205,7 @@ static void contexts(void)
 static void fault_texts(void)
 {
     static const char *const texts[] = {
-        "Suffixes need to be 'k', 'm' or 'g'",
+        "Suffixes are k, m and g, in either case",
         "Booleans need to be 'no', 'off', 'false', '' or 'yes', 'on', 'true' or any number",
         "Integers needs to be positive or negative numbers which may have a suffix like 1k, 42, or 50G",
         "integer suffix multiplication overflows `i64`",
