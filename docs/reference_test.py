@@ -20,8 +20,8 @@ import reference
 
 # what a user does on a page, and then what is written into its title
 DONE = {
-    "search finds a type, another name of one, and a variant": ("index.html",
-        "config_color.color.html#Color config_file.errors.html#Error config_text.errors.html#Fault.OutOfRange", """
+    "search finds types and a variant": ("index.html",
+        "config_color.color.html#Color config_file.errors.html#FileError config_text.errors.html#Fault.OutOfRange", """
         const box = document.getElementById("search");
         document.title = ["Color", "FileError", "outofrange"].map(text => {
             box.value = text; box.dispatchEvent(new Event("input"));
