@@ -116,7 +116,8 @@ fn boolean(alloc: Global, text: &[u8]) -> Result<Option<Meant>, AllocError> {
     }
 }
 
-/// The number without what Git does not read in it: blanks, `_` and `,`, and the bytes of a unit, as in `500MB`.
+/// The number without what Git does not read in it: blanks, `_` and `,`, and the bytes of a unit, as in
+/// `500MB`.
 fn number(alloc: Global, text: &[u8]) -> Result<Option<Meant>, AllocError> {
     let mut plain = Vec::new(alloc);
     for byte in text {
