@@ -50,6 +50,8 @@ COMMANDS = {
     "log-grep": ("", "git log --grep=one -1"),
     "show-signature": ("", "git log --show-signature -1"),
     "log-merges": ("", "git log -1 --diff-merges=on"),
+    "sign": ("", "git -c gpg.format=ssh -c user.signingKey=x commit -q -S --allow-empty -m x"),
+    "other-owner": ("", "GIT_TEST_ASSUME_DIFFERENT_OWNER=1 git status"),
     "diff": ("", "git diff HEAD~1 -- a.txt b.foo"),
     "diff-stat": ("", "git diff --dirstat HEAD~1"),
     "diff-submodule": ("", "git diff v1 HEAD"),
@@ -305,7 +307,8 @@ CLASSES = {
     "a number of 2^63 and more": lambda case: case.question.value == str(2 ** 63) and case.git == "takes",
     "Git warns of a missing value, or of a number: an error": lambda case: (case.ours, case.git) == ("dies", "warns"),
     "Git stops at some wrong values only: a warning": lambda case: (case.ours, case.git) == ("warns", "dies"),
-    "a text that the command reads further": lambda case: case.kind == "text" and case.ours == "takes",
+    "a text that the command reads further": lambda case: case.kind in ("text", "path") and case.ours == "takes",
+    "the mark of a path, which Git knows since 2.52": lambda case: (case.question.value or "").startswith(":(optional)"),
     "a right value with an effect that fails": lambda case: case.question.row in EFFECTS and case.ours == "takes",
     "a kind that takes more than Git": lambda case: case.question.row in WIDER and case.ours == "takes",
 }
@@ -334,7 +337,7 @@ def verdicts(program, version, questions):
     asked = [question for question in questions if question.command != "-"]
     file = "".join(entry(question.key, question.value) for question in asked)
     run_of = subprocess.run([program, "--git", version, "-"], input=file.encode(errors="surrogateescape"),
-                            stdout=subprocess.PIPE, stderr=subprocess.DEVNULL, check=False)
+                            stdout=subprocess.PIPE, stderr=subprocess.DEVNULL, check=False, env={**os.environ, "HOME": "/"})
     found = dict.fromkeys(questions) | dict.fromkeys(asked, "takes")
     for line in run_of.stdout.splitlines():
         _, number, _, severity, _ = line.split(b":", 4)

@@ -17,6 +17,7 @@ use config_checks::finding::{Finding, key_text};
 use config_checks::fix::Judge;
 use config_checks::key::covers;
 use config_checks::outcome::Outcome;
+use config_checks::paths::is_homeless;
 use config_checks::reason::Severity;
 use config_checks::row::Row;
 use config_checks::setting::Setting;
@@ -24,6 +25,7 @@ use config_file::key::Key;
 use config_file::{Condition, Content, Entries, Entry, FilePlace, Files, Include, Step, Walk};
 use config_host::surroundings::Followed;
 use config_host::{Disk, Surroundings, files_here};
+use gix_config_value::path::parts::joint_of;
 use std::alloc::{AllocError, Global};
 use std::collections::BTreeSet;
 use std::fmt;
@@ -214,8 +216,8 @@ impl<'c, 't> Checking<'c, 't> {
         }
     }
 
-    /// Checks the text of a file, which is open from now on, and adds its counts. Returns the text: if the file
-    /// is named and may be changed, that is its new one.
+    /// Checks the text of a file, which is open from now on, and adds its counts. Returns the text: if the
+    /// file is named and may be changed, that is its new one.
     fn check(
         &mut self,
         name: &'t [u8],
@@ -475,6 +477,42 @@ impl<'c, 't> Checking<'c, 't> {
         Ok(())
     }
 
+    /// The name of the file that a path names in the home directory of a user. `None` if the path does not begin
+    /// with one.
+    fn name_at_user(&self, path: &[u8]) -> Result<Option<Vec<u8>>, AllocError> {
+        let Some(users) = self.asked.options.users else {
+            return Ok(None);
+        };
+        let Ok(joint) = joint_of::<&[u8], &[u8]>(path, None, None, Some(users.passwd)) else {
+            return Ok(None);
+        };
+        let mut name = joint.dir.unwrap_or(b"").to_vec(self.rt.alloc())?;
+        name.extend_from_slice(joint.slash().as_bytes())?;
+        name.extend_from_slice(joint.rest.as_bytes())?;
+        Ok(Some(name))
+    }
+
+    /// Does the same as [`Checking::include`] for a path that begins with a directory which the walk does not
+    /// know: the home directory of a user. Reports one that is not there, and passes `%(prefix)/`.
+    fn include_unknown(
+        &mut self,
+        walk: &mut Walk<'t>,
+        place: FilePlace<'t>,
+        entry: &Entry<'t>,
+    ) -> Result<(), Failure<'static>> {
+        let Some(value) = &entry.value else {
+            return Ok(());
+        };
+        let path = value.text(self.rt.alloc())?;
+        if is_homeless(self.asked.options.users, &path) {
+            return self.report(place, entry, UNKNOWN_DIRECTORY);
+        }
+        match self.name_at_user(&path)? {
+            Some(name) => self.include(walk, place, entry, name),
+            None => Ok(()),
+        }
+    }
+
     /// Reports the condition of an entry that includes a file, if Git does not know this condition.
     fn judge_condition(
         &mut self,
@@ -517,7 +555,7 @@ impl<'c, 't> Checking<'c, 't> {
                 }
                 Step::Entry(place, entry, Include::UnknownDirectory) => {
                     self.judge_condition(place, &entry)?;
-                    self.report(place, &entry, UNKNOWN_DIRECTORY)?;
+                    self.include_unknown(&mut walk, place, &entry)?;
                 }
                 Step::Ends => break,
                 _ => {}

@@ -5,6 +5,7 @@ use clap::{Arg, ArgAction, ArgMatches, Command};
 use config_checks::code::Code;
 use config_checks::git::NEWEST;
 use config_checks::options::Options;
+use config_checks::paths::Users;
 use config_checks::reason::Severity;
 use config_checks::version::Version;
 use config_file::key::Key;
@@ -82,7 +83,7 @@ const OPTIONS: &[(&str, &str, &str)] = &[
     (
         "root",
         "DIR",
-        "Look for included files with an absolute path, or below a home directory, in this folder",
+        "Look for users, and for included files with an absolute path or below a home directory, in this folder",
     ),
     (
         "baseline",
@@ -210,7 +211,7 @@ pub(crate) enum Ignored<'m> {
 /// What a run is asked for.
 #[derive(Drop)]
 pub(crate) struct Asked<'r, 'm> {
-    pub(crate) options: Options,
+    pub(crate) options: Options<'r>,
     pub(crate) style: Style,
     pub(crate) output: Output,
     pub(crate) fails_on: Severity,
@@ -309,16 +310,18 @@ fn output_of<'m>(matches: &ArgMatches<'m>) -> Result<Output, Failure<'m>> {
 }
 
 impl<'r, 'm: 'r> Asked<'r, 'm> {
-    /// What these arguments ask for, of which `--ignore` is read already.
+    /// What these arguments ask for, of which `--ignore` is read already, on a system with these users.
     pub(crate) fn of(
         rt: &HostRuntime,
         matches: &'r ArgMatches<'m>,
         ignored: &'r [Ignored<'m>],
+        users: Option<Users<'r>>,
     ) -> Result<Asked<'r, 'm>, Failure<'m>> {
         Ok(Asked {
             options: Options {
                 git: git_of(matches)?,
                 canonical: matches.get_flag("canonical"),
+                users,
             },
             style: style_of(rt, matches)?,
             output: output_of(matches)?,

@@ -28,6 +28,7 @@ const KINDS: &[&[u8]] = &[
     b"int",
     b"bool-or-int",
     b"color",
+    b"path",
     b"word",
     b"word-any-case",
     b"bool-or-word",

@@ -167,6 +167,14 @@ def other_machines(group, program):
             wanted = [[f"{front}/etc/git/more", "2", "[bad-boolean]"], [f"{front}/etc/git/deeper", "2", "[bad-boolean]"],
                       [f"{front}/home/me/mine", "2", "[bad-boolean]"], ["beside", "2", "[bad-boolean]"], ["file", "5", "[missing-file]"]]
             group.expect(("--root", root), wanted, found)
+        (folder / "root/etc/passwd").write_text("no-such-user:x:1000:1000::/home/ann:/bin/sh\n")
+        (folder / "paths").write_text("[core]\n\thooksPath = ~no-such-user\n\texcludesFile = ~root/x\n\tattributesFile = ~/x\n")
+        homeless = {key: value for key, value in known.items() if key != "HOME"}
+        for how, env, wanted in (([], known, "2"), ([], homeless, "24"), (["--root", "root"], known, "3"),
+                                 (["--root", "root"], homeless, "34"), (["--root", "none"], homeless, "")):
+            came = program.run([*how, "paths"], cwd=folder, env=env)
+            found = "".join(line.split(":")[1] for line in came.output.decode().splitlines() if line.endswith("[no-home]"))
+            group.expect(("users", how), wanted, found)
         came = program.run(["--no-includes", "file"], cwd=folder, env=known)
         group.expect("--no-includes", (0, b""), (came.status, came.output))
 

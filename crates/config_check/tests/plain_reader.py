@@ -7,6 +7,8 @@ import collections
 import functools
 import hashlib
 import itertools
+import os
+import pwd
 import re
 import sys
 
@@ -186,6 +188,29 @@ def of_color(_, text):
     return color(text)
 
 
+# paths
+
+NO_HOME = b"no such user or no home directory"
+
+
+def has_home(name):
+    """Whether the user of this name, or the current one if it is empty, has a home directory."""
+    if not name:
+        return "HOME" in os.environ
+    try:
+        return bool(pwd.getpwnam(os.fsdecode(name)))
+    except KeyError:
+        return False
+
+
+def of_path(_, text):
+    """A path has no other spelling."""
+    front = text.removeprefix(b":(optional)").partition(b"/")[0]
+    if front.startswith(b"~") and not has_home(front[1:]):
+        raise Refused(NO_HOME)
+    return text
+
+
 # what to write in place of a value that is refused
 
 BLANKS = b" \t\n\r\f"
@@ -320,7 +345,7 @@ def of_words(kind, words, text):
 
 
 ANY_CASE = b"-any-case"
-KINDS = {b"text": of_text, b"bool": of_bool, b"int": of_int, b"bool-or-int": of_bool_or_int, b"color": of_color}
+KINDS = {b"text": of_text, b"path": of_path, b"bool": of_bool, b"int": of_int, b"bool-or-int": of_bool_or_int, b"color": of_color}
 WITH_WORDS = [*FORMS, *(form + ANY_CASE for form in FORMS)]
 RIGHT_ALONE = [b"bool", b"bool-or-int", b"bool-or-word", b"bool-or-word" + ANY_CASE]
 
@@ -427,7 +452,9 @@ def row_of(fields):
         return None
     row = Row(key_of(text), *versions, marks.get(b"instead="), marks.get(b"is="), must, kind in RIGHT_ALONE if alone is None else alone,
               warns, kind, words, text)
-    return row if row.wanted is None or wrong(row, row.wanted, False) is None else None
+    # a row may want any path, whatever users there are
+    is_taken = row.wanted is None or kind == b"path" or wrong(row, row.wanted, False) is None
+    return row if is_taken else None
 
 
 def rows_of(text):
@@ -707,7 +734,7 @@ CODES = {
     BOOLEAN_FAULT: "bad-boolean", INTEGER_FAULT: "bad-integer", COLOR_FAULT: "bad-color", OVERFLOW_FAULT: "out-of-range",
     b"out of range: ": "out-of-range", b"not ": "not-a-word", b"no value": "no-value", b"unknown key": "unknown-key",
     b"Git reads it only since ": "too-new", b"Git reads it only before ": "gone", b"deprecated: use ": "deprecated",
-    b"should be ": "not-canonical", b"has to be ": "other-value", b"Git cannot read this line": "invalid-line", b"a NUL byte ": "invalid-line",
+    b"should be ": "not-canonical", b"has to be ": "other-value", NO_HOME: "no-home", b"Git cannot read this line": "invalid-line", b"a NUL byte ": "invalid-line",
 }
 
 

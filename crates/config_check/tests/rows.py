@@ -12,6 +12,7 @@ test.size \t int 0 0x7fffffffffffffff
 test.bool-or-int bool-or-int
 test.color color
 test.text text
+test.path path
 test.word word one Two three-3
 test.alone word alone
 test.word-any-case word-any-case one Two kilo
@@ -28,6 +29,7 @@ test.hash word a#b \\# \\#c # no-word \\d
 mark.alone alone text
 mark.needs needs-value bool
 mark.warn warn int -1 0x10k
+mark.path alone warn path
 mark.both alone warn word one
 mark.needs-warn needs-value warn bool-or-word one
 mark.since since=2.56 bool
@@ -41,6 +43,7 @@ want.int is=1k int
 want.bool-or-int is=1 bool-or-int
 want.color is=#fff color
 want.text is=true alone text
+want.path is=~no-such-user/x path
 want.word is=Two word-any-case one Two
 want.bool-or-word is=off bool-or-word off auto
 want.int-or-word is=0x10 warn int-or-word auto
@@ -78,6 +81,7 @@ BOOLEAN_FAULT = b"error: " + plain_reader.BOOLEAN_FAULT
 INTEGER_FAULT = b"error: " + plain_reader.INTEGER_FAULT
 OVERFLOW_FAULT = b"error: " + plain_reader.OVERFLOW_FAULT
 COLOR_FAULT = b"error: " + plain_reader.COLOR_FAULT
+NO_HOME = b"error: no such user or no home directory"
 BAD_LINE = b"error: Git cannot read this line, and reads nothing of the file\n"
 NUL = b"error: a NUL byte outside a comment\n"
 NO_VALUE = b"error: no value"
@@ -139,6 +143,12 @@ TEXTS = [b"", b":(optional)", b"\xff", b"/x", b"x", b"x/y", b" ", b"~", b"~/", b
          b"\xc3\xa9", b":(optional)x", b":(optional) ", b":(optional):(optional)", b":(Optional)",
          b":(optional", b"x:(optional)"]
 
+PATHS = [b"", b":(optional)", b"/x", b"x", b" ", b"~", b"~/", b"~/x", b"~//x", b"~root", b"~root/x", b"%(prefix)/x", b"%(prefix)",
+         b":(optional)~/x", b":(optional)~root/x", b":(optional):(optional)~no-such-user/x", b":(Optional)~no-such-user/x",
+         b" ~no-such-user/x", b"x~no-such-user/x", b"/~no-such-user/x", b"\xff"]
+NO_PATHS = [b"~no-such-user", b"~no-such-user/", b"~no-such-user/x", b":(optional)~no-such-user/x", b"~ROOT/x", b"~~/x", b"~ /x",
+            b"~root:/x", b"~root /x", b"~\xc3\xa9/x"]
+
 # key, and the values that are right
 ACCEPTED = [
     (b"test.bool", [None, *WORDS, *SMALL_NUMBERS]),
@@ -149,6 +159,8 @@ ACCEPTED = [
     (b"test.bool-or-int", [None, *WORDS, *SMALL_NUMBERS]),
     (b"test.color", [*NAMES, *ATTRIBUTES, *COLORS]),
     (b"test.text", TEXTS),
+    (b"test.path", PATHS),
+    (b"mark.path", [None, b"~/x"]),
     (b"test.word", [b"one", b"Two", b"three-3"]),
     (b"test.alone", [b"alone"]),
     (b"test.word-any-case", [b"one", b"ONE", b"oNe", b"two", b"Two", b"TWO", b"kilo", b"KILO"]),
@@ -194,6 +206,10 @@ REPORTED = [
     (b"test.color", NO_VALUE, [None]),
     (b"test.color", COLOR_FAULT, NO_COLORS),
     (b"test.text", NO_VALUE, [None]),
+    (b"test.path", NO_VALUE, [None]),
+    (b"test.path", NO_HOME, NO_PATHS),
+    (b"mark.path", b"warning: " + plain_reader.NO_HOME, [b"~no-such-user/x"]),
+    (b"want.path", NO_HOME, [b"~no-such-user/x"]), (b"want.path", b"error: has to be ~no-such-user/x", [b"x", b"~/x", b""]),
     (b"test.word", NO_VALUE, [None]),
     (b"test.word", NO_WORD, [b"", b"one Two", b"one, Two", b"yes", b"1", b"ow", b"oen ", b"thr---3-"]),
     (b"test.alone", b"error: not one of: alone", [b"", b"al"]),
@@ -300,6 +316,7 @@ CANONICAL = [
                      b"default normal bold dim italic ul blink reverse strike reset "
                      b"nodim nobold noitalic noul noblink noreverse nostrike"]),
     (b"test.text", [b"x", b"//x", b"~/x", b":(optional)x", b"x/../y"]),
+    (b"test.path", [b"x", b"//x", b"~/x", b":(optional)x", b"x/../y"]),
     (b"test.word", [b"one", b"Two"]),
     (b"test.word-any-case", [b"one", b"Two", b"kilo"]),
     (b"test.bool-or-word", [None, b"always", b"true", b"false"]),
@@ -338,6 +355,8 @@ SHOWN = [
 
 # other values that are not shown as they are: key, value, how it is shown, and the reason
 SHOWN_OF_KINDS = [
+    (b"test.path", b"~\xff/x", rb"~\xff/x", NO_HOME),
+    (b"test.path", b"~\n/x", rb"~\x0a/x", NO_HOME),
     (b"test.bool", b"\t1", rb"\x091", BOOLEAN_FAULT),
     (b"test.bool", b"yes\n", rb"yes\x0a", BOOLEAN_FAULT),
     (b"test.int", b"\n1", rb"\x0a1", INTEGER_FAULT),
@@ -431,7 +450,8 @@ BUILT_IN = [
     (b"branch.x.rebase", b"maybe", b"error: not a boolean, nor one of: "), (b"branch.x.rebase", b"true", None),
     (b"branch.a.b.rebase", b"interactive", None), (b"branch.x.rebase", None, None),
     (b"core.excludesFile", b"", None), (b"core.excludesfile", b"~/x", None),
-    (b"core.excludesfile", None, NO_VALUE),
+    (b"core.excludesfile", None, NO_VALUE), (b"core.excludesfile", b"~no-such-user/x", NO_HOME), (b"core.fsmonitor", b"yes", None),
+    (b"core.fsmonitor", b"~no-such-user/x", NO_HOME), (b"gpg.program", b"~no-such-user/x", NO_HOME), (b"core.editor", b"~no-such-user/x", None),
     (b"core.whitespace", b"incomplete-line", None), (b"pull.autostash", None, None), (b"http.maxretries", b"3", None),
     (b"maintenance.strategy", b"incrementl", b"error: not one of: "), (b"core.fsyncobjectfiles", b"true", b"warning: deprecated: use core.fsync"),
     (b"core.bare", b"2g", NO_INT), (b"add.interactive.usebuiltin", b"true", b"warning: Git reads it only before 2.40"),
@@ -465,7 +485,7 @@ BAD_ROWS = [
     (b"test.x must is=1 int\n", 1, NO_SUCH_KIND + b"is=1"), (b"test.x since=2 bool\n", 1, NO_VERSION), (b"test.x since=2.1 until= bool\n", 1, NO_VERSION),
     (b"test.x until=2.1 since=2.0 bool\n", 1, NO_SUCH_KIND + b"since=2.0"), (b"test.x since=2.x\n", 1, NO_VERSION),
     (b"test.x size\n", 1, NO_SUCH_KIND + b"size"), (b"test.x wrod a\n", 1, NO_SUCH_KIND + b"wrod; did you mean word?"), (b"test.x sort-key\n", 1, NO_WORDS), (b"test.x text-any-case\n", 1, NO_SUCH_KIND + b"text-any-case"), (b"test.x \\\\bool\n", 1, NO_SUCH_KIND + b"\\\\bool; did you mean bool?"), (b"test.x # bool\n", 1, NO_KIND), (b"test.x word #a\n", 1, NO_WORDS), (b"test.x word\n", 1, NO_WORDS),
-    (b"test.x word-any-case\n", 1, NO_WORDS), (b"test.x bool-or-word \n", 1, NO_WORDS),
+    (b"test.x word-any-case\n", 1, NO_WORDS), (b"test.x bool-or-word \n", 1, NO_WORDS), (b"test.x path y\n", 1, WORDS + b"y"),
     (b"test.x bool-or-word-any-case\n", 1, NO_WORDS), (b"test.x bool\nnodot bool", 2, NO_DOT),
     (b"# first\n\ntest.x bool\n\ntest.y bool\ttrue\ntest.z none\n", 5, WORDS + b"true"),
 ]

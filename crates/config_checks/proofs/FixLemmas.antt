@@ -16,7 +16,6 @@ use Rattle.config_checks.specs.declared.reason.Reason.{Reason}
 use Rattle.config_checks.specs.declared.row.Row.{Row}
 use Rattle.config_checks.specs.declared.setting.Setting.{Setting}
 use Rattle.config_checks.specs.declared.suggestion.UnknownKey.{UnknownKey}
-use Rattle.config_checks.specs.declared.version.Version.{Version}
 use Rattle.config_checks.specs.Findings.{Finding}
 use Rattle.config_checks.specs.Fixes.{IsClean, IsOnlyMeant, IsOnlyKey, MendsValue, IsRenamed, MendsKey, Mends}
 use Rattle.config_checks.specs.Reasons.{HasFinding, IsMeant, WordEdits}
@@ -44,21 +43,21 @@ is_text t d is = rw (is_utf8-from_IsUtf8 t is) refl
 
 -- ---- a setting without a finding
 
-pub not_both : (git : Version) (wants : Bool) (row : Row) (value : Option (List ℕ)) (reason : Reason)
-    → HasFinding git wants row value (Some reason) → ¬ (HasFinding git wants row value None)
-not_both git wants row value reason bad good = no_finding reason (finding_once git row wants value None (Some reason) good bad)
+pub not_both : (options : Options) (row : Row) (value : Option (List ℕ)) (reason : Reason)
+    → HasFinding options row value (Some reason) → ¬ (HasFinding options row value None)
+not_both options row value reason bad good = no_finding reason (finding_once options row value None (Some reason) good bad)
 
 module _ (rows : List Row) (options : Options) where
   pub clean_if : (key : List ℕ) (value : Option (List ℕ)) (row : Row) (b : Bool) → Decides rows key row
-      → (IsTrue b ↔ HasFinding options.git options.canonical row value None) → IsTrue b ↔ IsClean rows options key value
+      → (IsTrue b ↔ HasFinding options row value None) → IsTrue b ↔ IsClean rows options key value
   clean_if key value row b decides is = (
     λ yes. record { row = row; decides = decides; clean = is.0 yes },
-    λ clean. is.1 (subst (λ r. HasFinding options.git options.canonical r value None)
+    λ clean. is.1 (subst (λ r. HasFinding options r value None)
         (row_once rows key clean.row row clean.decides decides) clean.clean),
   )
 
   module _ (setting : Setting) (code : Code) (new : List ℕ) (row : Row) (decides : Decides rows setting.key.items row) where
-    pub mends_if : (b : Bool) → HasFinding options.git options.canonical row (Some new) None
+    pub mends_if : (b : Bool) → HasFinding options row (Some new) None
         → (IsTrue b ↔ (code ≡ NotAWord → IsOnlyMeant row.kind (value_of setting) new))
         → IsTrue b ↔ MendsValue rows options setting code new
     mends_if b none is = (
@@ -67,8 +66,8 @@ module _ (rows : List Row) (options : Options) where
           (row_once rows setting.key.items mends.clean.row row mends.clean.decides decides) mends.only),
     )
 
-    pub mends_not : ¬ (HasFinding options.git options.canonical row (Some new) None) → ¬ (MendsValue rows options setting code new)
-    mends_not some mends = some (subst (λ r. HasFinding options.git options.canonical r (Some new) None)
+    pub mends_not : ¬ (HasFinding options row (Some new) None) → ¬ (MendsValue rows options setting code new)
+    mends_not some mends = some (subst (λ r. HasFinding options r (Some new) None)
         (row_once rows setting.key.items mends.clean.row row mends.clean.decides decides) mends.clean.clean)
 
 -- ---- the only word that is meant

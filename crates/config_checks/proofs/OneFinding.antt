@@ -20,13 +20,15 @@ use Rattle.config_checks.specs.declared.kind.Form.TheVariants as forms
 use Rattle.config_checks.specs.declared.kind.WordList.{WordList}
 use Rattle.config_checks.specs.declared.kind.SettingKind.{SettingKind}
 use Rattle.config_checks.specs.declared.kind.SettingKind.TheVariants as kinds
+use Rattle.config_checks.specs.declared.options.Options.{Options}
+use Rattle.config_checks.specs.declared.paths.Users.{Users}
 use Rattle.config_checks.specs.declared.row.Row.{Row}
 use Rattle.config_checks.specs.declared.reason.Reason.{Reason}
-use Rattle.config_checks.specs.declared.reason.Reason.TheVariants.{NoValue, Refused, OutOfRange, NoWord, IsNot, NotCanonical}
+use Rattle.config_checks.specs.declared.reason.Reason.TheVariants.{NoValue, Refused, OutOfRange, NoWord, NoHome, IsNot, NotCanonical}
 use Rattle.config_checks.specs.declared.reason.Reason.TheVariants.{TooNew, Gone, Deprecated, OtherCase}
 use Rattle.config_checks.specs.Kinds.{IsWord, IsFirstWord}
 use Rattle.config_checks.specs.Reasons.{IsJudged, IsWithin, IsJudgedWithin, IsJudgedBool, IsJudgedByWords}
-use Rattle.config_checks.specs.Reasons.{WordEdits, IsMeant, IsJudgedText, IsComparedTo, IsJudgedAlone, IsJudgedByRow, HasReason}
+use Rattle.config_checks.specs.Reasons.{WordEdits, IsMeant, IsJudgedPath, IsJudgedText, IsComparedTo, IsJudgedAlone, IsJudgedByRow, HasReason}
 use Rattle.config_checks.specs.Reasons.IsJudgedByRow.{refused, taken}
 use Rattle.config_checks.specs.Reasons.{IsRespelled, IsRespelledAs, IsRespelledByForm, IsRespelledByWords}
 use Rattle.config_checks.specs.Reasons.{HasSpelling, IsOutside, IsRemarkBy}
@@ -111,6 +113,7 @@ none_with NoValue same = absurd (cc)
 none_with (Refused f) same = absurd (cc)
 none_with (OutOfRange l h) same = absurd (cc)
 none_with (NoWord l v) same = absurd (cc)
+none_with NoHome same = absurd (cc)
 none_with (IsNot w) same = absurd (cc)
 none_with (TooNew v) same = absurd (cc)
 none_with (Gone v) same = absurd (cc)
@@ -141,6 +144,17 @@ words_once list t (Some (NoWord l v)) (Some (NoWord m w)) p q =
 words_once list t (Some (NoWord l v)) (Some _) p q = absurd q
 words_once list t (Some _) b p q = absurd p
 
+-- ---- paths
+
+path_once : (users : Option Users) (t : List ℕ) (a b : Option Reason) → IsJudgedPath users t a → IsJudgedPath users t b → a ≡ b
+path_once users t None None p q = refl
+path_once users t None (Some NoHome) p q = absurd (p q)
+path_once users t None (Some _) p q = absurd q
+path_once users t (Some NoHome) None p q = absurd (q p)
+path_once users t (Some NoHome) (Some NoHome) p q = refl
+path_once users t (Some NoHome) (Some _) p q = absurd q
+path_once users t (Some _) b p q = absurd p
+
 -- ---- the reason
 
 pub int_once : (t : List ℕ) (a b : Option Reason) → IsJudgedBool t a → IsJudgedBool t b → a ≡ b
@@ -149,15 +163,16 @@ int_once t a b p q = elim (amount_decided t) [
   | inr none ↦ judged_once BooleanText (OnlyFault faults.Boolean) t (always_once faults.Boolean t) a b (p.other none) (q.other none)
 ]
 
-text_judged_once : (kind : SettingKind) (t : List ℕ) (a b : Option Reason) → IsJudgedText kind t a
-    → IsJudgedText kind t b → IsSameFinding a b
-text_judged_once kinds.Text t a b p q = as_same a b (p ∙ sym q)
-text_judged_once kinds.Bool t a b p q = as_same a b (int_once t a b p q)
-text_judged_once (kinds.Int low high) t a b p q = as_same a b (same_number low high t a b p q)
-text_judged_once kinds.BoolOrInt t a b p q = as_same a b (int_once t a b p q)
-text_judged_once kinds.Color t a b p q =
+text_judged_once : (users : Option Users) (kind : SettingKind) (t : List ℕ) (a b : Option Reason) → IsJudgedText users kind t a
+    → IsJudgedText users kind t b → IsSameFinding a b
+text_judged_once users kinds.Text t a b p q = as_same a b (p ∙ sym q)
+text_judged_once users kinds.Bool t a b p q = as_same a b (int_once t a b p q)
+text_judged_once users (kinds.Int low high) t a b p q = as_same a b (same_number low high t a b p q)
+text_judged_once users kinds.BoolOrInt t a b p q = as_same a b (int_once t a b p q)
+text_judged_once users kinds.Color t a b p q =
     as_same a b (judged_once ColorText (OnlyFault faults.Color) t (always_once faults.Color t) a b p q)
-text_judged_once (kinds.Word list) t a b p q = words_once list t a b p q
+text_judged_once users kinds.Path t a b p q = as_same a b (path_once users t a b p q)
+text_judged_once users (kinds.Word list) t a b p q = words_once list t a b p q
 
 comparison_once : (wanted : Option (Bor (List ℕ))) (kind : SettingKind) (t : List ℕ) (a b : Option Reason)
     → IsComparedTo wanted kind t a → IsComparedTo wanted kind t b → a ≡ b
@@ -174,26 +189,27 @@ alone_once : (takes : Bool) (row : Row) (a b : Option Reason) → IsJudgedAlone 
 alone_once true row a b p q = comparison_once row.wanted row.kind (codes "true") a b p q
 alone_once false row a b p q = p ∙ sym q
 
-row_judged_once : (row : Row) (t : List ℕ) (a b : Option Reason) → IsJudgedByRow row t a → IsJudgedByRow row t b
-    → IsSameFinding a b
-row_judged_once row t a b (refused r p is) (refused s q also) =
-    subst (λ x. IsSameFinding x b) (sym is)
-    (subst (IsSameFinding (Some r)) (sym also) (text_judged_once row.kind t (Some r) (Some s) p q))
-row_judged_once row t a b (refused r p is) (taken q compared) =
-    absurd (none_with r (text_judged_once row.kind t (Some r) None p q))
-row_judged_once row t a b (taken p compared) (refused s q also) =
-    absurd (none_before s (text_judged_once row.kind t None (Some s) p q))
-row_judged_once row t a b (taken p compared) (taken q also) =
-    as_same a b (comparison_once row.wanted row.kind t a b compared also)
+module _ (users : Option Users) (row : Row) where
+  row_judged_once : (t : List ℕ) (a b : Option Reason) → IsJudgedByRow users row t a → IsJudgedByRow users row t b
+      → IsSameFinding a b
+  row_judged_once t a b (refused r p is) (refused s q also) =
+      subst (λ x. IsSameFinding x b) (sym is)
+      (subst (IsSameFinding (Some r)) (sym also) (text_judged_once users row.kind t (Some r) (Some s) p q))
+  row_judged_once t a b (refused r p is) (taken q compared) =
+      absurd (none_with r (text_judged_once users row.kind t (Some r) None p q))
+  row_judged_once t a b (taken p compared) (refused s q also) =
+      absurd (none_before s (text_judged_once users row.kind t None (Some s) p q))
+  row_judged_once t a b (taken p compared) (taken q also) =
+      as_same a b (comparison_once row.wanted row.kind t a b compared also)
 
-pub reason_once : (row : Row) (value : Option (List ℕ)) (a b : Option Reason) → HasReason row value a
-    → HasReason row value b → IsSameFinding a b
-reason_once row None a b p q = as_same a b (alone_once row.takes_no_value row a b p q)
-reason_once row (Some t) a b p q = row_judged_once row t a b p q
+  pub reason_once : (value : Option (List ℕ)) (a b : Option Reason) → HasReason users row value a
+      → HasReason users row value b → IsSameFinding a b
+  reason_once None a b p q = as_same a b (alone_once row.takes_no_value row a b p q)
+  reason_once (Some t) a b p q = row_judged_once t a b p q
 
-pub reason_or_none : (row : Row) (value : Option (List ℕ)) (r : Reason) → HasReason row value (Some r)
-    → ¬ (HasReason row value None)
-reason_or_none row value r p q = none_with r (reason_once row value (Some r) None p q)
+  pub reason_or_none : (value : Option (List ℕ)) (r : Reason) → HasReason users row value (Some r)
+      → ¬ (HasReason users row value None)
+  reason_or_none value r p q = none_with r (reason_once value (Some r) None p q)
 
 -- ---- how an accepted text is spelled
 
@@ -276,6 +292,7 @@ spelling_once kinds.BoolOrInt (Some t) a b p q = elim (amount_decided t) [
 ]
 spelling_once kinds.Color (Some t) a b p q =
     respelled_once ColorText CanonicalColor t a b p q
+spelling_once kinds.Path (Some t) a b p q = as_same a b (p ∙ sym q)
 spelling_once (kinds.Word list) (Some t) a b p q = respelled_words_once list t a b p q
 
 -- ---- the finding
@@ -303,20 +320,21 @@ module _ (git : Version) (row : Row) where
   outside_once (Gone v) _ p q = absurd q
   outside_once _ b p q = absurd p
 
-  pub finding_once : (wants : Bool) (value : Option (List ℕ)) (a b : Option Reason)
-      → HasFinding git wants row value a → HasFinding git wants row value b → IsSameFinding a b
-  finding_once wants value a b (outside r out is) (outside s also is') =
-      as_same a b (is ∙ ap (λ x. Some x) (outside_once r s out also) ∙ sym is')
-  finding_once wants value a b (outside r out is) (wrong of s judged is') = absurd (not_outside of r out)
-  finding_once wants value a b (outside r out is) (right of judged remark) = absurd (not_outside of r out)
-  finding_once wants value a b (wrong of r judged is) (outside s also is') = absurd (not_outside of s also)
-  finding_once wants value a b (wrong of r judged is) (wrong of' s judged' is') =
+module _ (options : Options) (row : Row) where
+  pub finding_once : (value : Option (List ℕ)) (a b : Option Reason)
+      → HasFinding options row value a → HasFinding options row value b → IsSameFinding a b
+  finding_once value a b (outside r out is) (outside s also is') =
+      as_same a b (is ∙ ap (λ x. Some x) (outside_once options.git row r s out also) ∙ sym is')
+  finding_once value a b (outside r out is) (wrong of s judged is') = absurd (not_outside options.git row of r out)
+  finding_once value a b (outside r out is) (right of judged remark) = absurd (not_outside options.git row of r out)
+  finding_once value a b (wrong of r judged is) (outside s also is') = absurd (not_outside options.git row of s also)
+  finding_once value a b (wrong of r judged is) (wrong of' s judged' is') =
       subst (λ x. IsSameFinding x b) (sym is)
-      (subst (IsSameFinding (Some r)) (sym is') (reason_once row value (Some r) (Some s) judged judged'))
-  finding_once wants value a b (wrong of r judged is) (right of' judged' remark) =
-      absurd (none_with r (reason_once row value (Some r) None judged judged'))
-  finding_once wants value a b (right of judged remark) (outside s also is') = absurd (not_outside of s also)
-  finding_once wants value a b (right of judged remark) (wrong of' s judged' is') =
-      absurd (none_before s (reason_once row value None (Some s) judged judged'))
-  finding_once wants value a b (right of judged remark) (right of' judged' remark') =
-      remark_once row.instead wants row.kind value a b remark remark'
+      (subst (IsSameFinding (Some r)) (sym is') (reason_once options.users row value (Some r) (Some s) judged judged'))
+  finding_once value a b (wrong of r judged is) (right of' judged' remark) =
+      absurd (none_with r (reason_once options.users row value (Some r) None judged judged'))
+  finding_once value a b (right of judged remark) (outside s also is') = absurd (not_outside options.git row of s also)
+  finding_once value a b (right of judged remark) (wrong of' s judged' is') =
+      absurd (none_before s (reason_once options.users row value None (Some s) judged judged'))
+  finding_once value a b (right of judged remark) (right of' judged' remark') =
+      remark_once row.instead options.canonical row.kind value a b remark remark'

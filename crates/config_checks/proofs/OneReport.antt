@@ -191,10 +191,10 @@ module _ (options : Options) where
         (shown ∙ ap (λ f. found_key s.entries f (unknown_text key) (key_meant key) ∷ []) same) is
     moved a b s s' said same (right row decides good none is) =
         right row (subst (λ k. Decides rows k row) (ap (λ f. f.2) same) decides)
-        (subst (λ v. HasFinding options.git options.canonical row v None) (ap (λ f. f.3) same) good) none is
+        (subst (λ v. HasFinding options row v None) (ap (λ f. f.3) same) good) none is
     moved a b s s' said same (found row reason decides bad shown is) =
         found row reason (subst (λ k. Decides rows k row) (ap (λ f. f.2) same) decides)
-        (subst (λ v. HasFinding options.git options.canonical row v (Some reason)) (ap (λ f. f.3) same) bad)
+        (subst (λ v. HasFinding options row v (Some reason)) (ap (λ f. f.3) same) bad)
         (shown ∙ ap (λ f. found_by s.entries f (Some (key_of row.key)) row.goes_on reason ∷ []) same) is
 
     setting_once : (setting : Setting) (s : Counts) (line line' : List Finding) (t t' : Counts)
@@ -225,21 +225,21 @@ module _ (options : Options) where
         (none ∙ sym none', is ∙ sym is')
     setting_once setting s line line' t t' (right row decides good none is) (found row' reason decides' bad shown is') =
         let same = row_once rows setting.key.items row' row decides' decides in
-        absurd (no_finding reason (finding_once options.git row options.canonical (value_of setting) None (Some reason) good
-        (subst (λ r. HasFinding options.git options.canonical r (value_of setting) (Some reason)) same bad)))
+        absurd (no_finding reason (finding_once options row (value_of setting) None (Some reason) good
+        (subst (λ r. HasFinding options r (value_of setting) (Some reason)) same bad)))
     setting_once setting s line line' t t' (found row reason decides bad shown is) (unknown u passed none is') =
         absurd (known_once rows setting.key.items row decides u)
     setting_once setting s line line' t t' (found row reason decides bad shown is) (misspelled key is_key shown' is') =
         absurd (known_once rows setting.key.items row decides is_key.unknown)
     setting_once setting s line line' t t' (found row reason decides bad shown is) (right row' decides' good none is') =
         let same = row_once rows setting.key.items row row' decides decides' in
-        absurd (no_finding reason (finding_once options.git row' options.canonical (value_of setting) None (Some reason) good
-        (subst (λ r. HasFinding options.git options.canonical r (value_of setting) (Some reason)) same bad)))
+        absurd (no_finding reason (finding_once options row' (value_of setting) None (Some reason) good
+        (subst (λ r. HasFinding options r (value_of setting) (Some reason)) same bad)))
     setting_once setting s line line' t t' (found row reason decides bad shown is)
         (found row' reason' decides' bad' shown' is') =
         let same = row_once rows setting.key.items row' row decides' decides in
-        let finding = finding_once options.git row options.canonical (value_of setting) (Some reason) (Some reason') bad
-        (subst (λ r. HasFinding options.git options.canonical r (value_of setting) (Some reason')) same bad') in
+        let finding = finding_once options row (value_of setting) (Some reason) (Some reason') bad
+        (subst (λ r. HasFinding options r (value_of setting) (Some reason')) same bad') in
         let text = ap (λ f. f ∷ []) (same_found s.entries (facts setting) (Some (key_of row.key)) row.goes_on reason reason' finding) in
         let written = subst (λ r. line' ≡ reason_finding s.entries setting r reason' ∷ []) same shown' in
         let counts = subst (λ r. t' ≡ counted (severity_of r.goes_on reason') (record s { entries = s.entries + 1 })) same is' in

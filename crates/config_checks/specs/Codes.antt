@@ -5,7 +5,7 @@ use Rattle.config_text.specs.declared.errors.Fault.TheVariants as faults
 use Rattle.config_checks.specs.declared.code.Code.{Code}
 use Rattle.config_checks.specs.declared.code.Code.TheVariants as kind
 use Rattle.config_checks.specs.declared.reason.Reason.{Reason}
-use Rattle.config_checks.specs.declared.reason.Reason.TheVariants.{NoValue, Refused, OutOfRange, NoWord, IsNot}
+use Rattle.config_checks.specs.declared.reason.Reason.TheVariants.{NoValue, Refused, OutOfRange, NoWord, NoHome, IsNot}
 use Rattle.config_checks.specs.declared.reason.Reason.TheVariants.{TooNew, Gone, Deprecated, NotCanonical, OtherCase}
 
 abbrev pub code_name : Code → List ℕ
@@ -14,6 +14,7 @@ code_name kind.BadInteger = codes "bad-integer"
 code_name kind.BadColor = codes "bad-color"
 code_name kind.OutOfRange = codes "out-of-range"
 code_name kind.NotAWord = codes "not-a-word"
+code_name kind.NoHome = codes "no-home"
 code_name kind.OtherValue = codes "other-value"
 code_name kind.NoValue = codes "no-value"
 code_name kind.MissingSetting = codes "missing-setting"
@@ -43,6 +44,7 @@ code_of NoValue = kind.NoValue
 code_of (Refused fault) = code_of_fault fault
 code_of (OutOfRange low high) = kind.OutOfRange
 code_of (NoWord list meant) = kind.NotAWord
+code_of NoHome = kind.NoHome
 code_of (IsNot wanted) = kind.OtherValue
 code_of (TooNew since) = kind.TooNew
 code_of (Gone until) = kind.Gone

@@ -24,7 +24,7 @@ use Rattle.config_checks.specs.Suggestions.{IsUnknownKey}
 pub record IsClean (rows : List Row) (options : Options) (key : List ℕ) (value : Option (List ℕ)) : Type 0 where
   pub row : Row
   pub decides : Decides rows key row
-  pub clean : HasFinding options.git options.canonical row value None
+  pub clean : HasFinding options row value None
 
 -- no other word of the kind is as near to the value: the search from the last word to the first finds the same
 abbrev pub IsOnlyMeant : SettingKind → Option (List ℕ) → List ℕ → Type 0

@@ -2,6 +2,7 @@ pub mod Keys
 pub mod Kinds
 pub mod Versions
 pub mod Nearest
+pub mod Paths
 pub mod Reasons
 pub mod Rows
 pub mod Codes

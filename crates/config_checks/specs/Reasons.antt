@@ -17,14 +17,17 @@ use Rattle.config_checks.specs.declared.kind.Form.TheVariants as forms
 use Rattle.config_checks.specs.declared.kind.WordList.{WordList}
 use Rattle.config_checks.specs.declared.kind.SettingKind.{SettingKind}
 use Rattle.config_checks.specs.declared.kind.SettingKind.TheVariants as kinds
+use Rattle.config_checks.specs.declared.options.Options.{Options}
+use Rattle.config_checks.specs.declared.paths.Users.{Users}
 use Rattle.config_checks.specs.declared.row.Row.{Row}
 use Rattle.config_checks.specs.declared.reason.Reason.{Reason}
-use Rattle.config_checks.specs.declared.reason.Reason.TheVariants.{NoValue, Refused, OutOfRange, NoWord, IsNot}
+use Rattle.config_checks.specs.declared.reason.Reason.TheVariants.{NoValue, Refused, OutOfRange, NoWord, NoHome, IsNot}
 use Rattle.config_checks.specs.declared.reason.Reason.TheVariants.{TooNew, Gone, Deprecated, NotCanonical, OtherCase}
 use Rattle.config_checks.specs.declared.reason.Severity.{Severity}
 use Rattle.config_checks.specs.declared.reason.Severity.TheVariants.{Error, Warning, Note}
 use Rattle.config_checks.specs.Kinds.{IsPattern, IsSame, HasWord, IsNoWord, IsFirstWord, AreWords, HasDate, IsSortKey}
 use Rattle.config_checks.specs.Nearest.{FewEdits, AreFar, IsNearest}
+use Rattle.config_checks.specs.Paths.{IsHomeless}
 use Rattle.config_checks.specs.declared.version.Version.{Version}
 use Rattle.config_checks.specs.Versions.{IsBefore, IsTooNew, IsOf}
 
@@ -98,15 +101,22 @@ IsJudgedByWords list t None = IsTaken list t
 IsJudgedByWords list t (Some (NoWord l meant)) = (l.now ≡ list) × ¬ (IsTaken list t) × IsMeant list.words.items t meant
 IsJudgedByWords list t (Some _) = ⊥
 
+-- no reason unless these users lack the home directory that the path begins with
+abbrev pub IsJudgedPath : Option Users → List ℕ → Option Reason → Type 0
+IsJudgedPath users t None = ¬ (IsHomeless users t)
+IsJudgedPath users t (Some NoHome) = IsHomeless users t
+IsJudgedPath users t (Some _) = ⊥
+
 -- ---- why a setting is wrong by its row, if it is wrong
 
-abbrev pub IsJudgedText : SettingKind → List ℕ → Option Reason → Type 0
-IsJudgedText kinds.Text t r = r ≡ None
-IsJudgedText kinds.Bool t r = IsJudgedBool t r
-IsJudgedText (kinds.Int low high) t r = IsJudgedWithin low high t r
-IsJudgedText kinds.BoolOrInt t r = IsJudgedBool t r
-IsJudgedText kinds.Color t r = IsJudged ColorText (OnlyFault faults.Color) t r
-IsJudgedText (kinds.Word list) t r = IsJudgedByWords list t r
+abbrev pub IsJudgedText : Option Users → SettingKind → List ℕ → Option Reason → Type 0
+IsJudgedText users kinds.Text t r = r ≡ None
+IsJudgedText users kinds.Bool t r = IsJudgedBool t r
+IsJudgedText users (kinds.Int low high) t r = IsJudgedWithin low high t r
+IsJudgedText users kinds.BoolOrInt t r = IsJudgedBool t r
+IsJudgedText users kinds.Color t r = IsJudged ColorText (OnlyFault faults.Color) t r
+IsJudgedText users kinds.Path t r = IsJudgedPath users t r
+IsJudgedText users (kinds.Word list) t r = IsJudgedByWords list t r
 
 -- the grammar gives both texts the same value
 abbrev pub HaveSameValue : {V : Type 0} → (List ℕ → V → Type 0) → List ℕ → List ℕ → Type 0
@@ -134,6 +144,7 @@ MeanSame kinds.Bool t u = HaveSameValue BooleanText t u
 MeanSame (kinds.Int low high) t u = HaveSameValue AmountText t u
 MeanSame kinds.BoolOrInt t u = AreSameBoolOrInt t u
 MeanSame kinds.Color t u = HaveSameValue ColorText t u
+MeanSame kinds.Path t u = t ≡ u
 MeanSame (kinds.Word list) t u = AreSameByWords list t u
 
 -- a value that its kind takes has to mean what the row wants, if it wants one meaning
@@ -144,18 +155,18 @@ IsComparedTo (Some wanted) kind t (Some (IsNot w)) = (w ≡ wanted) × ¬ (MeanS
 IsComparedTo (Some wanted) kind t (Some _) = ⊥
 
 -- why a value is wrong by its row: its kind does not take it, or the row wants another one
-pub data IsJudgedByRow (row : Row) (t : List ℕ) (r : Option Reason) : Type 0 where
-  refused : (reason : Reason) → IsJudgedText row.kind t (Some reason) → r ≡ Some reason → IsJudgedByRow row t r
-  taken : IsJudgedText row.kind t None → IsComparedTo row.wanted row.kind t r → IsJudgedByRow row t r
+pub data IsJudgedByRow (users : Option Users) (row : Row) (t : List ℕ) (r : Option Reason) : Type 0 where
+  refused : (reason : Reason) → IsJudgedText users row.kind t (Some reason) → r ≡ Some reason → IsJudgedByRow users row t r
+  taken : IsJudgedText users row.kind t None → IsComparedTo row.wanted row.kind t r → IsJudgedByRow users row t r
 
 -- a key alone is wrong if it needs a value; otherwise it means `true`
 abbrev pub IsJudgedAlone : (takes_no_value : Bool) → Row → Option Reason → Type 0
 IsJudgedAlone true row r = IsComparedTo row.wanted row.kind (codes "true") r
 IsJudgedAlone false row r = r ≡ Some NoValue
 
-abbrev pub HasReason : Row → Option (List ℕ) → Option Reason → Type 0
-HasReason row None r = IsJudgedAlone row.takes_no_value row r
-HasReason row (Some t) r = IsJudgedByRow row t r
+abbrev pub HasReason : Option Users → Row → Option (List ℕ) → Option Reason → Type 0
+HasReason users row None r = IsJudgedAlone row.takes_no_value row r
+HasReason users row (Some t) r = IsJudgedByRow users row t r
 
 -- A missing value is an error. What only a newer Git reads is a note, as is another spelling. What Git no longer reads
 -- is a warning, as is a deprecated setting. A wrong value is a warning if Git continues after it, and otherwise an error.
@@ -206,6 +217,7 @@ HasSpelling kinds.Bool (Some t) r = IsRespelled BooleanText CanonicalBoolean t r
 HasSpelling (kinds.Int low high) (Some t) r = IsRespelled IntegerText CanonicalInteger t r
 HasSpelling kinds.BoolOrInt (Some t) r = IsRespelledBoolOrInt t r
 HasSpelling kinds.Color (Some t) r = IsRespelled ColorText CanonicalColor t r
+HasSpelling kinds.Path (Some t) r = r ≡ None
 HasSpelling (kinds.Word list) (Some t) r = IsRespelledByWords list t r
 
 -- ---- what is found
@@ -227,14 +239,13 @@ IsRemarkBy None false kind value r = r ≡ None
 abbrev pub IsRemark : (wants_canonical : Bool) → Row → Option (List ℕ) → Option Reason → Type 0
 IsRemark wants_canonical row value r = IsRemarkBy row.instead wants_canonical row.kind value r
 
--- what a check finds for a setting, by this Git, its row and its value, if it finds anything
-pub data HasFinding (git : Version) (wants_canonical : Bool) (row : Row) (value : Option (List ℕ)) (r : Option Reason)
-    : Type 0 where
-  outside : (reason : Reason) → IsOutside git row reason → r ≡ Some reason → HasFinding git wants_canonical row value r
-  wrong : IsOf git row → (reason : Reason) → HasReason row value (Some reason) → r ≡ Some reason
-      → HasFinding git wants_canonical row value r
-  right : IsOf git row → HasReason row value None → IsRemark wants_canonical row value r
-      → HasFinding git wants_canonical row value r
+-- what a check finds for a setting, by its options, its row and its value, if it finds anything
+pub data HasFinding (options : Options) (row : Row) (value : Option (List ℕ)) (r : Option Reason) : Type 0 where
+  outside : (reason : Reason) → IsOutside options.git row reason → r ≡ Some reason → HasFinding options row value r
+  wrong : IsOf options.git row → (reason : Reason) → HasReason options.users row value (Some reason) → r ≡ Some reason
+      → HasFinding options row value r
+  right : IsOf options.git row → HasReason options.users row value None → IsRemark options.canonical row value r
+      → HasFinding options row value r
 
 -- the same finding: canonical texts are compared by their bytes, and borrowed lists by what they hold
 abbrev pub IsSameFinding : Option Reason → Option Reason → Type 0

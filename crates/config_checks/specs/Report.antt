@@ -142,10 +142,10 @@ pub data ReportsSetting (rows : List Row) (options : Options) (setting : Setting
       → s' ≡ counted Warning (record s { entries = s.entries + 1; unknown = s.unknown + 1 })
       → ReportsSetting rows options setting s said s'
   right : (row : Row) → Decides rows setting.key.items row
-      → HasFinding options.git options.canonical row (value_of setting) None → said ≡ []
+      → HasFinding options row (value_of setting) None → said ≡ []
       → s' ≡ record s { entries = s.entries + 1 } → ReportsSetting rows options setting s said s'
   found : (row : Row) (reason : Reason) → Decides rows setting.key.items row
-      → HasFinding options.git options.canonical row (value_of setting) (Some reason)
+      → HasFinding options row (value_of setting) (Some reason)
       → said ≡ reason_finding s.entries setting row reason ∷ []
       → s' ≡ counted (severity_of row.goes_on reason) (record s { entries = s.entries + 1 })
       → ReportsSetting rows options setting s said s'

@@ -134,6 +134,7 @@ plain_name kinds.Text = Some (codes "text")
 plain_name kinds.Bool = Some (codes "bool")
 plain_name kinds.BoolOrInt = Some (codes "bool-or-int")
 plain_name kinds.Color = Some (codes "color")
+plain_name kinds.Path = Some (codes "path")
 plain_name _ = None
 
 abbrev pub form_name : Form → List ℕ
@@ -197,9 +198,9 @@ pub record SpellsRow (fields : List (List ℕ)) (row : Row) : Type 0 where
   pub takes_no_value : row.takes_no_value ≡ is_right_alone marks.alone row.kind
   pub goes_on : row.goes_on ≡ marks.goes_on
 
--- the kind of the row takes the value that the row wants, if it wants one
+-- the kind of the row takes the value that the row wants, if it wants one, whatever users there are
 abbrev pub TakesWanted : Row → Type 0
-TakesWanted row = (wanted : List ℕ) → option_copied row.wanted ≡ Some wanted → HasReason row (Some wanted) None
+TakesWanted row = (wanted : List ℕ) → option_copied row.wanted ≡ Some wanted → HasReason None row (Some wanted) None
 
 -- the fields are this row
 abbrev pub IsRow : List (List ℕ) → Row → Type 0

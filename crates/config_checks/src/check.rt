@@ -276,7 +276,7 @@ struct Progress {
 fn report<R: Receiver>(
     alloc: Global,
     runs: &[Run<'_, '_>],
-    options: &Options,
+    options: &Options<'_>,
     setting: &Setting<'_>,
     progress: Progress,
     receiver: &mut R,
@@ -309,7 +309,7 @@ fn report<R: Receiver>(
         });
     };
     let value = value_of(setting);
-    match find(alloc, options.git, row, value, options.canonical) {
+    match find(alloc, options, row, value) {
         Ok(Some(reason)) => {
             give_reason(alloc, before, setting, row, &reason, receiver)?;
             let counts = counts.with(reason.severity(row.goes_on));
@@ -325,7 +325,7 @@ fn report<R: Receiver>(
 fn report_entries<R: Receiver>(
     alloc: Global,
     runs: &[Run<'_, '_>],
-    options: &Options,
+    options: &Options<'_>,
     file: &str,
     text: &[u8],
     receiver: &mut R,
@@ -420,7 +420,7 @@ fn tell<R: Receiver>(
 /// let mut rows = Vec::new(alloc);
 /// assert!(rt; read_rows(alloc, b"push.default word nothing current", &mut rows).is_ok());
 /// let git = Version::read(b"2.55").expect(&rt, "a version");
-/// let options = Options { git, canonical: false };
+/// let options = Options { git, canonical: false, users: None };
 /// let mut reasons = Reasons(Vec::new(alloc));
 /// let checked = check_file(alloc, &rows, &options, "f", b"[push]\ndefault = maybe", &mut reasons);
 /// assert!(rt; checked.is_ok_and(|counts| counts.findings == 1));
@@ -429,7 +429,7 @@ fn tell<R: Receiver>(
 pub fn check_file<R: Receiver>(
     alloc: Global,
     rows: &[Row<'_>],
-    options: &Options,
+    options: &Options<'_>,
     file: &str,
     text: &[u8],
     receiver: &mut R,

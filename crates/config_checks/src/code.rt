@@ -24,6 +24,8 @@ pub enum Code {
     OutOfRange,
     /// The value is none of the words of the row, nor what else its kind takes.
     NotAWord,
+    /// The value is a path that begins with a home directory which is not there.
+    NoHome,
     /// The value means something other than the row asks for.
     OtherValue,
     /// The setting has no value, and needs one.
@@ -62,6 +64,7 @@ impl Code {
         Code::BadColor,
         Code::OutOfRange,
         Code::NotAWord,
+        Code::NoHome,
         Code::OtherValue,
         Code::NoValue,
         Code::MissingSetting,
@@ -88,6 +91,7 @@ impl Code {
             Code::BadColor => "bad-color",
             Code::OutOfRange => "out-of-range",
             Code::NotAWord => "not-a-word",
+            Code::NoHome => "no-home",
             Code::OtherValue => "other-value",
             Code::NoValue => "no-value",
             Code::MissingSetting => "missing-setting",
@@ -128,6 +132,7 @@ impl Reason<'_, '_> {
             Reason::Refused(fault) => code_of_fault(*fault),
             Reason::OutOfRange { .. } => Code::OutOfRange,
             Reason::NoWord { .. } => Code::NotAWord,
+            Reason::NoHome => Code::NoHome,
             Reason::IsNot(_) => Code::OtherValue,
             Reason::TooNew(_) => Code::TooNew,
             Reason::Gone(_) => Code::Gone,

@@ -101,14 +101,14 @@ impl<'r, 't> Judge<'r, 't> {
 /// Whether nothing is found for a setting with this row and value.
 fn has_none(
     alloc: Global,
-    options: &Options,
+    options: &Options<'_>,
     row: &Row<'_>,
     value: Option<&[u8]>,
 ) -> Result<bool, AllocError>
     ensures { IfOk result (λ none. IsTrue none
-        ↔ HasFinding options.now.git options.now.canonical row.now (option_copied value.entry) None) }
+        ↔ HasFinding options.now row.now (option_copied value.entry) None) }
 {
-    match find(alloc, options.git, row, value, options.canonical) {
+    match find(alloc, options, row, value) {
         Ok(None) => Ok(true),
         Ok(Some(_)) => Ok(false),
         Err(error) => Err(error),
@@ -158,7 +158,7 @@ fn is_only_value(
 fn mends_value(
     alloc: Global,
     runs: &[Run<'_, '_>],
-    options: &Options,
+    options: &Options<'_>,
     setting: &Setting<'_>,
     code: Code,
     new: &[u8],
@@ -206,7 +206,7 @@ fn other_name<'k>(key: &[u8], other: &'k [u8]) -> Option<&'k [u8]>
 fn is_clean(
     alloc: Global,
     runs: &[Run<'_, '_>],
-    options: &Options,
+    options: &Options<'_>,
     key: &[u8],
     value: Option<&[u8]>,
 ) -> Result<bool, AllocError>
@@ -259,7 +259,7 @@ fn is_only_key(
 fn mends_key(
     alloc: Global,
     judge: &Judge<'_, '_>,
-    options: &Options,
+    options: &Options<'_>,
     setting: &Setting<'_>,
     key: &[u8],
 ) -> Result<bool, AllocError>
@@ -278,7 +278,7 @@ fn mends_key(
 pub fn mend<'f>(
     alloc: Global,
     judge: &Judge<'_, '_>,
-    options: &Options,
+    options: &Options<'_>,
     setting: &Setting<'_>,
     finding: &Finding<'f>,
 ) -> Result<Option<Fix<'f>>, AllocError>

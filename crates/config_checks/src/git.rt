@@ -78,9 +78,9 @@ core.packedGitWindowSize            int 0 9223372036854775807
 core.packedGitLimit                 int 0 9223372036854775807
 core.deltaBaseCacheLimit            int 0 9223372036854775807
 core.bigFileThreshold               int 0 9223372036854775807
-core.excludesFile                   text
-core.attributesFile                 text
-core.hooksPath                      text
+core.excludesFile                   path
+core.attributesFile                 path
+core.hooksPath                      path
 core.filesRefLockTimeout            int
 core.packedRefsTimeout              int
 core.fsyncMethod                    warn word fsync writeout-only batch
@@ -93,7 +93,7 @@ core.useReplaceRefs                 bool
 core.multiPackIndex                 bool
 core.sparseCheckout                 bool
 core.sparseCheckoutCone             bool
-core.fsmonitor                      alone text
+core.fsmonitor                      alone path
 core.checkRoundtripEncoding         text
 core.preferSymlinkRefs              bool
 core.gitProxy                       text
@@ -135,7 +135,7 @@ blame.date                          word relative relative-local local iso iso-l
     iso8601-local iso-strict iso-strict-local iso8601-strict iso8601-strict-local rfc rfc-local rfc2822 \
     rfc2822-local short short-local default default-local human human-local raw raw-local unix unix-local \
     format:* format-local:* auto:*
-blame.ignoreRevsFile                text
+blame.ignoreRevsFile                path
 blame.markUnblamableLines           bool
 blame.markIgnoredLines              bool
 # branch
@@ -251,7 +251,7 @@ color.blame.highlightRecent         warn words-any-case normal default black red
 commit.cleanup                      word strip whitespace verbatim scissors default
 commit.gpgSign                      bool
 commit.status                       bool
-commit.template                     text
+commit.template                     path
 commit.verbose                      bool-or-int
 # commitGraph
 commitGraph.generationVersion       int
@@ -277,7 +277,7 @@ diff.context                        int 0 2147483647
 diff.interHunkContext               int 0 2147483647
 diff.ignoreSubmodules               word none untracked dirty all
 diff.relative                       bool
-diff.orderFile                      text
+diff.orderFile                      path
 diff.renameLimit                    int
 diff.renames                        bool-or-word-any-case copies copy
 diff.suppressBlankEmpty             bool
@@ -313,7 +313,7 @@ feature.manyFiles                   bool
 # fetch
 fetch.recurseSubmodules             bool-or-word on-demand
 fetch.fsckObjects                   bool
-fetch.fsck.skipList                 text
+fetch.fsck.skipList                 path
 fetch.fsck.*                        word error warn ignore
 fetch.unpackLimit                   int
 fetch.prune                         bool
@@ -340,7 +340,7 @@ format.to                           text
 format.cc                           text
 format.subjectPrefix                text
 format.signature                    text
-format.signatureFile                text
+format.signatureFile                path
 format.suffix                       text
 format.pretty                       text
 format.outputDirectory              text
@@ -351,7 +351,7 @@ filter.*.clean                      text
 filter.*.smudge                     text
 filter.*.process                    text
 # fsck
-fsck.skipList                       text
+fsck.skipList                       path
 fsck.*                              word error warn ignore
 # fsmonitor
 fsmonitor.allowRemote               bool
@@ -428,11 +428,11 @@ grep.fallbackToNoIndex              bool
 # gpg
 gpg.format                          word openpgp x509 ssh
 gpg.minTrustLevel                   word-any-case undefined never marginal fully ultimate
-gpg.program                         text
+gpg.program                         until=2.51 text
 gpg.ssh.defaultKeyCommand           text
-gpg.ssh.allowedSignersFile          text
-gpg.ssh.revocationFile              text
-gpg.*.program                       text
+gpg.ssh.allowedSignersFile          path
+gpg.ssh.revocationFile              path
+gpg.*.program                       until=2.51 text
 # gui
 gui.commitMsgWidth                  alone warn int
 gui.diffContext                     alone warn int
@@ -457,11 +457,11 @@ http.proxySSLCert                   text
 http.proxySSLKey                    text
 http.proxySSLCAInfo                 text
 http.delegation                     warn word none policy always
-http.cookieFile                     text
+http.cookieFile                     path
 http.version                        warn word HTTP/2 HTTP/1.1
 http.sslVersion                     warn words sslv2 sslv3 tlsv1 tlsv1.0 tlsv1.1 tlsv1.2 tlsv1.3
 http.sslVerify                      bool
-http.sslCAPath                      text
+http.sslCAPath                      path
 http.schannelCheckRevoke            bool
 http.sslTry                         bool
 http.maxRequests                    int
@@ -477,14 +477,14 @@ http.extraHeader                    text
 http.saveCookies                    bool
 http.curloptResolve                 text
 http.sslCipherList                  text
-http.sslCert                        text
-http.sslKey                         text
+http.sslCert                        path
+http.sslKey                         path
 http.sslCertPasswordProtected       bool
-http.sslCAInfo                      text
+http.sslCAInfo                      path
 http.sslBackend                     alone words-any-case openssl gnutls schannel secure-transport \
     mbedtls wolfssl nss bearssl rustls rustls-ffi gskit libressl boringssl
 http.schannelUseSSLCAInfo           bool
-http.pinnedPubkey                   text
+http.pinnedPubkey                   path
 http.lowSpeedLimit                  int
 http.userAgent                      text
 http.*.proxyAuthMethod              warn word anyauth basic digest negotiate ntlm
@@ -492,11 +492,11 @@ http.*.proxySSLCert                 text
 http.*.proxySSLKey                  text
 http.*.proxySSLCAInfo               text
 http.*.delegation                   warn word none policy always
-http.*.cookieFile                   text
+http.*.cookieFile                   path
 http.*.version                      warn word HTTP/2 HTTP/1.1
 http.*.sslVersion                   warn words sslv2 sslv3 tlsv1 tlsv1.0 tlsv1.1 tlsv1.2 tlsv1.3
 http.*.sslVerify                    bool
-http.*.sslCAPath                    text
+http.*.sslCAPath                    path
 http.*.schannelCheckRevoke          bool
 http.*.sslTry                       bool
 http.*.maxRequests                  int
@@ -512,14 +512,14 @@ http.*.extraHeader                  text
 http.*.saveCookies                  bool
 http.*.curloptResolve               text
 http.*.sslCipherList                text
-http.*.sslCert                      text
-http.*.sslKey                       text
+http.*.sslCert                      path
+http.*.sslKey                       path
 http.*.sslCertPasswordProtected     bool
-http.*.sslCAInfo                    text
+http.*.sslCAInfo                    path
 http.*.sslBackend                   alone words-any-case openssl gnutls schannel secure-transport \
     mbedtls wolfssl nss bearssl rustls rustls-ffi gskit libressl boringssl
 http.*.schannelUseSSLCAInfo         bool
-http.*.pinnedPubkey                 text
+http.*.pinnedPubkey                 path
 http.*.lowSpeedLimit                int
 http.*.userAgent                    text
 # imap
@@ -676,7 +676,7 @@ receive.advertisePushOptions        bool
 receive.autogc                      bool
 receive.certNonceSlop               int 0 9223372036854775807
 receive.fsckObjects                 bool
-receive.fsck.skipList               text
+receive.fsck.skipList               path
 receive.fsck.*                      word error warn ignore
 receive.keepAlive                   int
 receive.unpackLimit                 int
@@ -726,7 +726,7 @@ rerere.enabled                      bool
 revert.reference                    bool
 # safe
 safe.bareRepository                 word all explicit
-safe.directory                      alone text
+safe.directory                      alone path
 # sendemail
 sendemail.multiEdit                 bool
 sendemail.confirm                   word always never cc compose auto
@@ -920,10 +920,10 @@ guitool.*.prompt                    alone text
 i18n.commitEncoding                 text
 i18n.logOutputEncoding              text
 # init
-init.templateDir                    alone text
+init.templateDir                    alone path
 init.defaultBranch                  text
 # mailmap
-mailmap.file                        text
+mailmap.file                        path
 mailmap.blob                        text
 # man
 man.viewer                          text
@@ -1143,6 +1143,8 @@ sendemail.smtpSSLClientKey          since=2.51 alone text
 pull.autoStash                      since=2.51 bool
 merge.stat                          since=2.51 warn bool-or-word diffstat compact
 merge.diffstat                      since=2.51 warn bool-or-word diffstat compact
+gpg.program                         since=2.51 path
+gpg.*.program                       since=2.51 path
 # since Git 2.52
 commitGraph.changedPaths            since=2.52 bool
 maintenance.geometric-repack.auto   since=2.52 int

@@ -81,6 +81,8 @@ pub enum SettingKind<'t> {
     BoolOrInt,
     /// A color text.
     Color,
+    /// A path. If it begins with a home directory, that has to be there.
+    Path,
     /// A text that is valid according to a list of words.
     Word(WordList<'t>),
 }

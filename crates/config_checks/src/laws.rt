@@ -1,10 +1,10 @@
 //! Laws about the definitions, which are the contracts of functions that do nothing. A setting has at most
 //! one finding, and a file has one report.
-ghost use Rattle.std.specs.Prelude.{◌≡◌, ◌++◌, ℕ, List, Bool, Option};
+ghost use Rattle.std.specs.Prelude.{◌≡◌, ◌++◌, ℕ, List, Option};
 ghost use Rattle.config_checks.specs.declared.reason.Reason.{Reason};
 ghost use Rattle.config_checks.specs.declared.options.Options.{Options};
 ghost use Rattle.config_checks.specs.declared.row.Row.{Row};
-ghost use Rattle.config_checks.specs.declared.version.Version.{Version};
+ghost use Rattle.config_checks.specs.declared.paths.Users.{Users};
 ghost use Rattle.config_checks.specs.declared.check.Counts.{Counts};
 ghost use Rattle.config_checks.specs.Findings.{Finding};
 ghost use Rattle.config_checks.specs.Reasons.{HasReason, HasFinding, IsSameFinding};
@@ -14,16 +14,14 @@ pub mod clones;
 
 /// The definitions give each value of a setting one result: one reason why it is wrong, or no reason.
 pub fn one_reason()
-    ensures { (row : Row) (value : Option (List ℕ)) (a b : Option Reason)
-        → HasReason row value a → HasReason row value b → IsSameFinding a b }
+    ensures { (users : Option Users) (row : Row) (value : Option (List ℕ)) (a b : Option Reason)
+        → HasReason users row value a → HasReason users row value b → IsSameFinding a b }
 {}
 
 /// The definitions give each value of a setting one result: one finding, or no finding.
 pub fn one_finding()
-    ensures { (git : Version) (wants_canonical : Bool) (row : Row) (value : Option (List ℕ))
-        (a b : Option Reason)
-        → HasFinding git wants_canonical row value a → HasFinding git wants_canonical row value b
-        → IsSameFinding a b }
+    ensures { (options : Options) (row : Row) (value : Option (List ℕ)) (a b : Option Reason)
+        → HasFinding options row value a → HasFinding options row value b → IsSameFinding a b }
 {}
 
 /// A file has one report. Two checks of one file name and text, with the same rows and options, find the same

@@ -15,6 +15,7 @@ pub mod laws;
 pub mod lookup;
 pub mod options;
 pub mod outcome;
+pub mod paths;
 pub mod reason;
 pub mod row;
 pub mod setting;

@@ -1,5 +1,6 @@
 //! The options of a check.
 
+use crate::paths::Users;
 use crate::version::Version;
 
 /// The options of a check.
@@ -9,12 +10,14 @@ use crate::version::Version;
 /// use config_checks::version::Version;
 ///
 /// let git = Version::read(b"2.39").expect(&rt, "a version");
-/// let options = Options { git, canonical: true }; // also reports `yes`, which should be `true`
+/// let options = Options { git, canonical: true, users: None }; // also reports `yes`, which should be `true`
 /// ```
 #[derive(Clone, Copy)]
-pub struct Options {
+pub struct Options<'u> {
     /// The version of Git by whose rows values are judged.
     pub git: Version,
     /// Whether valid values are also reported if they should be spelled in another way.
     pub canonical: bool,
+    /// The users whose home directories paths may begin with. If none are known, each path is right.
+    pub users: Option<Users<'u>>,
 }

@@ -1,15 +1,17 @@
 //! Why the value of a setting is wrong, and how a valid value should be spelled.
-ghost use Rattle.std.specs.Prelude.{◌≡◌, ◌↔◌, IsTrue, IfOk, MatchOption, option_copied, None, Some};
+ghost use Rattle.std.specs.Prelude.{◌≡◌, ◌↔◌, IsTrue, IfOk, MatchOption, Option, option_copied, None, Some};
+ghost use Rattle.config_checks.specs.declared.paths.Users as declared;
 ghost use Rattle.config_text.specs.declared.errors.Fault.TheVariants as faults;
 ghost use Rattle.gix_config_value.specs.Kinds.{KindGrammar, KindCanonical};
 ghost use Rattle.config_text.specs.Value.{IsAccepted};
 ghost use Rattle.gix_config_value.specs.Boolean.{BooleanText, CanonicalBoolean};
 ghost use Rattle.config_checks.specs.Reasons.{IsWithin, IsJudged, IsJudgedWithin, IsJudgedBool, IsInt};
 ghost use Rattle.config_checks.specs.Reasons.{WordEdits, IsMeant, IsJudgedByWords, IsTakenByForm, IsTaken};
-ghost use Rattle.config_checks.specs.Reasons.{IsJudgedText};
+ghost use Rattle.config_checks.specs.Reasons.{IsJudgedPath, IsJudgedText};
 ghost use Rattle.config_checks.specs.Reasons.{HaveSameValue, AreSameBoolOrInt, AreSameByForm, AreSameByWords};
 ghost use Rattle.config_checks.specs.Reasons.{MeanSame, IsComparedTo};
-ghost use Rattle.config_checks.specs.Reasons.{HasReason, HasSpelling, IsOutside, IsRemark, HasFinding};
+ghost use Rattle.config_checks.specs.Reasons.{IsJudgedAlone, HasReason};
+ghost use Rattle.config_checks.specs.Reasons.{HasSpelling, IsOutside, IsRemark, HasFinding};
 ghost use Rattle.gix_config_value.specs.Amount.{AmountText};
 ghost use Rattle.config_checks.specs.Reasons.{severity_of};
 ghost use Rattle.config_checks.specs.Versions.{IsTooNew, IsOf};
@@ -20,6 +22,8 @@ ghost use Rattle.config_checks.specs.Reading.Steps.{IsFew};
 use crate::edits::{LONG, MOST_EDITS, few_edits};
 use crate::key::is_same_word;
 use crate::kind::{Form, SettingKind, WordList, pattern_front};
+use crate::options::Options;
+use crate::paths::{Users, is_homeless};
 use crate::row::Row;
 use crate::version::Version;
 use bstr::BStr;
@@ -39,9 +43,9 @@ const SHORT: usize = 2;
 /// use config_checks::table::read_row;
 ///
 /// let row = read_row(alloc, b"core.abbrev int 4 64").expect(&rt, "a line").expect(&rt, "a row");
-/// assert!(rt; matches!(judge(alloc, &row, Some(b"3"))?, Some(Reason::OutOfRange { .. })));
-/// assert!(rt; matches!(judge(alloc, &row, None)?, Some(Reason::NoValue)));
-/// assert!(rt; judge(alloc, &row, Some(b"7"))?.is_none());
+/// assert!(rt; matches!(judge(alloc, None, &row, Some(b"3"))?, Some(Reason::OutOfRange { .. })));
+/// assert!(rt; matches!(judge(alloc, None, &row, None)?, Some(Reason::NoValue)));
+/// assert!(rt; judge(alloc, None, &row, Some(b"7"))?.is_none());
 /// ```
 #[derive(Clone, Copy)]
 pub enum Reason<'r, 't> {
@@ -59,6 +63,8 @@ pub enum Reason<'r, 't> {
         list: &'r WordList<'t>,
         meant: Option<&'t [u8]>,
     },
+    /// Its value is a path that begins with a home directory which is not there.
+    NoHome,
     /// Its value is right by its kind, but does not mean this, which its row asks for.
     IsNot(&'t [u8]),
     /// Its row is for Git from this version on, which is newer.
@@ -199,8 +205,8 @@ fn word_edits(alloc: Global, word: &[u8], text: &[u8]) -> Result<Option<usize>, 
     }
 }
 
-/// The first of the words that are nearest to a text, or `None` if no word is near. Words of one or two bytes,
-/// or with a `*` at the end, are never near. It fails only if memory is refused.
+/// The first of the words that are nearest to a text, or `None` if no word is near. Words of one or two
+/// bytes, or with a `*` at the end, are never near. It fails only if memory is refused.
 pub fn nearest_word<'t>(
     alloc: Global,
     words: &[&'t [u8]],
@@ -236,19 +242,31 @@ fn word_reason<'r, 't>(
     Ok(Some(Reason::NoWord { list, meant }))
 }
 
+/// That a path begins with a home directory that is not there, or `None` if it does not.
+fn path_reason<'r, 't>(users: Option<Users<'_>>, path: &[u8]) -> Option<Reason<'r, 't>>
+    ensures { IsJudgedPath users.entry path.now result }
+{
+    if is_homeless(users, path) {
+        return Some(Reason::NoHome);
+    }
+    None
+}
+
 /// Why a text is wrong as a value of this kind, or `None` if it is right.
 fn text_reason<'r, 't>(
     alloc: Global,
+    users: Option<Users<'_>>,
     kind: &'r SettingKind<'t>,
     text: &[u8],
 ) -> Result<Option<Reason<'r, 't>>, AllocError>
-    ensures { IfOk result (IsJudgedText kind.now text.now) }
+    ensures { IfOk result (IsJudgedText users.entry kind.now text.now) }
 {
     match kind {
         SettingKind::Text => Ok(None),
         SettingKind::Bool | SettingKind::BoolOrInt => Ok(boolean_reason(text)),
         SettingKind::Int { low, high } => Ok(number_reason(text, *low, *high)),
         SettingKind::Color => Ok(refusal_by::<Color>(text)),
+        SettingKind::Path => Ok(path_reason(users, text)),
         SettingKind::Word(list) => word_reason(alloc, list, text),
     }
 }
@@ -307,7 +325,7 @@ fn mean_same(kind: &SettingKind<'_>, text: &[u8], other: &[u8]) -> bool
     ensures { IsTrue result ↔ MeanSame kind.now text.now other.now }
 {
     match kind {
-        SettingKind::Text => text == other,
+        SettingKind::Text | SettingKind::Path => text == other,
         SettingKind::Bool => have_same_value::<Boolean>(text, other),
         SettingKind::Int { .. } => have_same_value::<Amount>(text, other),
         SettingKind::BoolOrInt => are_same_bool_or_int(text, other),
@@ -330,7 +348,7 @@ fn compared<'r, 't>(row: &Row<'t>, text: &[u8]) -> Option<Reason<'r, 't>>
 
 /// Why a key alone is wrong by its row, or `None` if the row allows it.
 fn no_value_reason<'r, 't>(row: &Row<'t>) -> Option<Reason<'r, 't>>
-    ensures { HasReason row.now None result }
+    ensures { IsJudgedAlone row.now.takes_no_value row.now result }
 {
     if row.takes_no_value {
         return compared(row, b"true");
@@ -338,19 +356,21 @@ fn no_value_reason<'r, 't>(row: &Row<'t>) -> Option<Reason<'r, 't>>
     Some(Reason::NoValue)
 }
 
-/// Returns why the value of a setting is wrong by its row, or `None` if it is valid. `value` is `None` for a
-/// key alone. Returns an error if there is no memory to find the nearest word.
+/// Returns why the value of a setting is wrong by its row, or `None` if it is valid. `users` are those whose
+/// home directories paths may begin with: if none are known, each path is valid. `value` is `None` for a key
+/// alone. Returns an error if there is no memory to find the nearest word.
 pub fn judge<'r, 't>(
     alloc: Global,
+    users: Option<Users<'_>>,
     row: &'r Row<'t>,
     value: Option<&[u8]>,
 ) -> Result<Option<Reason<'r, 't>>, AllocError>
-    ensures { IfOk result (HasReason row.now (option_copied value.entry)) }
+    ensures { IfOk result (HasReason users.entry row.now (option_copied value.entry)) }
 {
     let Some(text) = value else {
         return Ok(no_value_reason(row));
     };
-    match text_reason(alloc, &row.kind, text) {
+    match text_reason(alloc, users, &row.kind, text) {
         Ok(Some(reason)) => Ok(Some(reason)),
         Ok(None) => Ok(compared(row, text)),
         Err(error) => Err(error),
@@ -425,11 +445,11 @@ fn respelled_word<'r, 't>(list: &WordList<'t>, text: &[u8]) -> Option<Reason<'r,
 
 /// The canonical text of a valid value, or `None` if the value is canonical.
 fn respelled<'r, 't>(kind: &SettingKind<'t>, text: &[u8]) -> Option<Reason<'r, 't>>
-    requires { IsJudgedText kind.now text.now None }
+    requires { (users : Option declared.Users) × IsJudgedText users kind.now text.now None }
     ensures { HasSpelling kind.now (Some text.now) result }
 {
     match kind {
-        SettingKind::Text => None,
+        SettingKind::Text | SettingKind::Path => None,
         SettingKind::Bool => respelled_boolean(text),
         SettingKind::Int { .. } => respelled_by(Kind::Integer, text),
         SettingKind::BoolOrInt => respelled_boolean_or_number(text),
@@ -462,7 +482,7 @@ fn remark<'r, 't>(
     value: Option<&[u8]>,
     wants_canonical: bool,
 ) -> Option<Reason<'r, 't>>
-    requires { HasReason row.now (option_copied value) None }
+    requires { (users : Option declared.Users) × HasReason users row.now (option_copied value) None }
     ensures { IsRemark wants_canonical row.now (option_copied value.entry) result }
 {
     if let Some(instead) = row.instead {
@@ -474,24 +494,23 @@ fn remark<'r, 't>(
     respelled(&row.kind, value?)
 }
 
-/// Returns what a check finds for a setting with this row: that the row is not for this Git, why the value is
-/// wrong, what to use in place of a deprecated setting or, if canonical texts are wanted, how the value should
-/// be spelled. Returns `None` if there is nothing to report, and an error if there is no memory to find the
-/// nearest word. `value` is `None` for a key alone.
+/// Returns what a check with these options finds for a setting with this row: that the row is not for this
+/// Git, why the value is wrong, what to use in place of a deprecated setting or, if canonical texts are
+/// wanted, how the value should be spelled. Returns `None` if there is nothing to report, and an error if
+/// there is no memory to find the nearest word. `value` is `None` for a key alone.
 pub fn find<'r, 't>(
     alloc: Global,
-    git: Version,
+    options: &Options<'_>,
     row: &'r Row<'t>,
     value: Option<&[u8]>,
-    wants_canonical: bool,
 ) -> Result<Option<Reason<'r, 't>>, AllocError>
-    ensures { IfOk result (HasFinding git wants_canonical row.now (option_copied value.entry)) }
+    ensures { IfOk result (HasFinding options.now row.now (option_copied value.entry)) }
 {
-    if let Some(reason) = outside(row, git) {
+    if let Some(reason) = outside(row, options.git) {
         return Ok(Some(reason));
     }
-    match judge(alloc, row, value) {
-        Ok(None) => Ok(remark(row, value, wants_canonical)),
+    match judge(alloc, options.users, row, value) {
+        Ok(None) => Ok(remark(row, value, options.canonical)),
         Ok(Some(reason)) => Ok(Some(reason)),
         Err(error) => Err(error),
     }

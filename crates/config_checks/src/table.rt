@@ -1,6 +1,6 @@
 //! Reads rows from text, in which each line is a row, a comment or blank.
-ghost use Rattle.std.specs.Prelude.{◌≡◌, ◌≢◌, ◌↔◌, IsTrue, Bool, Some, [], map, IfOk, IfErr, OnOk, OnErr, MatchOption};
-ghost use Rattle.std.specs.Prelude.{option_copied, codes};
+ghost use Rattle.std.specs.Prelude.{◌≡◌, ◌≢◌, ◌↔◌, IsTrue, Bool, Some, [], map, option_copied, codes};
+ghost use Rattle.std.specs.Prelude.{IfOk, IfErr, OnOk, OnErr, MatchOption};
 ghost use Rattle.config_checks.specs.declared.kind.SettingKind as kinds;
 ghost use Rattle.config_checks.specs.declared.kind.Form as forms;
 ghost use Rattle.config_checks.specs.Rows.{fields_of, is_blank, plain_name, form_name, words_name, lines_of};
@@ -89,8 +89,8 @@ fn is_blank(byte: u8) -> bool
     byte == b' ' || byte == b'\t' || byte == b'\r'
 }
 
-/// The fields of a line, which are separated by blanks, up to a field that begins with `#`. A backslash at the
-/// start of a field is left out.
+/// The fields of a line, which are separated by blanks, up to a field that begins with `#`. A backslash at
+/// the start of a field is left out.
 fn fields_of<'t>(alloc: Global, line: &'t [u8]) -> Result<Vec<&'t [u8]>, AllocError>
     ensures { IfOk result (λ v. map (λ field. field.now) v.items ≡ fields_of line.now) }
 {
@@ -220,6 +220,8 @@ fn plain_kind(name: &[u8]) -> Option<SettingKind<'static>>
         Some(SettingKind::BoolOrInt)
     } else if name == b"color".as_slice() {
         Some(SettingKind::Color)
+    } else if name == b"path".as_slice() {
+        Some(SettingKind::Path)
     } else {
         None
     }
@@ -374,7 +376,7 @@ fn takes_wanted(alloc: Global, row: &Row<'_>) -> Result<bool, AllocError>
     let Some(wanted) = row.wanted else {
         return Ok(true);
     };
-    match judge(alloc, row, Some(wanted)) {
+    match judge(alloc, None, row, Some(wanted)) {
         Ok(None) => Ok(true),
         Ok(Some(_)) => Ok(false),
         Err(error) => Err(error),

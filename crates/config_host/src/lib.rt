@@ -6,8 +6,8 @@
 //! - [`disk`] reads files, and refuses those that would take all memory. [`locked`] replaces the text of one.
 //! - [`repository`] finds the repository as Git does: by its HEAD, its owner and its format.
 //! - [`sources`] lists what Git reads, with the settings of a command, and [`reading`] follows includes.
-//! - [`surroundings`] holds what includes ask about, and [`shown`] writes messages without control
-//!   characters.
+//! - [`surroundings`] holds what includes ask about, and [`users`] knows whose home directories there are.
+//!   [`shown`] writes messages without control characters.
 //! - [`terminal`] tells whether to write colors, and how many.
 #![tactic(auto)]
 
@@ -30,6 +30,7 @@ pub mod shown;
 pub mod sources;
 pub mod surroundings;
 pub mod terminal;
+pub mod users;
 
 pub use crate::disk::{Disk, ReadError};
 pub use crate::environment::{ArgumentError, Host, HostError, arguments};
@@ -37,3 +38,4 @@ pub use crate::error::{HereError, Refusal};
 pub use crate::here::{Here, files_here, read_here, settings_here};
 pub use crate::locked::{LockError, Locked};
 pub use crate::surroundings::Surroundings;
+pub use crate::users::Users;

@@ -380,7 +380,7 @@ fn answer_in<'t, 'a>(
     } = open_texts(rt, texts, request)?;
     let mut reading = Reading {
         rt,
-        homes: Homes::new(rt, &disk, request.shown)?,
+        homes: Homes::new(&disk, request.shown)?,
         disk,
         sources,
         writer: rt.stdout(),

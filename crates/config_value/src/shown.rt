@@ -3,9 +3,8 @@
 use crate::dates;
 use bstr::BStr;
 use config_file::Setting;
-use config_host::environment::variable;
 use config_host::names::exists;
-use config_host::{Disk, HostError};
+use config_host::{Disk, HostError, Users};
 use gix_config_value::canonical::{Kind, TryRead, normalize};
 use gix_config_value::integer::Amount;
 use gix_config_value::path::interpolate::{Context, home_for_user};
@@ -77,27 +76,24 @@ pub struct Homes<'t> {
 
 impl<'t> Homes<'t> {
     /// The home directory and the list of users.
-    pub fn new(
-        rt: &'t HostRuntime,
-        disk: &Disk<'t, HostRuntime>,
-        shown: Shown,
-    ) -> Result<Homes<'t>, HostError> {
+    pub fn new(disk: &Disk<'t, HostRuntime>, shown: Shown) -> Result<Homes<'t>, HostError> {
         if shown != Shown::Path {
             return Ok(Homes {
                 home: None,
                 passwd: None,
             });
         }
-        let home = match variable(rt, "HOME")? {
+        let users = Users::new(disk, b"")?;
+        let home = match users.home {
             Some(home) => match String::from_utf8(home) {
                 Ok(home) => Some(home),
                 Err(_) => return Err(HostError::Variable("HOME")),
             },
             None => None,
         };
-        let passwd = match disk.first(b"/etc/passwd") {
-            Ok((_, text)) => str::from_utf8(text).ok(),
-            Err(_) => None,
+        let passwd = match users.passwd {
+            Some(text) => str::from_utf8(text).ok(),
+            None => None,
         };
         Ok(Homes { home, passwd })
     }

@@ -9,6 +9,7 @@ use crate::fix::Fix;
 use crate::kind::Form;
 use crate::options::Options;
 use crate::outcome::Outcome;
+use crate::paths::Users;
 use crate::reason::{Reason, Severity};
 use crate::row::Run;
 use crate::suggestion::UnknownKey;
@@ -43,9 +44,11 @@ pub fn findings()
     ensures fixes { IsCopied ⟦<Fix<'static> as Clone>⟧.is_clone ⟦<Fix<'static> as Clone>⟧.is_infallible }
 {}
 
-/// A clone of the options or the counts of a check is the same, and never fails.
+/// A clone of the options, the users or the counts of a check is the same, and never fails.
 pub fn checks()
-    ensures options { IsCopied ⟦<Options as Clone>⟧.is_clone ⟦<Options as Clone>⟧.is_infallible }
+    ensures users { IsCopied ⟦<Users<'static> as Clone>⟧.is_clone ⟦<Users<'static> as Clone>⟧.is_infallible }
+    ensures options { IsCopied ⟦<Options<'static> as Clone>⟧.is_clone
+        ⟦<Options<'static> as Clone>⟧.is_infallible }
     ensures counts { IsCopied ⟦<Counts as Clone>⟧.is_clone ⟦<Counts as Clone>⟧.is_infallible }
     ensures outcomes { IsCopied ⟦<Outcome as Clone>⟧.is_clone ⟦<Outcome as Clone>⟧.is_infallible }
 {}

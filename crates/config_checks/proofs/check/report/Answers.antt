@@ -38,7 +38,7 @@ returns-in_ok-give_reason-in-Ok-Some-clause-ok g c =
     let bad = rw c.in-Ok-Some.field-0-is at c.in-Ok-Some.ensures in (
       reason_finding s.entries c.args.setting.now row reason ∷ [],
       found row reason (subst (λ k. Decides (rows_of c.args.runs.now) k row) c.deref.ensures.value c.in-Some.ensures)
-          (subst (λ v. HasFinding c.args.options.now.git c.args.options.now.canonical row v (Some reason)) c.value_of-value.ensures bad)
+          (subst (λ v. HasFinding c.args.options.now row v (Some reason)) c.value_of-value.ensures bad)
           refl
           (c.with-counts-in-Ok-Some.ensures ∙ ap (λ v. counted v (record s { entries = s.entries + 1 })) c.severity.ensures),
       c.in_ok-give_reason-in-Ok-Some.ensures.ok,
@@ -50,6 +50,6 @@ returns-in-Ok-None-clause-ok g c =
     let good = rw c.in-Ok-None.field-0-is at c.in-Ok-None.ensures in (
       [],
       right row (subst (λ k. Decides (rows_of c.args.runs.now) k row) c.deref.ensures.value c.in-Some.ensures)
-          (subst (λ v. HasFinding c.args.options.now.git c.args.options.now.canonical row v None) c.value_of-value.ensures good) refl refl,
+          (subst (λ v. HasFinding c.args.options.now row v None) c.value_of-value.ensures good) refl refl,
       receives-nil _,
     )

@@ -23,7 +23,7 @@ returns-then-not-branch c =
     let row = c.in-Some.row.now in
     let options = c.args.options.now in
     let decides = subst (λ k. Decides rows k row) c.deref.ensures.value c.in-Some.ensures in
-    let other : ¬ (HasFinding options.git options.canonical row (Some c.args.new.now) None) = search rules in (
+    let other : ¬ (HasFinding options row (Some c.args.new.now) None) = search rules in (
       λ h. absurd (false≢true h),
       λ mends. absurd (mends_not rows options c.args.setting.now c.args.code c.args.new.now row decides other mends),
     )
@@ -36,7 +36,7 @@ returns c =
     let setting = c.args.setting.now in
     let new = c.args.new.now in
     let decides = subst (λ k. Decides rows k row) c.deref.ensures.value c.in-Some.ensures in
-    let none : HasFinding options.git options.canonical row (Some new) None = search rules in
+    let none : HasFinding options row (Some new) None = search rules in
     IfOk-weaker c.is_only_value.result _ _
     (λ b only. mends_if rows options setting c.args.code new row decides b none
     (subst (λ v. IsTrue b ↔ (c.args.code ≡ NotAWord → IsOnlyMeant row.kind v new)) c.value_of.ensures only))

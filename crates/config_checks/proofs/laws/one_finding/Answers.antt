@@ -2,4 +2,4 @@ use Rattle.config_checks.proofs.OneFinding.{finding_once}
 use Rattle.config_checks.proofs.laws.one_finding.Goals as goal
 
 pub returns : goal.returns
-returns c = λ git wants row. finding_once git row wants
+returns c = finding_once
