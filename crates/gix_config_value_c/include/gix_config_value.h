@@ -88,8 +88,8 @@ typedef GCV_ENUM(gcv_kind) {
     GCV_COLOR = 7
 } gcv_kind;
 
-/* Why a text or a path is refused, which gcv_fault_text says in words: GCV_FAULT_NONE is for a suffix. A path is empty;
- * it needs a directory or a passwd text that is null; there is no such user; or a part of it is not UTF-8. */
+/* Why a text or a path is refused, which gcv_fault_text says in words: GCV_FAULT_NONE is for a suffix. A path is empty,
+ * needs a directory or a passwd text that is null, names an unknown user, or has a part that is not UTF-8. */
 typedef GCV_ENUM(gcv_fault) {
     GCV_FAULT_NONE = 0, GCV_FAULT_BOOLEAN = 1, GCV_FAULT_INTEGER = 2, GCV_FAULT_OVERFLOW = 3,
     GCV_FAULT_OUT_OF_RANGE = 4, GCV_FAULT_COLOR = 5, GCV_FAULT_PATH_MISSING = 6,
@@ -100,10 +100,12 @@ typedef GCV_ENUM(gcv_fault) {
 
 /* The suffix of an integer: none, k for 1024, m for 1024 * 1024, or g for 1024 * 1024 * 1024. */
 typedef GCV_ENUM(gcv_suffix) { GCV_NO_SUFFIX = 0, GCV_KIBI = 1, GCV_MEBI = 2, GCV_GIBI = 3 } gcv_suffix;
+
 /* How many colors a terminal has, or GCV_NO_COLORS if a program writes without colors. */
 typedef GCV_ENUM(gcv_depth) {
     GCV_NO_COLORS = 0, GCV_ANSI16 = 16, GCV_ANSI256 = 256, GCV_TRUE_COLOR = 16777216
 } gcv_depth;
+
 /* The tag of a name: GCV_NO_NAME in a color without this name, GCV_ANSI for the number `palette` of the terminal's
  * palette, GCV_RGB for `red`, `green` and `blue`. */
 typedef GCV_ENUM(gcv_tag) {
@@ -113,7 +115,7 @@ typedef GCV_ENUM(gcv_tag) {
     GCV_BRIGHT_CYAN = 16, GCV_WHITE = 17, GCV_BRIGHT_WHITE = 18, GCV_ANSI = 19, GCV_RGB = 20
 } gcv_tag;
 
-/* The bits of attributes. */
+/* The bits of attributes, of which a color has any number. */
 typedef GCV_ENUM(gcv_attribute) {
     GCV_BOLD = 0x2, GCV_DIM = 0x4, GCV_ITALIC = 0x8, GCV_UL = 0x10, GCV_BLINK = 0x20, GCV_REVERSE = 0x40,
     GCV_STRIKE = 0x80, GCV_RESET = 0x100, GCV_NO_DIM = 0x200000, GCV_NO_BOLD = 0x400000,
@@ -268,7 +270,7 @@ typedef struct gcv_settings {
 #define GCV_NO_SETTINGS {NULL, 0, NULL, 0, NULL}
 
 /* Opens a file, whose name ends with NUL. Writes its text, and its directory for conditions with ./: an absolute path,
- * links resolved and no / at its end, which ends with NUL, or null. Both have memory of malloc, which the library
+ * links resolved and no / at its end, which ends with NUL, or null. Both have memory of malloc, which gcv_read_files
  * frees. Returns GCV_OK, GCV_ABSENT if the file is not there, or why to stop. gcv_open_file opens those of the system,
  * and needs no state. It returns GCV_REFUSED for a file that cannot be read, or that is longer than 1 GiB. */
 typedef struct gcv_file { char *text; size_t length; char *real_dir; } gcv_file;
@@ -293,7 +295,7 @@ GCV_CALL((5)) gcv_list_key(const char *key, size_t length, char *GCV_TO buffer, 
                            size_t *size);
 GCV_NONNULL((1)) void gcv_free_settings(gcv_settings *settings);
 
-/* A walk over files, one entry at a time: gcv_read_files without memory of the library. gcv_enter begins it, and
+/* A walk over files, one entry at a time: what gcv_read_files does, but nothing is kept. gcv_enter begins it, and
  * gcv_next returns one entry after the other, in Git's order. If an entry includes a file, open it and call gcv_enter:
  * its entries come next. If there is no such file, just go on, as Git does. Git stops at an entry whose `include` is
  * GCV_NO_VALUE or GCV_NO_DIRECTORY, at GCV_BAD_LINE, GCV_NUL and GCV_TOO_DEEP, and at a file that it cannot read. A
@@ -347,8 +349,8 @@ GCV_CALL((1, 5)) gcv_next(gcv_walk *GCV_TO walk, const gcv_known *known, char *G
  * and GIT_CONFIG_VALUE_n, each twice: it returns a value, which ends with NUL and must stay valid until the call
  * returns, or null. Git reads that text last, and calls the file `command line`. It is in no folder: give a walk the
  * real directory "\0" of length 1, and open none of what it includes unless the name begins with `/`. Returns the
- * status of the first setting that Git refuses: GCV_BAD_COUNT to GCV_KEY_LINE_FEED, or GCV_NUL. It allocates;
- * GCV_NO_MEMORY may leave bytes in the buffer. */
+ * status of the first setting that Git refuses: GCV_BAD_COUNT to GCV_KEY_LINE_FEED. It allocates, and GCV_NO_MEMORY may
+ * leave bytes in the buffer. */
 typedef const char *gcv_get_variable(void *state, const char *name);
 GCV_CALL((1, 5)) gcv_command_text(gcv_get_variable *get, void *state, char *GCV_TO buffer, size_t capacity,
                                   size_t *size);

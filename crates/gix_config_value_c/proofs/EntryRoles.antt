@@ -6,7 +6,7 @@ use Rattle.config_file.specs.File.{Entry}
 use Rattle.config_file.specs.Include.{Names, IsRemoteUrl}
 use Rattle.config_file.specs.Subsection.{SpellsSubsection}
 use Rattle.config_file.specs.declared.include.Condition.{Condition}
-use Rattle.gix_config_value_c.specs.Roles.{IsInIf, SpellsCondition, HasRole, asks_urls}
+use Rattle.gix_config_value_c.specs.Roles.{SpellsCondition, HasRole, asks_urls}
 use Rattle.gix_config_value_c.specs.Roles.HasRole.{plain}
 use Rattle.gix_config_value_c.specs.declared.roles.Role.TheVariants.{Plain}
 
