@@ -311,8 +311,8 @@ typedef struct gcv_frame {
 typedef struct gcv_walk { size_t count; gcv_frame frames[GCV_MOST_FRAMES]; } gcv_walk;
 
 /* A step of a walk: an entry. Its role is GCV_REMOTE_URL for remote.NAME.url, and GCV_CONDITION in a section includeIf,
- * which includes files on a condition, but GCV_URL_CONDITION on the condition hasconfig:remote.*.url:. At such a one
- * Git first walks over all files with `seeks_urls`, for all URLs. It stops at one in a file included on a condition. */
+ * which includes files on a condition, but GCV_URL_CONDITION if that is hasconfig:remote.*.url:. At such an entry Git
+ * first seeks the URLs of all remotes, by a walk over all files with `seeks_urls`: docs/C.md says how. */
 typedef GCV_ENUM(gcv_role) {
     GCV_PLAIN = 0, GCV_REMOTE_URL = 1, GCV_CONDITION = 2, GCV_URL_CONDITION = 3
 } gcv_role;

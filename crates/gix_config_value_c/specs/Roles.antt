@@ -10,8 +10,8 @@ use Rattle.gix_config_value_c.specs.declared.roles.Role.{Role}
 use Rattle.gix_config_value_c.specs.declared.roles.Role.TheVariants as roles
 
 -- the entry is in a section `includeIf`, whose subsection has these bytes
-abbrev pub IsInIf : List ℕ → Entry → Type 0
-IsInIf raw entry =
+abbrev pub IsInIncludeIf : List ℕ → Entry → Type 0
+IsInIncludeIf raw entry =
     (written : List ℕ) × (entry.section ≡ Some (written, Some raw)) × (map to_ascii_lowercase written ≡ codes "includeif")
 
 -- whether the condition asks about the URLs of remotes
@@ -27,6 +27,6 @@ SpellsCondition raw asks = (text : List ℕ) → SpellsSubsection raw text
 -- the role of an entry: the URL of a remote, or an entry of a section with a condition, whatever its key
 pub data HasRole (entry : Entry) : Role → Type 0 where
   remote_url : IsRemoteUrl entry → HasRole entry roles.RemoteUrl
-  condition : (raw : List ℕ) → IsInIf raw entry → SpellsCondition raw false → HasRole entry roles.Condition
-  url_condition : (raw : List ℕ) → IsInIf raw entry → SpellsCondition raw true → HasRole entry roles.UrlCondition
-  plain : ¬ (IsRemoteUrl entry) → ((raw : List ℕ) → ¬ (IsInIf raw entry)) → HasRole entry roles.Plain
+  condition : (raw : List ℕ) → IsInIncludeIf raw entry → SpellsCondition raw false → HasRole entry roles.Condition
+  url_condition : (raw : List ℕ) → IsInIncludeIf raw entry → SpellsCondition raw true → HasRole entry roles.UrlCondition
+  plain : ¬ (IsRemoteUrl entry) → ((raw : List ℕ) → ¬ (IsInIncludeIf raw entry)) → HasRole entry roles.Plain

@@ -468,7 +468,7 @@ static gcv_status open_in_memory(void *state, const char *name, gcv_file *out)
         if (strcmp(of->files[at].name, name) == 0) {
             size_t length = of->files[at].length ? of->files[at].length : strlen(of->files[at].text);
             of->opened++;
-            out->text = (char *)malloc(length + 1);
+            out->text = (char *)malloc(length > 0 ? length : 1);
             memcpy(out->text, of->files[at].text, length);
             out->length = length;
             out->real_dir = strdup("/real");
