@@ -1,4 +1,4 @@
-/* Git's configuration for C and C++: values, paths, files and edits. docs/C.md lists the calls by what they are for.
+/* Git's configuration for C and C++: values, paths, files and edits. docs/C.md of the repository lists the calls.
  *
  * A text is a pointer and a length. It may be any bytes, and needs no NUL at its end; if the length is 0, the pointer
  * may be null. A call reads only the bytes that it is given, writes only what its comment says, and keeps no pointer
