@@ -899,9 +899,9 @@ static PyObject *command_text(PyObject *module, PyObject *Py_UNUSED(unused))
 /* Edits */
 
 typedef gcv_status edit_by_one(const char *text, size_t length, const char *name, size_t name_length,
-                               char *GCV_RESTRICT buffer, size_t capacity, size_t *size, size_t *line);
+                               char *GCV_TO buffer, size_t capacity, size_t *size, size_t *line);
 typedef gcv_status edit_by_two(const char *text, size_t length, const char *first, size_t first_length,
-                               const char *second, size_t second_length, char *GCV_RESTRICT buffer, size_t capacity,
+                               const char *second, size_t second_length, char *GCV_TO buffer, size_t capacity,
                                size_t *size, size_t *line);
 
 /* An edit takes the text of a file, and a key or a name; an edit by two also a value, or another name. */
@@ -1069,7 +1069,7 @@ static PyTypeObject *add_type(PyObject *module, PyType_Spec *spec)
     return type;
 }
 
-/* The same for a type of values. Its instances cannot be changed, and it cannot be subclassed. */
+/* Makes a type of values, and adds it to the module. Its instances cannot be changed, and it cannot be subclassed. */
 static PyTypeObject *add_value_type(PyObject *module, const char *name, PyType_Slot *slots)
 {
     PyType_Slot all[MOST_SLOTS];

@@ -24,17 +24,20 @@ typedef struct {
 
 /* The entries of files, in order. `texts` has keys and texts, each with a NUL; equal keys are there once. `slots` is a
  * table over the hashes of keys, which finds the last entry with a key: 1 more than its index, or 0. `sources` has a
- * tuple for each file, each time that it is read: its name, its scope, and how many files the walk was in. */
+ * tuple for each file, each time that it is read: its name and its scope. From walks that seek the URLs of remotes,
+ * `urls` has those as `bytes`, `refused` is 1 more than the index of the first one in a file that is included on a
+ * condition, or 0, and `asks_urls` says whether a condition asks about URLs. */
 typedef struct {
     PyObject_HEAD
     State *state;
-    PyObject *sources;
+    PyObject *sources, *urls;
     char *texts;
     size_t size, capacity;
     Row *rows;
     size_t count, room;
     uint32_t *slots;
-    size_t slot_count, keys;
+    size_t slot_count, keys, refused;
+    int asks_urls;
     int is_read; /* in a call that may let other threads run */
 } Entries;
 
@@ -173,9 +176,9 @@ static void keep(Entries *self, const char *text, size_t line, size_t source)
 }
 
 /* Returns the index of a new source, or -1 with an exception. */
-static Py_ssize_t add_source(Entries *self, PyObject *file, PyObject *scope, Py_ssize_t depth)
+static Py_ssize_t add_source(Entries *self, PyObject *file, PyObject *scope)
 {
-    PyObject *source = Py_BuildValue("OOn", file, scope, depth);
+    PyObject *source = Py_BuildValue("OO", file, scope);
     int status = source ? PyList_Append(self->sources, source) : -1;
     Py_XDECREF(source);
     return status == 0 ? PyList_Size(self->sources) - 1 : -1;
@@ -207,13 +210,14 @@ static PyObject *entry_at(const Entries *self, size_t at)
 
 /* Walks */
 
-/* A walk, and for each file that it is in its source, and the tuple from which the walk borrows. */
+/* A walk, and for each file that it is in its source, and the tuple from which the walk borrows. `conditional` is the
+ * depth of the first condition on the way to the entry, or 0. */
 typedef struct {
     gcv_walk walk;
     PyObject *files[GCV_MOST_FRAMES];
-    size_t sources[GCV_MOST_FRAMES];
+    size_t sources[GCV_MOST_FRAMES], conditional;
     PyObject *scope;
-    int is_long;
+    int is_long, seeks_urls;
 } Walk;
 
 /* Whether an object is a tuple. If not, an exception is raised. */
@@ -238,7 +242,7 @@ static gcv_status enter(Entries *self, Walk *walk, PyObject *file)
                                   PyBytes_AsString(text), length);
     if (status != GCV_OK)
         return status;
-    Py_ssize_t source = add_source(self, shown, walk->scope, (Py_ssize_t)walk->walk.count);
+    Py_ssize_t source = add_source(self, shown, walk->scope);
     if (source < 0)
         return GCV_REFUSED;
     Py_XDECREF(walk->files[depth]);
@@ -249,27 +253,50 @@ static gcv_status enter(Entries *self, Walk *walk, PyObject *file)
     return make_room(self, length + 1) ? GCV_OK : GCV_REFUSED;
 }
 
-/* Takes steps while there is room, until one includes a file. */
+/* Takes steps while there is room, until one includes a file, or is a URL that is sought. */
 static gcv_status take(Entries *self, Walk *walk, const gcv_known *known, gcv_step *step)
 {
+    int is_followed = 0;
     step->include = GCV_NO_INCLUDE;
-    for (int left = MOST_STEPS; left > 0 && step->include == GCV_NO_INCLUDE && has_room(self); left--) {
+    step->role = GCV_PLAIN;
+    for (int left = MOST_STEPS; left > 0 && !is_followed && has_room(self); left--) {
         gcv_status status = gcv_next(&walk->walk, known, self->texts + self->size, self->capacity - self->size, step);
         if (status != GCV_OK)
             return status;
         keep(self, step->value, step->line, walk->sources[walk->walk.count - 1]);
+        walk->conditional = walk->walk.count <= walk->conditional ? 0 : walk->conditional;
+        self->asks_urls |= walk->seeks_urls && step->role == GCV_URL_CONDITION;
+        is_followed = step->include != GCV_NO_INCLUDE || (walk->seeks_urls && step->role == GCV_REMOTE_URL);
     }
     return GCV_OK;
+}
+
+/* Takes the text of the last entry, which is a URL that is sought. */
+static gcv_status take_url(Entries *self, const Walk *walk)
+{
+    size_t text = self->rows[self->count - 1].text;
+    if (walk->conditional && self->refused == 0)
+        self->refused = self->count;
+    if (text == NO_TEXT)
+        return GCV_OK;
+    PyObject *url = PyBytes_FromString(self->texts + text);
+    int status = url ? PyList_Append(self->urls, url) : -1;
+    Py_XDECREF(url);
+    return status == 0 ? GCV_OK : GCV_REFUSED;
 }
 
 /* Goes on in the file that the last entry includes. `open` takes the entry and the name of the file, or None if the
  * library does not know a directory. It returns a file as `enter` takes it, or None if it is not there. */
 static gcv_status follow(Entries *self, Walk *walk, const gcv_step *step, PyObject *open)
 {
+    if (walk->seeks_urls && step->role == GCV_REMOTE_URL)
+        return take_url(self, walk);
     if (step->include == GCV_NO_INCLUDE)
         return GCV_OK;
     if (step->include == GCV_NO_VALUE)
         return GCV_NO_VALUE;
+    if (walk->conditional == 0 && step->role != GCV_PLAIN)
+        walk->conditional = walk->walk.count;
     PyObject *name = step->included ? PyBytes_FromString(step->included) : counted(Py_None);
     PyObject *entry = name ? entry_at(self, self->count - 1) : NULL;
     PyObject *file = entry ? PyObject_CallFunctionObjArgs(open, entry, name, NULL) : NULL;
@@ -365,6 +392,7 @@ static PyObject *entries_read(PyObject *object, PyObject *args)
     if (PyArg_ParseTuple(args, "OOOO", &walk.scope, &file, &parts, &open) &&
         (parts == Py_None || is_known(parts, &known, &urls)))
         status = enter(self, &walk, file);
+    walk.seeks_urls = known.seeks_urls;
     if (status == GCV_OK)
         status = walk_over(self, &walk, parts == Py_None ? NULL : &known, open, &step);
     if (status != GCV_ABSENT)
@@ -410,7 +438,7 @@ static Py_ssize_t source_of(Entries *self, PyObject *file, PyObject *scope)
     PyObject *source = last < 0 ? NULL : PyList_GetItem(self->sources, last);
     int is_file = source ? PyObject_RichCompareBool(PyTuple_GetItem(source, 0), file, Py_EQ) : 0;
     int is_scope = is_file == 1 ? PyObject_RichCompareBool(PyTuple_GetItem(source, 1), scope, Py_EQ) : is_file;
-    return is_scope < 0 ? -1 : is_scope ? last : add_source(self, file, scope, 1);
+    return is_scope < 0 ? -1 : is_scope ? last : add_source(self, file, scope);
 }
 
 static int add_entry(Entries *self, PyObject *given)
@@ -443,7 +471,8 @@ static PyObject *entries_new(PyTypeObject *type, PyObject *args, PyObject *Py_UN
         return NULL;
     self->state = state;
     self->sources = PyList_New(0);
-    if (self->sources && given)
+    self->urls = PyList_New(0);
+    if (self->sources && self->urls && given)
         iterator = PyObject_GetIter(given);
     while (iterator && (row = PyIter_Next(iterator))) {
         int is_added = add_entry(self, row);
@@ -463,6 +492,7 @@ static void entries_free(PyObject *object)
     PyTypeObject *type = Py_TYPE(object);
     freefunc release = (freefunc)PyType_GetSlot(type, Py_tp_free);
     Py_XDECREF(self->sources);
+    Py_XDECREF(self->urls);
     PyMem_Free(self->texts);
     PyMem_Free(self->rows);
     PyMem_Free(self->slots);
@@ -550,25 +580,13 @@ static PyObject *entries_key_count(PyObject *self, PyObject *Py_UNUSED(unused))
     return PyLong_FromSize_t(((Entries *)self)->keys);
 }
 
-/* Whether any key begins with a text, given as `bytes`. */
-static PyObject *entries_have(PyObject *object, PyObject *prefix)
+/* The URLs of remotes that were sought, if a condition asks about them, and otherwise None; and the first entry that has
+ * one in a file that is included on a condition, or None. */
+static PyObject *entries_urls(PyObject *object, PyObject *Py_UNUSED(unused))
 {
     Entries *self = (Entries *)object;
-    char *text = PyBytes_AsString(prefix);
-    size_t at = 0;
-    while (text && at < self->count && strncmp(self->texts + self->rows[at].key, text, strlen(text)) != 0)
-        at++;
-    return text ? PyBool_FromLong(at < self->count) : NULL;
-}
-
-/* How many files the walk was in at the entry with this index. */
-static PyObject *entries_depth(PyObject *object, PyObject *index)
-{
-    Entries *self = (Entries *)object;
-    size_t at = PyLong_AsSize_t(index);
-    if (PyErr_Occurred() || at >= self->count)
-        return PyErr_Format(PyExc_IndexError, "there is no such entry");
-    return counted(PyTuple_GetItem(PyList_GetItem(self->sources, self->rows[at].source), 2));
+    PyObject *refused = self->refused ? entry_at(self, self->refused - 1) : counted(Py_None);
+    return refused ? Py_BuildValue("ON", self->asks_urls ? self->urls : Py_None, refused) : NULL;
 }
 
 static int is_same_row(const Entries *self, const Entries *other, size_t at)
@@ -642,8 +660,7 @@ static PyMethodDef entries_methods[] = {
     {"_all", entries_all, METH_O, NULL},
     {"_keys", entries_keys, METH_NOARGS, NULL},
     {"_key_count", entries_key_count, METH_NOARGS, NULL},
-    {"_have", entries_have, METH_O, NULL},
-    {"_depth", entries_depth, METH_O, NULL},
+    {"_urls", entries_urls, METH_NOARGS, NULL},
     {NULL, NULL, 0, NULL},
 };
 

@@ -115,7 +115,7 @@ static gcv_status write_text(const char *text, size_t length, char *buffer, size
     return GCV_OK;
 }
 
-gcv_status gcv_fault_text(gcv_fault fault, char *GCV_RESTRICT buffer, size_t capacity, size_t *size)
+gcv_status gcv_fault_text(gcv_fault fault, char *GCV_TO buffer, size_t capacity, size_t *size)
 {
     /* the text for a refused suffix, whose fault has no text in the proved library */
     static const char suffix[] = "Suffixes are k, m and g, in either case";
@@ -127,7 +127,7 @@ gcv_status gcv_fault_text(gcv_fault fault, char *GCV_RESTRICT buffer, size_t cap
 
 /* Readers, whose fault may be null. */
 #define READER(name, type)                                                                                             \
-    gcv_status gcv_read_##name(const char *text, size_t length, type *GCV_RESTRICT out, gcv_fault *fault)              \
+    gcv_status gcv_read_##name(const char *text, size_t length, type *GCV_TO out, gcv_fault *fault)                    \
     {                                                                                                                  \
         gcv_fault unused = GCV_FAULT_NONE;                                                                             \
         return gcv_raw_read_##name(bytes_of(text, length), length, out, fault ? fault : &unused);                      \
@@ -142,7 +142,7 @@ READER(color, gcv_color)
 
 /* Values as texts. */
 #define WRITER(name, type)                                                                                             \
-    gcv_status gcv_##name(type value, char *GCV_RESTRICT buffer, size_t capacity, size_t *size)                        \
+    gcv_status gcv_##name(type value, char *GCV_TO buffer, size_t capacity, size_t *size)                              \
     {                                                                                                                  \
         return gcv_raw_##name(value, room_of(buffer, capacity), capacity, size);                                       \
     }
@@ -155,35 +155,35 @@ WRITER(show_attribute, uint32_t)
 WRITER(show_color, const gcv_color *)
 WRITER(escape_color, const gcv_color *)
 
-gcv_status gcv_product(const gcv_integer *value, int64_t *GCV_RESTRICT out)
+gcv_status gcv_product(const gcv_integer *value, int64_t *GCV_TO out)
 {
     return gcv_raw_product(value, out);
 }
 
-gcv_status gcv_normalize(gcv_kind kind, const char *text, size_t length, char *GCV_RESTRICT buffer, size_t capacity,
+gcv_status gcv_normalize(gcv_kind kind, const char *text, size_t length, char *GCV_TO buffer, size_t capacity,
                          size_t *size)
 {
     return gcv_raw_normalize(kind, bytes_of(text, length), length, room_of(buffer, capacity), capacity, size);
 }
 
 gcv_status gcv_same(gcv_kind kind, const char *first, size_t first_length, const char *second, size_t second_length,
-                    uint32_t *GCV_RESTRICT out)
+                    uint32_t *GCV_TO out)
 {
     return gcv_raw_same(kind, bytes_of(first, first_length), first_length, bytes_of(second, second_length),
                         second_length, out);
 }
 
-gcv_status gcv_compose(const gcv_color *first, const gcv_color *second, gcv_color *GCV_RESTRICT out)
+gcv_status gcv_compose(const gcv_color *first, const gcv_color *second, gcv_color *GCV_TO out)
 {
     return gcv_raw_compose(first, second, out);
 }
 
-gcv_status gcv_over(const gcv_color *base, const gcv_color *top, gcv_color *GCV_RESTRICT out)
+gcv_status gcv_over(const gcv_color *base, const gcv_color *top, gcv_color *GCV_TO out)
 {
     return gcv_raw_over(base, top, out);
 }
 
-gcv_status gcv_reduce_color(const gcv_color *value, gcv_depth depth, gcv_color *GCV_RESTRICT out)
+gcv_status gcv_reduce_color(const gcv_color *value, gcv_depth depth, gcv_color *GCV_TO out)
 {
     return gcv_raw_reduce_color(value, depth, out);
 }
@@ -201,7 +201,7 @@ static uint32_t give(const char *text, size_t length, const char **to, size_t *t
     return text ? 1 : 0;
 }
 
-gcv_status gcv_interpolate(const char *text, size_t length, const gcv_context *context, char *GCV_RESTRICT buffer,
+gcv_status gcv_interpolate(const char *text, size_t length, const gcv_context *context, char *GCV_TO buffer,
                            size_t capacity, size_t *size, gcv_fault *fault)
 {
     gcv_fault unused = GCV_FAULT_NONE;
@@ -222,7 +222,7 @@ static const char *or_true(const char *text)
     return text ? text : "true";
 }
 
-gcv_status gcv_parse_bool(const char *text, int *GCV_RESTRICT out, gcv_fault *fault)
+gcv_status gcv_parse_bool(const char *text, int *GCV_TO out, gcv_fault *fault)
 {
     uint32_t value = 0;
     gcv_status status = gcv_read_boolean(or_true(text), strlen(or_true(text)), &value, fault);
@@ -232,7 +232,7 @@ gcv_status gcv_parse_bool(const char *text, int *GCV_RESTRICT out, gcv_fault *fa
     return status;
 }
 
-gcv_status gcv_parse_int32(const char *text, int32_t *GCV_RESTRICT out, gcv_fault *fault)
+gcv_status gcv_parse_int32(const char *text, int32_t *GCV_TO out, gcv_fault *fault)
 {
     int64_t value = 0;
     gcv_status status = gcv_parse_int64(text, &value, fault);
@@ -248,12 +248,12 @@ gcv_status gcv_parse_int32(const char *text, int32_t *GCV_RESTRICT out, gcv_faul
     return status;
 }
 
-gcv_status gcv_parse_int64(const char *text, int64_t *GCV_RESTRICT out, gcv_fault *fault)
+gcv_status gcv_parse_int64(const char *text, int64_t *GCV_TO out, gcv_fault *fault)
 {
     return gcv_read_amount(or_true(text), strlen(or_true(text)), out, fault);
 }
 
-gcv_status gcv_parse_color(const char *text, gcv_color *GCV_RESTRICT out, gcv_fault *fault)
+gcv_status gcv_parse_color(const char *text, gcv_color *GCV_TO out, gcv_fault *fault)
 {
     return gcv_read_color(or_true(text), strlen(or_true(text)), out, fault);
 }
@@ -307,7 +307,7 @@ static gcv_status interpolate_user(const char *text, size_t length, gcv_find_hom
 }
 
 gcv_status gcv_interpolate_with(const char *text, size_t length, const gcv_context *context, gcv_find_home *find,
-                                void *state, char *GCV_RESTRICT buffer, size_t capacity, size_t *size,
+                                void *state, char *GCV_TO buffer, size_t capacity, size_t *size,
                                 gcv_fault *fault)
 {
     gcv_context asked = *context;
@@ -398,7 +398,7 @@ static gcv_status write_command(command *to)
     return status;
 }
 
-gcv_status gcv_command_text(gcv_get_variable *get, void *state, char *GCV_RESTRICT buffer, size_t capacity,
+gcv_status gcv_command_text(gcv_get_variable *get, void *state, char *GCV_TO buffer, size_t capacity,
                             size_t *size)
 {
     command to = {get, state, NULL, 0, 0};
@@ -439,38 +439,38 @@ static gcv_status call_with_one(gcv_edit_by_one *edit, const char *text, size_t 
 }
 
 gcv_status gcv_set(const char *text, size_t length, const char *key, size_t key_length, const char *value,
-                   size_t value_length, char *GCV_RESTRICT buffer, size_t capacity, size_t *size, size_t *line)
+                   size_t value_length, char *GCV_TO buffer, size_t capacity, size_t *size, size_t *line)
 {
     return call_with_two(gcv_raw_set, text, length, key, key_length, value, value_length, buffer, capacity, size, line);
 }
 
 gcv_status gcv_replace_all(const char *text, size_t length, const char *key, size_t key_length, const char *value,
-                           size_t value_length, char *GCV_RESTRICT buffer, size_t capacity, size_t *size, size_t *line)
+                           size_t value_length, char *GCV_TO buffer, size_t capacity, size_t *size, size_t *line)
 {
     return call_with_two(gcv_raw_replace_all, text, length, key, key_length, value, value_length, buffer, capacity,
                          size, line);
 }
 
 gcv_status gcv_add(const char *text, size_t length, const char *key, size_t key_length, const char *value,
-                   size_t value_length, char *GCV_RESTRICT buffer, size_t capacity, size_t *size, size_t *line)
+                   size_t value_length, char *GCV_TO buffer, size_t capacity, size_t *size, size_t *line)
 {
     return call_with_two(gcv_raw_add, text, length, key, key_length, value, value_length, buffer, capacity, size, line);
 }
 
-gcv_status gcv_unset(const char *text, size_t length, const char *key, size_t key_length, char *GCV_RESTRICT buffer,
+gcv_status gcv_unset(const char *text, size_t length, const char *key, size_t key_length, char *GCV_TO buffer,
                      size_t capacity, size_t *size, size_t *line)
 {
     return call_with_one(gcv_raw_unset, text, length, key, key_length, buffer, capacity, size, line);
 }
 
 gcv_status gcv_unset_all(const char *text, size_t length, const char *key, size_t key_length,
-                         char *GCV_RESTRICT buffer, size_t capacity, size_t *size, size_t *line)
+                         char *GCV_TO buffer, size_t capacity, size_t *size, size_t *line)
 {
     return call_with_one(gcv_raw_unset_all, text, length, key, key_length, buffer, capacity, size, line);
 }
 
 gcv_status gcv_rename_section(const char *text, size_t length, const char *old_name, size_t old_name_length,
-                              const char *new_name, size_t new_name_length, char *GCV_RESTRICT buffer,
+                              const char *new_name, size_t new_name_length, char *GCV_TO buffer,
                               size_t capacity, size_t *size, size_t *line)
 {
     return call_with_two(gcv_raw_rename_section, text, length, old_name, old_name_length, new_name, new_name_length,
@@ -478,17 +478,17 @@ gcv_status gcv_rename_section(const char *text, size_t length, const char *old_n
 }
 
 gcv_status gcv_remove_section(const char *text, size_t length, const char *name, size_t name_length,
-                              char *GCV_RESTRICT buffer, size_t capacity, size_t *size, size_t *line)
+                              char *GCV_TO buffer, size_t capacity, size_t *size, size_t *line)
 {
     return call_with_one(gcv_raw_remove_section, text, length, name, name_length, buffer, capacity, size, line);
 }
 
-gcv_status gcv_list_key(const char *key, size_t length, char *GCV_RESTRICT buffer, size_t capacity, size_t *size)
+gcv_status gcv_list_key(const char *key, size_t length, char *GCV_TO buffer, size_t capacity, size_t *size)
 {
     return gcv_raw_list_key(bytes_of(key, length), length, room_of(buffer, capacity), capacity, size);
 }
 
-gcv_status gcv_enter(gcv_walk *GCV_RESTRICT walk, const char *file, size_t file_length, const char *real_dir,
+gcv_status gcv_enter(gcv_walk *GCV_TO walk, const char *file, size_t file_length, const char *real_dir,
                      size_t real_dir_length, const char *text, size_t length)
 {
     gcv_frame frame = {"", 0, "", 0, "", 0, "", 0, "", 0, 0, 0};
@@ -524,11 +524,11 @@ static gcv_raw_known given_of(const gcv_known *known)
     return raw;
 }
 
-gcv_status gcv_next(gcv_walk *GCV_RESTRICT walk, const gcv_known *known, char *GCV_RESTRICT buffer,
-                    size_t capacity, gcv_step *GCV_RESTRICT out)
+gcv_status gcv_next(gcv_walk *GCV_TO walk, const gcv_known *known, char *GCV_TO buffer,
+                    size_t capacity, gcv_step *GCV_TO out)
 {
     gcv_raw_known given = given_of(known);
-    gcv_raw_step step = {"", 0, 0, 0, 0, 0, 0, GCV_OK};
+    gcv_raw_step step = {"", 0, 0, 0, 0, 0, 0, GCV_OK, GCV_PLAIN};
     gcv_status status = GCV_BAD_LENGTHS;
     if (walk->count <= GCV_MOST_FRAMES) {
         status = gcv_raw_next(walk->frames, walk->count, &walk->count, &given, room_of(buffer, capacity), capacity,
@@ -547,6 +547,7 @@ gcv_status gcv_next(gcv_walk *GCV_RESTRICT walk, const gcv_known *known, char *G
         out->value = step.has_value == 1 ? buffer + step.value : NULL;
         out->included = step.include == GCV_OK ? buffer + step.included : NULL;
         out->include = step.include;
+        out->role = step.role;
     }
     return status;
 }

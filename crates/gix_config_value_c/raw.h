@@ -40,11 +40,12 @@ typedef struct gcv_raw_step {
     size_t size;
     uint32_t has_value;
     gcv_status include;
+    gcv_role role;
 } gcv_raw_step;
 
 /* The library expects this layout. */
 #define GCV_ASSERT(fact) extern const char gcv_asserted[(fact) ? 1 : -1]
-GCV_ASSERT(sizeof(gcv_status) == 4 && sizeof(gcv_kind) == 4 && sizeof(gcv_fault) == 4);
+GCV_ASSERT(sizeof(gcv_status) == 4 && sizeof(gcv_kind) == 4 && sizeof(gcv_fault) == 4 && sizeof(gcv_role) == 4);
 GCV_ASSERT(offsetof(gcv_integer, value) == 0);
 GCV_ASSERT(offsetof(gcv_integer, suffix) == 8);
 GCV_ASSERT(sizeof(gcv_integer) == 16);
@@ -104,7 +105,8 @@ GCV_ASSERT(offsetof(gcv_raw_step, included) == 32);
 GCV_ASSERT(offsetof(gcv_raw_step, size) == 40);
 GCV_ASSERT(offsetof(gcv_raw_step, has_value) == 48);
 GCV_ASSERT(offsetof(gcv_raw_step, include) == 52);
-GCV_ASSERT(sizeof(gcv_raw_step) == 56);
+GCV_ASSERT(offsetof(gcv_raw_step, role) == 56);
+GCV_ASSERT(sizeof(gcv_raw_step) == 64);
 #undef GCV_ASSERT
 
 gcv_status gcv_raw_read_suffix(const char *text, size_t length, gcv_suffix *out, gcv_fault *fault);

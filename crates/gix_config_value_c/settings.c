@@ -198,7 +198,8 @@ gcv_status gcv_open_file(void *state, const char *name, gcv_file *out)
 }
 
 /* What is read. Files have memory by their depth. `conditional` is the depth of the first condition on the way to the
- * entry, or 0. `refused` is the first URL of a remote in a file that is included on a condition. */
+ * entry, or 0. `urls` are those of remotes, if they are sought, and `refused` is the first of them in a file that is
+ * included on a condition. */
 typedef struct {
     gcv_settings *settings;
     gcv_memory *memory;
@@ -210,6 +211,8 @@ typedef struct {
     gcv_file files[GCV_MOST_FRAMES + 1];
     size_t conditional;
     int asks_urls;
+    gcv_text *urls;
+    size_t urls_count, urls_room;
     const char *refused_file;
     size_t refused_line;
 } reading;
@@ -277,31 +280,46 @@ static gcv_status append(reading *to, gcv_step *step)
     return GCV_OK;
 }
 
-/* Whether this is the key of the URL of a remote. */
-static int is_url(const char *key)
+/* Takes the URL of a remote, if URLs are sought and the entry has one. */
+static gcv_status take_url(reading *to, const gcv_step *step)
 {
-    size_t length = strlen(key);
-    return length > 11 && memcmp(key, "remote.", 7) == 0 && strcmp(key + length - 4, ".url") == 0;
+    if (to->conditional && !to->refused_file) {
+        to->refused_file = step->file;
+        to->refused_line = step->line;
+    }
+    if (!to->known || !to->known->seeks_urls || !step->value) {
+        return GCV_OK;
+    }
+    if (to->urls_count == to->urls_room) {
+        size_t room = to->urls_room == 0 ? LEAST_LIST : 2 * to->urls_room;
+        gcv_text *urls = room > PTRDIFF_MAX / sizeof *urls ? NULL : realloc(to->urls, room * sizeof *urls);
+        if (!urls) {
+            return GCV_NO_MEMORY;
+        }
+        to->urls = urls;
+        to->urls_room = room;
+    }
+    gcv_text url = {step->value, strlen(step->value)};
+    to->urls[to->urls_count++] = url;
+    return GCV_OK;
 }
 
 /* Takes an entry of a walk, and goes on in the file that it includes. */
 static gcv_status take(reading *to, gcv_step *step)
 {
-    static const char condition[] = "includeif.", asking[] = "includeif.hasconfig:remote.*.url:";
-    to->asks_urls |= strncmp(step->key, asking, sizeof asking - 1) == 0;
+    to->asks_urls |= step->role == GCV_URL_CONDITION;
     to->conditional = to->walk.count <= to->conditional ? 0 : to->conditional;
-    if (to->conditional && !to->refused_file && is_url(step->key)) {
-        to->refused_file = step->file;
-        to->refused_line = step->line;
-    }
     gcv_status status = append(to, step);
+    if (status == GCV_OK && step->role == GCV_REMOTE_URL) {
+        return take_url(to, step);
+    }
     if (status != GCV_OK || step->include == GCV_NO_INCLUDE) {
         return status;
     }
     if (step->include != GCV_OK) {
         return step->include;
     }
-    if (!to->conditional && strncmp(step->key, condition, sizeof condition - 1) == 0) {
+    if (!to->conditional && step->role != GCV_PLAIN) {
         to->conditional = to->walk.count;
     }
     return enter(to, step->included);
@@ -310,7 +328,7 @@ static gcv_status take(reading *to, gcv_step *step)
 /* Reads a file and what it includes. */
 static gcv_status read_file(reading *to, const char *name)
 {
-    gcv_step step = {"", 0, 0, NULL, NULL, NULL, GCV_OK, 0};
+    gcv_step step = {"", 0, 0, NULL, NULL, NULL, GCV_OK, GCV_PLAIN, 0};
     const char *own = kept(to->memory, name);
     to->walk.count = 0;
     to->conditional = 0;
@@ -336,21 +354,6 @@ static gcv_status read_all_files(reading *to, const char *const *names, size_t c
     return status;
 }
 
-/* The URLs of all remotes in the settings from this one on, which have to be freed, or null. */
-static gcv_text *urls_from(const gcv_settings *settings, size_t first, size_t *count)
-{
-    gcv_text *urls = malloc((settings->count - first + 1) * sizeof *urls);
-    *count = 0;
-    for (size_t at = first; urls && at < settings->count; at++) {
-        const gcv_setting *setting = &settings->list[at];
-        if (is_url(setting->key) && setting->value) {
-            urls[*count].bytes = setting->value;
-            urls[(*count)++].length = strlen(setting->value);
-        }
-    }
-    return urls;
-}
-
 /* Reads all files once, or, if conditions ask about URLs, once for those and once with them. */
 static gcv_status read_with_urls(reading *to, const char *const *names, size_t count)
 {
@@ -371,13 +374,11 @@ static gcv_status read_with_urls(reading *to, const char *const *names, size_t c
     if (status != GCV_OK || !to->asks_urls) {
         return status;
     }
-    gcv_text *urls = urls_from(to->settings, before, &asked.urls_length);
-    asked.urls = urls;
+    asked.urls = to->urls;
+    asked.urls_length = to->urls_count;
     asked.seeks_urls = 0;
     forget_from(to->settings, before);
-    status = urls ? read_all_files(to, names, count) : GCV_NO_MEMORY;
-    free(urls);
-    return status;
+    return read_all_files(to, names, count);
 }
 
 gcv_status gcv_read_files(gcv_settings *settings, const char *const *names, size_t count, const gcv_known *known,
@@ -403,6 +404,7 @@ gcv_status gcv_read_files(gcv_settings *settings, const char *const *names, size
         free(to->files[at].text);
         free(to->files[at].real_dir);
     }
+    free(to->urls);
     free(to);
     if (status == GCV_OK) {
         settings->file = NULL;

@@ -14,7 +14,6 @@ Source = namedtuple("Source", "scope shown name directory text is_file", default
 Known = namedtuple("Known", "install_dir home real_home git_dir real_git_dir branch urls")
 
 MISSING = (FileNotFoundError, NotADirectoryError)
-CONDITION = b"includeif.hasconfig:remote.*.url:"
 
 
 def real(name):
@@ -76,41 +75,16 @@ def _walked(sources, known):
     return read, None
 
 
-def _is_remote_url(key):
-    return key.startswith("remote.") and key.endswith(".url") and key != "remote.url"
-
-
-def _urls_in(read):
-    """The URLs of remotes. A file that is included on a condition must have none."""
-    # a walk that is in more files than these is in one that is included on a condition
-    below = None
-    for at, entry in enumerate(read):
-        depth = read._depth(at)
-        below = None if below is None or depth <= below else below
-        if _is_remote_url(entry.key):
-            if below is not None:
-                raise InvalidFile("remote_url", "remote URLs cannot be configured in file directly or indirectly "
-                                                "included by includeIf.hasconfig:remote.*.url", entry.file, entry.line)
-            if entry.text is not None:
-                yield _core.encode(entry.text)
-        if below is None and entry.key.startswith("includeif."):
-            below = depth
-
-
-def _urls(sources, known):
-    read, error = _walked(sources, known._replace(urls=None))
-    found = list(_urls_in(read))
-    if error:
-        raise error
-    return found
-
-
 def entries(sources, known):
     """The entries of these texts, each with the scope of its text. If `known` is given, also those of what they
-    include: conditions about remotes ask all these texts for URLs first."""
+    include: if conditions ask about URLs, these are sought in a walk, and known in another one."""
     read, error = _walked(sources, known)
-    if known and read._have(CONDITION):
-        read, error = _walked(sources, known._replace(urls=_urls(sources, known)))
+    urls, refused = read._urls()
+    if urls is not None and refused:
+        raise InvalidFile("remote_url", "remote URLs cannot be configured in file directly or indirectly "
+                                        "included by includeIf.hasconfig:remote.*.url", refused.file, refused.line)
+    if urls is not None and not error:
+        read, error = _walked(sources, known._replace(urls=urls))
     if error:
         raise error
     read._trim()
@@ -123,4 +97,4 @@ def known_in(repository):
     names = [None, home, home and real(home), None, None, None]
     if repository:
         names[3:] = repository.path, repository.real_path, repository.branch
-    return Known(*(None if name is None else os.fsencode(name) for name in names), [])
+    return Known(*(None if name is None else os.fsencode(name) for name in names), None)

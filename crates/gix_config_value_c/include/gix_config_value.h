@@ -1,21 +1,21 @@
-/* The readers of Git configuration values, for C and C++.
+/* Git's configuration for C and C++: values, paths, files and edits. docs/C.md of the repository lists the calls.
  *
  * A text is a pointer and a length. It may be any bytes, and needs no NUL at its end; if the length is 0, the pointer
- * may be null. Each call reads only the bytes that it is given, writes only what its comment says, and keeps no pointer
+ * may be null. A call reads only the bytes that it is given, writes only what its comment says, and keeps no pointer
  * after it returns, except that gcv_enter keeps some in a walk. There is no global state, so threads may call at the
  * same time, if no memory that one call writes is used by another.
  *
  * What a call writes must not overlap what it reads, or what else it writes. Pointers to what it writes, and to the
  * structs that it reads, must not be null, except for `fault` and `line`, which may always be null, and a buffer of
- * capacity 0. A length or a capacity must be at most PTRDIFF_MAX.
+ * capacity 0. A length or a capacity must be at most PTRDIFF_MAX. A flag is 0 or 1.
  *
  * A call returns GCV_OK, or another gcv_status that says why it failed. Unless its comment says otherwise, a call that
- * failed has written nothing.
+ * failed has written nothing. A number or a struct that no value has is refused, each sort by a status of its own. A
+ * call that allocates says so, and returns GCV_NO_MEMORY if malloc fails; only settings keep memory.
  *
- * A call that writes a text takes a buffer, its capacity, and `size`. If it returns GCV_OK, the text is at the front of
- * the buffer, the bytes after it are unchanged, no NUL is added, and `*size` is the length of the text. If it returns
- * GCV_SHORT_BUFFER, the buffer is unchanged, and `*size` is the capacity that the text needs. After any other status
- * the buffer and `*size` are unchanged. */
+ * A call that writes a text takes a buffer, its capacity, and `size`. After GCV_OK the text is at the front of the
+ * buffer, the bytes after it are unchanged, no NUL is added, and `*size` is its length. After GCV_SHORT_BUFFER the
+ * buffer is unchanged, and `*size` is the capacity that the text needs. After any other status both are unchanged. */
 #ifndef GIX_CONFIG_VALUE_H
 #define GIX_CONFIG_VALUE_H
 
@@ -23,8 +23,7 @@
 #include <stdint.h>
 
 /* The version of this header; gcv_version returns that of the library. Below 1.0 a new minor number may change any
- * call, so the name of the shared library has both numbers. From 1.0 on only a new major number may change a call, and
- * the name has only that number. */
+ * call, and from 1.0 on only a new major one. The name of the shared library has the numbers up to that one. */
 #define GCV_VERSION "0.2.0"
 #define GCV_VERSION_MAJOR 0
 #define GCV_VERSION_MINOR 2
@@ -38,41 +37,39 @@ extern "C" {
 #ifdef __GNUC__
 #define GCV_NONNULL(positions) __attribute__((nonnull positions))
 #define GCV_CHECKED __attribute__((warn_unused_result))
-#define GCV_RESTRICT __restrict
+#define GCV_TO __restrict
 #else
 #define GCV_NONNULL(positions)
 #define GCV_CHECKED
-#define GCV_RESTRICT
+#define GCV_TO
 #endif
-#define GCV_RETURNS(positions) GCV_CHECKED GCV_NONNULL(positions) gcv_status
+#define GCV_CALL(positions) GCV_CHECKED GCV_NONNULL(positions) gcv_status
 
 /* An enum has a type of its own, of 32 bits, so that a compiler can tell a status from a fault. */
-#if defined(__cplusplus) && __cplusplus >= 201103L
+#if defined __cplusplus ? __cplusplus >= 201103L : defined __STDC_VERSION__ && __STDC_VERSION__ >= 202311L
 #define GCV_ENUM(name) enum name : uint32_t
 #else
 #define GCV_ENUM(name) enum name
 #endif
 
-/* The statuses that calls return. */
+/* What calls return. */
 typedef GCV_ENUM(gcv_status) {
     GCV_OK = 0,
     GCV_REFUSED = 1,        /* a text has no value or means no path (see the fault), or a file is not read */
     GCV_OVERFLOW = 2,       /* the product of an integer does not fit int64_t */
     GCV_NO_TEXT = 3,        /* one of the colors has no text */
     GCV_TOO_MANY_NAMES = 4, /* the two colors have more than two names together */
-    GCV_ABSENT = 5,         /* no entry has the key, no section the name, no entry is left, or no file is there */
-    /* a number or a struct is not that of a kind, of a fault, of a suffix, of a name, of a flag, which is 0 or 1, of a
-     * walk, or of a depth with colors; 11 is no status */
+    GCV_ABSENT = 5,         /* no entry with the key, no section with the name, no more entry, or no file */
+    /* what a call is given is no kind, fault, suffix, name (also of a color), flag, walk, or depth with colors */
     GCV_UNKNOWN_KIND = 6, GCV_UNKNOWN_FAULT = 7, GCV_BAD_SUFFIX = 8, GCV_BAD_NAME = 9, GCV_BAD_FLAG = 10,
     GCV_BAD_LENGTHS = 12, GCV_BAD_DEPTH = 21,
     GCV_SHORT_BUFFER = 13,  /* the buffer is shorter than the text */
-    GCV_NO_MEMORY = 14,     /* malloc failed, or a path would be longer than memory can be */
+    GCV_NO_MEMORY = 14,     /* malloc failed, or a path would be longer than PTRDIFF_MAX */
     GCV_BAD_LINE = 15,      /* a line of a file is invalid */
     GCV_NUL = 16,           /* a file has a NUL outside a comment, or a setting of a command has one */
-    GCV_NO_INCLUDE = 17,    /* the entry includes no file */
-    GCV_NO_VALUE = 18,      /* the entry includes a file, but has no value */
-    GCV_NO_DIRECTORY = 19,  /* the path of an include begins with a user's name, or a directory that is null */
-    GCV_TOO_DEEP = 20,      /* the file is more than ten includes deep */
+    /* the entry includes no file, or a file but has no value, or one whose path begins with a user's name or with a
+     * directory that is null; the file is more than ten includes deep */
+    GCV_NO_INCLUDE = 17, GCV_NO_VALUE = 18, GCV_NO_DIRECTORY = 19, GCV_TOO_DEEP = 20,
     /* GIT_CONFIG_COUNT is no number, or larger than 2147483647; a GIT_CONFIG_KEY_n or a GIT_CONFIG_VALUE_n is not set;
      * GIT_CONFIG_PARAMETERS has something else than quoted texts, = and white space, or a text that is empty or begins
      * with =; the key of a setting of a command is empty */
@@ -80,169 +77,122 @@ typedef GCV_ENUM(gcv_status) {
     GCV_BAD_PARAMETERS = 26, GCV_NO_KEY = 27, GCV_EMPTY_KEY = 28,
     /* a key has no section, ends with a dot, has a byte that is not allowed there, or has a line feed */
     GCV_NO_SECTION = 29, GCV_NO_KEY_NAME = 30, GCV_BAD_KEY = 31, GCV_KEY_LINE_FEED = 32,
-    GCV_BAD_VALUE = 33,     /* the value has a NUL, which no file can hold */
-    GCV_BAD_SECTION = 34,   /* no header can have the section */
-    GCV_SEVERAL = 35        /* several entries have the key */
+    /* the value has a NUL, which no file can hold; no header can have the section; several entries have the key */
+    GCV_BAD_VALUE = 33, GCV_BAD_SECTION = 34, GCV_SEVERAL = 35
 } gcv_status;
 
-/* The kinds of values. */
+/* The kinds of values: k, m and g; a number with at most one suffix; the product of both; a truth value; the name of a
+ * color; the word of an attribute; names of a foreground and a background, and attributes. */
 typedef GCV_ENUM(gcv_kind) {
-    GCV_SUFFIX = 1,    /* k, m, g */
-    GCV_INTEGER = 2,   /* numbers with at most one suffix */
-    GCV_AMOUNT = 3,    /* numbers whose product with their suffix fits int64_t */
-    GCV_BOOLEAN = 4,   /* truth values, as words or as numbers */
-    GCV_NAME = 5,      /* names of colors */
-    GCV_ATTRIBUTE = 6, /* words of attributes, one at a time */
-    GCV_COLOR = 7      /* names of a foreground and a background, and attributes */
+    GCV_SUFFIX = 1, GCV_INTEGER = 2, GCV_AMOUNT = 3, GCV_BOOLEAN = 4, GCV_NAME = 5, GCV_ATTRIBUTE = 6,
+    GCV_COLOR = 7
 } gcv_kind;
 
-/* The reasons why a text or a path is refused. */
+/* Why a text or a path is refused, which gcv_fault_text says in words: GCV_FAULT_NONE is for a suffix. A path is empty,
+ * needs a directory or a passwd text that is null, names an unknown user, or has a part that is not UTF-8. */
 typedef GCV_ENUM(gcv_fault) {
-    GCV_FAULT_NONE = 0, /* for a refused suffix, which has no fault of its own */
-    GCV_FAULT_BOOLEAN = 1, GCV_FAULT_INTEGER = 2, GCV_FAULT_OVERFLOW = 3, GCV_FAULT_OUT_OF_RANGE = 4,
-    GCV_FAULT_COLOR = 5, GCV_FAULT_PATH_MISSING = 6, GCV_FAULT_INSTALL_DIR_MISSING = 7, GCV_FAULT_HOME_MISSING = 8,
-    GCV_FAULT_LOOKUP_MISSING = 9, GCV_FAULT_USER_NOT_FOUND = 10, GCV_FAULT_ILL_FORMED_PAST_PREFIX = 11,
-    GCV_FAULT_ILL_FORMED_PAST_HOME = 12, GCV_FAULT_ILL_FORMED_USERNAME = 13, GCV_FAULT_ILL_FORMED_PAST_USER = 14,
-    GCV_FAULT_ILL_FORMED_PATH = 15
+    GCV_FAULT_NONE = 0, GCV_FAULT_BOOLEAN = 1, GCV_FAULT_INTEGER = 2, GCV_FAULT_OVERFLOW = 3,
+    GCV_FAULT_OUT_OF_RANGE = 4, GCV_FAULT_COLOR = 5, GCV_FAULT_PATH_MISSING = 6,
+    GCV_FAULT_INSTALL_DIR_MISSING = 7, GCV_FAULT_HOME_MISSING = 8, GCV_FAULT_LOOKUP_MISSING = 9,
+    GCV_FAULT_USER_NOT_FOUND = 10, GCV_FAULT_ILL_FORMED_PAST_PREFIX = 11, GCV_FAULT_ILL_FORMED_PAST_HOME = 12,
+    GCV_FAULT_ILL_FORMED_USERNAME = 13, GCV_FAULT_ILL_FORMED_PAST_USER = 14, GCV_FAULT_ILL_FORMED_PATH = 15
 } gcv_fault;
 
-/* The suffix of an integer. */
-typedef GCV_ENUM(gcv_suffix) {
-    GCV_NO_SUFFIX = 0,
-    GCV_KIBI = 1, /* k, 1024 */
-    GCV_MEBI = 2, /* m, 1024 * 1024 */
-    GCV_GIBI = 3  /* g, 1024 * 1024 * 1024 */
-} gcv_suffix;
+/* The suffix of an integer: none, k for 1024, m for 1024 * 1024, or g for 1024 * 1024 * 1024. */
+typedef GCV_ENUM(gcv_suffix) { GCV_NO_SUFFIX = 0, GCV_KIBI = 1, GCV_MEBI = 2, GCV_GIBI = 3 } gcv_suffix;
 
-/* How many colors a terminal has. */
+/* How many colors a terminal has, or GCV_NO_COLORS if a program writes without colors. */
 typedef GCV_ENUM(gcv_depth) {
-    GCV_NO_COLORS = 0, /* a program writes without colors */
-    GCV_ANSI16 = 16,
-    GCV_ANSI256 = 256,
-    GCV_TRUE_COLOR = 16777216
+    GCV_NO_COLORS = 0, GCV_ANSI16 = 16, GCV_ANSI256 = 256, GCV_TRUE_COLOR = 16777216
 } gcv_depth;
 
-/* The tag of a name. */
+/* The tag of a name: GCV_NO_NAME in a color without this name, GCV_ANSI for the number `palette` of the terminal's
+ * palette, GCV_RGB for `red`, `green` and `blue`. */
 typedef GCV_ENUM(gcv_tag) {
-    GCV_NO_NAME = 0, /* in a color without this name */
-    GCV_NORMAL = 1, GCV_DEFAULT = 2, GCV_BLACK = 3, GCV_BRIGHT_BLACK = 4, GCV_RED = 5, GCV_BRIGHT_RED = 6,
-    GCV_GREEN = 7, GCV_BRIGHT_GREEN = 8, GCV_YELLOW = 9, GCV_BRIGHT_YELLOW = 10, GCV_BLUE = 11, GCV_BRIGHT_BLUE = 12,
-    GCV_MAGENTA = 13, GCV_BRIGHT_MAGENTA = 14, GCV_CYAN = 15, GCV_BRIGHT_CYAN = 16, GCV_WHITE = 17,
-    GCV_BRIGHT_WHITE = 18,
-    GCV_ANSI = 19, /* the number `palette` of the terminal's palette */
-    GCV_RGB = 20   /* `red`, `green` and `blue` */
+    GCV_NO_NAME = 0, GCV_NORMAL = 1, GCV_DEFAULT = 2, GCV_BLACK = 3, GCV_BRIGHT_BLACK = 4, GCV_RED = 5,
+    GCV_BRIGHT_RED = 6, GCV_GREEN = 7, GCV_BRIGHT_GREEN = 8, GCV_YELLOW = 9, GCV_BRIGHT_YELLOW = 10,
+    GCV_BLUE = 11, GCV_BRIGHT_BLUE = 12, GCV_MAGENTA = 13, GCV_BRIGHT_MAGENTA = 14, GCV_CYAN = 15,
+    GCV_BRIGHT_CYAN = 16, GCV_WHITE = 17, GCV_BRIGHT_WHITE = 18, GCV_ANSI = 19, GCV_RGB = 20
 } gcv_tag;
 
-/* The bits of attributes. */
-#define GCV_BOLD 0x00000002u
-#define GCV_DIM 0x00000004u
-#define GCV_ITALIC 0x00000008u
-#define GCV_UL 0x00000010u
-#define GCV_BLINK 0x00000020u
-#define GCV_REVERSE 0x00000040u
-#define GCV_STRIKE 0x00000080u
-#define GCV_RESET 0x00000100u
-#define GCV_NO_DIM 0x00200000u
-#define GCV_NO_BOLD 0x00400000u
-#define GCV_NO_ITALIC 0x00800000u
-#define GCV_NO_UL 0x01000000u
-#define GCV_NO_BLINK 0x02000000u
-#define GCV_NO_REVERSE 0x04000000u
-#define GCV_NO_STRIKE 0x08000000u
+/* The bits of attributes, of which a color has any number. */
+typedef GCV_ENUM(gcv_attribute) {
+    GCV_BOLD = 0x2, GCV_DIM = 0x4, GCV_ITALIC = 0x8, GCV_UL = 0x10, GCV_BLINK = 0x20, GCV_REVERSE = 0x40,
+    GCV_STRIKE = 0x80, GCV_RESET = 0x100, GCV_NO_DIM = 0x200000, GCV_NO_BOLD = 0x400000,
+    GCV_NO_ITALIC = 0x800000, GCV_NO_UL = 0x1000000, GCV_NO_BLINK = 0x2000000, GCV_NO_REVERSE = 0x4000000,
+    GCV_NO_STRIKE = 0x8000000
+} gcv_attribute;
 
-/* The longest text of a value, canonical or shown: a buffer of this capacity is never too short for one. */
-enum { GCV_LONGEST_TEXT = 127 };
+/* The longest text of a value (canonical or shown) or of a fault; the longest key that gcv_find_setting finds in any
+ * case; and the most files that a walk is in: a file, and ten that are included, each by the one before. */
+enum { GCV_LONGEST_TEXT = 127, GCV_LONGEST_KEY = 4096, GCV_MOST_FRAMES = 11 };
 
-/* A number and its suffix, which are not multiplied. A struct of zeros is the number 0. */
-typedef struct gcv_integer {
-    int64_t value;
-    gcv_suffix suffix;
-} gcv_integer;
-
-/* The name of a color. The members that the tag does not use are 0. */
-typedef struct gcv_name {
-    gcv_tag tag;
-    uint8_t palette;
-    uint8_t red;
-    uint8_t green;
-    uint8_t blue;
-} gcv_name;
-
-/* A color, each of whose names may be GCV_NO_NAME. A struct of zeros is the color of the empty text. */
-typedef struct gcv_color {
-    gcv_name foreground;
-    gcv_name background;
-    uint32_t attributes;
-} gcv_color;
+/* A number and its suffix, which are not multiplied; the name of a color, in which members that the tag does not use
+ * are 0; and a color. Structs of zeros are the number 0, no name, and the color of the empty text. */
+typedef struct gcv_integer { int64_t value; gcv_suffix suffix; } gcv_integer;
+typedef struct gcv_name { gcv_tag tag; uint8_t palette; uint8_t red; uint8_t green; uint8_t blue; } gcv_name;
+typedef struct gcv_color { gcv_name foreground; gcv_name background; uint32_t attributes; } gcv_color;
 
 /* The library is built for 64 bits, and for enums of 32 bits: a compiler that differs reports an error. */
 extern const char gcv_is_for_this_compiler[sizeof(size_t) == 8 && sizeof(gcv_status) == 4 ? 1 : -1];
 
-/* The version of the library, and the text of a status, which is "unknown status" if no status has the number. NUL ends
- * both. */
+/* The version of the library, and the text of a status, which is "unknown status" if no status has the number: both end
+ * with NUL. gcv_fault_text writes the text of a fault. */
 const char *gcv_version(void);
 const char *gcv_status_text(gcv_status status);
-
-/* Writes the text of a fault, at most GCV_LONGEST_TEXT bytes. Returns GCV_UNKNOWN_FAULT if no fault has the number. */
-GCV_NONNULL((4)) gcv_status gcv_fault_text(gcv_fault fault, char *GCV_RESTRICT buffer, size_t capacity, size_t *size);
+GCV_NONNULL((4)) gcv_status gcv_fault_text(gcv_fault fault, char *GCV_TO buffer, size_t capacity,
+                                           size_t *size);
 
 /* Readers. Each writes the value of the text to `*out`. If the text has no value, it writes the fault to `*fault`
- * instead, and returns GCV_REFUSED. The other one is unchanged. What they read, and their faults:
+ * instead, and returns GCV_REFUSED. What they read, and their faults:
  * - suffix: GCV_KIBI, GCV_MEBI or GCV_GIBI; GCV_FAULT_NONE
- * - integer: a number and its suffix, whose product need not fit int64_t; GCV_FAULT_INTEGER
+ * - integer: a number and its suffix; GCV_FAULT_INTEGER. gcv_product writes their product to `*out`, or returns
+ *   GCV_OVERFLOW if it does not fit int64_t.
  * - amount: that product; GCV_FAULT_INTEGER, and GCV_FAULT_OVERFLOW if it does not fit int64_t
- * - boolean: 1 for true and 0 for false; GCV_FAULT_BOOLEAN
+ * - boolean: a flag; GCV_FAULT_BOOLEAN
  * - name, whose tag is not GCV_NO_NAME, attribute, which is one bit, and color: GCV_FAULT_COLOR */
-GCV_RETURNS((3)) gcv_read_suffix(const char *text, size_t length, gcv_suffix *GCV_RESTRICT out, gcv_fault *fault);
-GCV_RETURNS((3)) gcv_read_integer(const char *text, size_t length, gcv_integer *GCV_RESTRICT out, gcv_fault *fault);
-GCV_RETURNS((3)) gcv_read_amount(const char *text, size_t length, int64_t *GCV_RESTRICT out, gcv_fault *fault);
-GCV_RETURNS((3)) gcv_read_boolean(const char *text, size_t length, uint32_t *GCV_RESTRICT out, gcv_fault *fault);
-GCV_RETURNS((3)) gcv_read_name(const char *text, size_t length, gcv_name *GCV_RESTRICT out, gcv_fault *fault);
-GCV_RETURNS((3)) gcv_read_attribute(const char *text, size_t length, uint32_t *GCV_RESTRICT out, gcv_fault *fault);
-GCV_RETURNS((3)) gcv_read_color(const char *text, size_t length, gcv_color *GCV_RESTRICT out, gcv_fault *fault);
+GCV_CALL((3)) gcv_read_suffix(const char *text, size_t length, gcv_suffix *GCV_TO out, gcv_fault *fault);
+GCV_CALL((3)) gcv_read_integer(const char *text, size_t length, gcv_integer *GCV_TO out, gcv_fault *fault);
+GCV_CALL((3)) gcv_read_amount(const char *text, size_t length, int64_t *GCV_TO out, gcv_fault *fault);
+GCV_CALL((3)) gcv_read_boolean(const char *text, size_t length, uint32_t *GCV_TO out, gcv_fault *fault);
+GCV_CALL((3)) gcv_read_name(const char *text, size_t length, gcv_name *GCV_TO out, gcv_fault *fault);
+GCV_CALL((3)) gcv_read_attribute(const char *text, size_t length, uint32_t *GCV_TO out, gcv_fault *fault);
+GCV_CALL((3)) gcv_read_color(const char *text, size_t length, gcv_color *GCV_TO out, gcv_fault *fault);
+GCV_CALL((1, 2)) gcv_product(const gcv_integer *value, int64_t *GCV_TO out);
 
 /* Readers of texts that end with NUL, as a callback over a configuration gets them. A null text means a key without
  * `=`: it is true as a boolean, and refused as anything else. Values and faults are those of gcv_read_boolean,
  * gcv_read_amount and gcv_read_color; the fault is GCV_FAULT_OUT_OF_RANGE if an amount does not fit int32_t. */
-GCV_RETURNS((2)) gcv_parse_bool(const char *text, int *GCV_RESTRICT out, gcv_fault *fault);
-GCV_RETURNS((2)) gcv_parse_int32(const char *text, int32_t *GCV_RESTRICT out, gcv_fault *fault);
-GCV_RETURNS((2)) gcv_parse_int64(const char *text, int64_t *GCV_RESTRICT out, gcv_fault *fault);
-GCV_RETURNS((2)) gcv_parse_color(const char *text, gcv_color *GCV_RESTRICT out, gcv_fault *fault);
+GCV_CALL((2)) gcv_parse_bool(const char *text, int *GCV_TO out, gcv_fault *fault);
+GCV_CALL((2)) gcv_parse_int32(const char *text, int32_t *GCV_TO out, gcv_fault *fault);
+GCV_CALL((2)) gcv_parse_int64(const char *text, int64_t *GCV_TO out, gcv_fault *fault);
+GCV_CALL((2)) gcv_parse_color(const char *text, gcv_color *GCV_TO out, gcv_fault *fault);
 
-/* Writes the number times the factor of its suffix to `*out`. Returns GCV_OVERFLOW if the product does not fit int64_t,
- * and GCV_BAD_SUFFIX if no suffix has the number. */
-GCV_RETURNS((1, 2)) gcv_product(const gcv_integer *value, int64_t *GCV_RESTRICT out);
-
-/* Values as texts. If some text reads to the value, the canonical text is written. Also:
- * - suffix: k, m or g; integer: the number in decimal, and the letter of its suffix. They return GCV_BAD_SUFFIX if no
- *   suffix has the number.
- * - amount: the number in decimal
- * - boolean: true for 1 and false for 0. It returns GCV_BAD_FLAG if the value is neither.
- * - name: its word, its number, or # and six digits. It returns GCV_BAD_NAME if no name has the struct.
+/* Values as texts: the canonical text, if some text reads to the value.
+ * - suffix: k, m or g; integer: the number in decimal, and the letter of its suffix; amount: the number in decimal
+ * - boolean: true or false; name: its word, its number, or # and six digits
  * - attribute: the words of the known bits, the lowest first, with one space between
  * - color: its foreground, its background and its attributes, if it has them, with one space between. Two sorts of
- *   colors have no text, and gcv_compose returns GCV_NO_TEXT for them: a background alone is shown as a foreground, and
- *   unknown bits are left out.
+ *   colors have no text, and gcv_compose refuses them: a background alone is shown as a foreground, and unknown bits
+ *   are left out.
  * - gcv_escape_color: the escape sequence that Git sends to a terminal for a color: its attributes, reset first, then
- *   its foreground and its background. It is empty for a color that changes nothing. `\033[m` ends a color.
- * Each call with a color returns GCV_BAD_NAME if the struct of one of its names is neither all 0 nor of a name. */
-GCV_RETURNS((4)) gcv_show_suffix(gcv_suffix suffix, char *GCV_RESTRICT buffer, size_t capacity, size_t *size);
-GCV_RETURNS((1, 4)) gcv_show_integer(const gcv_integer *value, char *GCV_RESTRICT buffer, size_t capacity,
-                                     size_t *size);
-GCV_RETURNS((4)) gcv_show_amount(int64_t value, char *GCV_RESTRICT buffer, size_t capacity, size_t *size);
-GCV_RETURNS((4)) gcv_show_boolean(uint32_t value, char *GCV_RESTRICT buffer, size_t capacity, size_t *size);
-GCV_RETURNS((1, 4)) gcv_show_name(const gcv_name *value, char *GCV_RESTRICT buffer, size_t capacity, size_t *size);
-GCV_RETURNS((4)) gcv_show_attribute(uint32_t bits, char *GCV_RESTRICT buffer, size_t capacity, size_t *size);
-GCV_RETURNS((1, 4)) gcv_show_color(const gcv_color *value, char *GCV_RESTRICT buffer, size_t capacity, size_t *size);
-GCV_RETURNS((1, 4)) gcv_escape_color(const gcv_color *value, char *GCV_RESTRICT buffer, size_t capacity, size_t *size);
+ *   its foreground and its background. It is empty for a color that changes nothing. `\033[m` ends a color. */
+GCV_CALL((4)) gcv_show_suffix(gcv_suffix suffix, char *GCV_TO buffer, size_t capacity, size_t *size);
+GCV_CALL((1, 4)) gcv_show_integer(const gcv_integer *value, char *GCV_TO buffer, size_t capacity,
+                                  size_t *size);
+GCV_CALL((4)) gcv_show_amount(int64_t value, char *GCV_TO buffer, size_t capacity, size_t *size);
+GCV_CALL((4)) gcv_show_boolean(uint32_t value, char *GCV_TO buffer, size_t capacity, size_t *size);
+GCV_CALL((1, 4)) gcv_show_name(const gcv_name *value, char *GCV_TO buffer, size_t capacity, size_t *size);
+GCV_CALL((4)) gcv_show_attribute(uint32_t bits, char *GCV_TO buffer, size_t capacity, size_t *size);
+GCV_CALL((1, 4)) gcv_show_color(const gcv_color *value, char *GCV_TO buffer, size_t capacity, size_t *size);
+GCV_CALL((1, 4)) gcv_escape_color(const gcv_color *value, char *GCV_TO buffer, size_t capacity, size_t *size);
 
-/* Texts of a kind. gcv_normalize writes the canonical text of the value of a text, at most GCV_LONGEST_TEXT bytes.
- * gcv_same writes 1 to `*out` if both texts mean the same, and otherwise 0. They return GCV_REFUSED if a text has no
- * value of the kind (its reader tells the fault), and GCV_UNKNOWN_KIND if no kind has the number. */
-GCV_RETURNS((6)) gcv_normalize(gcv_kind kind, const char *text, size_t length, char *GCV_RESTRICT buffer,
-                               size_t capacity, size_t *size);
-GCV_RETURNS((6)) gcv_same(gcv_kind kind, const char *first, size_t first_length, const char *second,
-                          size_t second_length, uint32_t *GCV_RESTRICT out);
+/* Texts of a kind. gcv_normalize writes the canonical text of the value of a text. gcv_same writes to `*out` whether
+ * both texts mean the same. They return GCV_REFUSED if a text has no value of the kind; its reader tells the fault. */
+GCV_CALL((6)) gcv_normalize(gcv_kind kind, const char *text, size_t length, char *GCV_TO buffer,
+                            size_t capacity, size_t *size);
+GCV_CALL((6)) gcv_same(gcv_kind kind, const char *first, size_t first_length, const char *second,
+                       size_t second_length, uint32_t *GCV_TO out);
 
 /* Colors. Each call writes one to `*out`:
  * - gcv_compose: that of the text of the first color, white space, and the text of the second. It returns GCV_NO_TEXT
@@ -250,17 +200,15 @@ GCV_RETURNS((6)) gcv_same(gcv_kind kind, const char *first, size_t first_length,
  * - gcv_over: `base`, but with the names that `top` has, and without each attribute whose opposite `top` has: what a
  *   user's color makes of a theme's
  * - gcv_reduce_color: what a terminal of this depth shows for a color. Red, green and blue become the nearest number of
- *   its palette, and with 16 colors so does a number above 15. It returns GCV_BAD_DEPTH if the depth has no colors. */
-GCV_RETURNS((1, 2, 3)) gcv_compose(const gcv_color *first, const gcv_color *second, gcv_color *GCV_RESTRICT out);
-GCV_RETURNS((1, 2, 3)) gcv_over(const gcv_color *base, const gcv_color *top, gcv_color *GCV_RESTRICT out);
-GCV_RETURNS((1, 3)) gcv_reduce_color(const gcv_color *value, gcv_depth depth, gcv_color *GCV_RESTRICT out);
+ *   its palette, and with 16 colors so does a number above 15. */
+GCV_CALL((1, 2, 3)) gcv_compose(const gcv_color *first, const gcv_color *second, gcv_color *GCV_TO out);
+GCV_CALL((1, 2, 3)) gcv_over(const gcv_color *base, const gcv_color *top, gcv_color *GCV_TO out);
+GCV_CALL((1, 3)) gcv_reduce_color(const gcv_color *value, gcv_depth depth, gcv_color *GCV_TO out);
 
-/* Returns how many colors a program writes with, from whether its output is a terminal and from the variables NO_COLOR,
- * TERM and COLORTERM of its environment, each null if it is not set. These decide, the first that applies:
- * - no terminal, NO_COLOR that is not empty, or TERM that is not set or `dumb`: GCV_NO_COLORS
- * - COLORTERM `truecolor` or `24bit`, or TERM that ends in `-direct`: GCV_TRUE_COLOR
- * - TERM with `256color` in it: GCV_ANSI256
- * - any other terminal: GCV_ANSI16 */
+/* Returns how many colors a program writes with, by whether its output is a terminal and by the variables NO_COLOR,
+ * TERM and COLORTERM, each null if it is not set. It is GCV_NO_COLORS without a terminal, if NO_COLOR is not empty, or
+ * if TERM is not set or `dumb`. Otherwise it is GCV_TRUE_COLOR if COLORTERM is `truecolor` or `24bit`, or TERM ends in
+ * `-direct`; then GCV_ANSI256 if TERM has `256color` in it, and else GCV_ANSI16. */
 gcv_depth gcv_terminal_depth(int is_terminal, const char *no_color, const char *term, const char *colorterm);
 
 /* What a path may refer to, as any bytes. A null pointer means that it is not given, whatever its length. */
@@ -270,213 +218,165 @@ typedef struct gcv_context {
     const char *passwd; size_t passwd_length; /* for ~user: a text with the lines of /etc/passwd */
 } gcv_context;
 
-/* Writes 1 to `*optional` if the path begins with the mark `:(optional)`, and otherwise 0. Writes to `*start` the index
- * at which the path begins after that one mark. */
-GCV_NONNULL((3, 4)) void gcv_cut_mark(const char *text, size_t length, uint32_t *optional, size_t *start);
-
 /* Finds a user, whose name is UTF-8 and need not end with NUL. Returns the home directory, which ends with NUL and must
- * stay valid until the path call returns, or null if there is no such user. */
+ * stay valid until the path call returns, or null if there is no such user. gcv_find_user is one over the users of this
+ * system: its state is the address of a gcv_user, the memory for one user. Each thread needs its own. */
 typedef const char *gcv_find_home(void *state, const char *name, size_t length);
-
-/* A gcv_find_home over the users of this system, whose state is the address of a gcv_user: the memory for one user.
- * Each thread needs its own. */
-typedef struct gcv_user {
-    char name[256];
-    char texts[16384];
-} gcv_user;
+typedef struct gcv_user { char name[256]; char texts[16384]; } gcv_user;
 const char *gcv_find_user(void *state, const char *name, size_t length);
 
-/* Writes the path that a text means. One mark is cut off first. %(prefix)/ means the install directory, ~ the home
- * directory, and ~user the home directory of that user. gcv_interpolate finds users in the passwd text, and
- * gcv_interpolate_with by `find(state, ..)`, which is called once for ~user, and for no other path. It does not read
- * the passwd text, and a null `find` is like a null text.
+/* Paths. gcv_cut_mark writes to `*optional` whether one begins with the mark `:(optional)`, and to `*start` the index
+ * at which it begins after that one mark. The other calls cut off one mark, and write the path that the text means.
+ * %(prefix)/ means the install directory, ~ the home directory, and ~user the home directory of that user.
+ * gcv_interpolate finds users in the passwd text, and gcv_interpolate_with by `find(state, ..)` instead, which is
+ * called once for ~user, and for no other path. A null `find` is like a null text.
  *
- * Returns GCV_REFUSED if the text means no path, and then `*fault` is one of the faults of paths; after any other
- * status it is unchanged. What follows the directory must be UTF-8, and so must a user's name. The directories and the
- * passwd text may be any bytes, and so the written path may be any bytes too. Returns GCV_NO_MEMORY if the path would
- * be longer than PTRDIFF_MAX. gcv_interpolate allocates nothing. For a path of a user gcv_interpolate_with allocates
- * and frees memory, and returns GCV_NO_MEMORY if malloc fails. */
-GCV_RETURNS((3, 6)) gcv_interpolate(const char *text, size_t length, const gcv_context *context,
-                                    char *GCV_RESTRICT buffer, size_t capacity, size_t *size, gcv_fault *fault);
-GCV_RETURNS((3, 8)) gcv_interpolate_with(const char *text, size_t length, const gcv_context *context,
-                                         gcv_find_home *find, void *state, char *GCV_RESTRICT buffer, size_t capacity,
-                                         size_t *size, gcv_fault *fault);
+ * They return GCV_REFUSED if the text means no path, and then `*fault` is one of the faults of paths; after any other
+ * status it is unchanged. A user's name, and what follows the directory, must be UTF-8. The directories may be any
+ * bytes, and so may the path. GCV_NO_MEMORY means that it is too long. For ~user gcv_interpolate_with allocates. */
+GCV_NONNULL((3, 4)) void gcv_cut_mark(const char *text, size_t length, uint32_t *optional, size_t *start);
+GCV_CALL((3, 6)) gcv_interpolate(const char *text, size_t length, const gcv_context *context,
+                                 char *GCV_TO buffer, size_t capacity, size_t *size, gcv_fault *fault);
+GCV_CALL((3, 8)) gcv_interpolate_with(const char *text, size_t length, const gcv_context *context,
+                                      gcv_find_home *find, void *state, char *GCV_TO buffer,
+                                      size_t capacity, size_t *size, gcv_fault *fault);
 
-/* The bytes of a text, for an array of texts. The pointer is not null, even if the length is 0. */
-typedef struct gcv_text {
-    const char *bytes;
-    size_t length;
-} gcv_text;
-
-/* What includes may refer to, as any bytes. A null pointer means that it is not given, whatever its length. */
+/* What includes may refer to. A null pointer means that it is not given, but that of a gcv_text must not be null. */
+typedef struct gcv_text { const char *bytes; size_t length; } gcv_text;
 typedef struct gcv_known {
-    const char *install_dir; size_t install_dir_length; /* for %(prefix)/ */
-    const char *home; size_t home_length; /* for ~ */
-    const char *real_home; size_t real_home_length; /* the same with links resolved, for conditions; if null, `home` */
+    const char *install_dir; size_t install_dir_length; const char *home; size_t home_length;
+    const char *real_home; size_t real_home_length; /* with links resolved, for conditions; if null, `home` */
     const char *git_dir; size_t git_dir_length; /* its absolute path, links kept; null without a repository */
-    const char *real_git_dir; size_t real_git_dir_length; /* the same with links resolved; if null, `git_dir` */
-    const char *branch; size_t branch_length; /* without refs/heads/; null if HEAD is detached or .invalid (reftable) */
-    const gcv_text *urls; /* the URLs of all remotes, for hasconfig:; null if there is none */
-    size_t urls_length;   /* how many there are */
-    int seeks_urls;       /* not 0 while URLs are sought: then each hasconfig:remote.*.url: holds */
+    const char *real_git_dir; size_t real_git_dir_length; /* with links resolved; if null, `git_dir` */
+    const char *branch; size_t branch_length; /* without refs/heads/; null if HEAD is detached or .invalid */
+    const gcv_text *urls; size_t urls_length; /* those of all remotes, for hasconfig:remote.*.url: */
+    int seeks_urls; /* not 0 while URLs are sought: then each such condition holds */
 } gcv_known;
 
-/* A setting. NUL ends its texts. Its key is as Git lists it: the section and the last part in lower case, the
+/* A setting, whose texts end with NUL. Its key is as Git lists it: the section and the last part in lower case, the
  * subsection as it is. A key without `=` has a null value, not an empty one. */
 typedef struct gcv_setting {
-    const char *key;
-    const char *value;
-    const char *file; /* the name of its file */
-    size_t line;      /* the line of its entry, from 1 */
-    size_t source;    /* the index in `names` of gcv_read_files of its file, or of the one that includes it */
+    const char *key; const char *value;
+    const char *file; size_t line; /* the name of its file, and the line of its entry, from 1 */
+    size_t source; /* the index in `names` of gcv_read_files of its file, or of the one that includes it */
 } gcv_setting;
 
 /* The settings of files, in Git's order. Begin with GCV_NO_SETTINGS, and end with gcv_free_settings. */
 typedef struct gcv_settings {
-    const gcv_setting *list; /* the settings, until the next call that reads files */
-    size_t count;            /* how many there are */
-    const char *file;        /* the name of the file at which a call stopped, or null */
-    size_t line;             /* and the line of the entry there, or 0 if the file itself is not read */
+    const gcv_setting *list; size_t count; /* valid until the next call that reads files */
+    const char *file; size_t line; /* where a call stopped, or null; line 0 if the file itself is not read */
     struct gcv_memory *memory;
 } gcv_settings;
 #define GCV_NO_SETTINGS {NULL, 0, NULL, 0, NULL}
 
-/* A file that was opened, with memory of malloc, which the library frees. */
-typedef struct gcv_file {
-    char *text;
-    size_t length;
-    char *real_dir; /* its folder as an absolute path without links, which NUL ends, for conditions with ./, or null */
-} gcv_file;
-
-/* Opens a file, whose name ends with NUL. Returns GCV_OK, GCV_ABSENT if it is not there, or why to stop. gcv_open_file
- * opens those of the system, and needs no state. It returns GCV_REFUSED for a file that cannot be read, or that is
- * longer than 1 GiB. */
+/* Opens a file, whose name ends with NUL. Writes its text, and its directory for conditions with ./: an absolute path,
+ * links resolved and no / at its end, which ends with NUL, or null. Both have memory of malloc, which gcv_read_files
+ * frees. Returns GCV_OK, GCV_ABSENT if the file is not there, or why to stop. gcv_open_file opens those of the system,
+ * and needs no state. It returns GCV_REFUSED for a file that cannot be read, or that is longer than 1 GiB. */
+typedef struct gcv_file { char *text; size_t length; char *real_dir; } gcv_file;
 typedef gcv_status gcv_open(void *state, const char *name, gcv_file *out);
-GCV_RETURNS((2, 3)) gcv_open_file(void *state, const char *name, gcv_file *out);
+GCV_CALL((2, 3)) gcv_open_file(void *state, const char *name, gcv_file *out);
 
 /* Adds the settings of these files in order, each with what it includes, as Git reads them. The names end with NUL. A
  * null `known` means that no file is included. A file that is not there has no settings. If conditions ask about the
- * URLs of remotes and `known` has none, the files are read twice, first for the URLs.
- *
- * The call stops where Git stops, and adds nothing then: at GCV_BAD_LINE and GCV_NUL; at an include with GCV_NO_VALUE,
+ * URLs of remotes and `known` has none, the files are read twice, first for the URLs. It allocates. The call stops
+ * where Git stops, and adds nothing then: at GCV_BAD_LINE and GCV_NUL; at an include with GCV_NO_VALUE,
  * GCV_NO_DIRECTORY or GCV_TOO_DEEP; at a status of `open`; and, if conditions ask about URLs, with GCV_REFUSED at the
- * URL of a remote in a file that is included on a condition. It returns GCV_NO_MEMORY if malloc fails. */
-GCV_RETURNS((1, 2, 5)) gcv_read_files(gcv_settings *settings, const char *const *names, size_t count,
-                                      const gcv_known *known, gcv_open *open, void *state);
-/* Frees the memory of settings, which are GCV_NO_SETTINGS then. */
+ * URL of a remote in a file that is included on a condition. */
+GCV_CALL((1, 2, 5)) gcv_read_files(gcv_settings *settings, const char *const *names, size_t count,
+                                   const gcv_known *known, gcv_open *open, void *state);
+
+/* gcv_find_setting returns the last setting with this key, which decides, or null. The key ends with NUL:
+ * "core.autoCRLF", or "branch.Main.rebase", in which only the case of "Main" counts. One of more than GCV_LONGEST_KEY
+ * bytes must be as Git lists it. gcv_list_key writes a key in this way, whatever bytes it has, or returns
+ * GCV_NO_SECTION if it has no dot. gcv_free_settings frees the memory of settings, which are GCV_NO_SETTINGS then. */
+GCV_NONNULL((1, 2)) const gcv_setting *gcv_find_setting(const gcv_settings *settings, const char *key);
+GCV_CALL((5)) gcv_list_key(const char *key, size_t length, char *GCV_TO buffer, size_t capacity,
+                           size_t *size);
 GCV_NONNULL((1)) void gcv_free_settings(gcv_settings *settings);
 
-/* Returns the last setting with this key, which decides, or null. The key ends with NUL: "core.autoCRLF", or
- * "branch.Main.rebase", in which only the case of "Main" counts. A key of more than GCV_LONGEST_KEY bytes is found if
- * it is as Git lists it. */
-enum { GCV_LONGEST_KEY = 4096 };
-GCV_NONNULL((1, 2)) const gcv_setting *gcv_find_setting(const gcv_settings *settings, const char *key);
-/* Writes a key as Git lists it, whatever bytes it has. Returns GCV_NO_SECTION if it has no dot. */
-GCV_RETURNS((5)) gcv_list_key(const char *key, size_t length, char *GCV_RESTRICT buffer, size_t capacity, size_t *size);
-
-/* A walk over files, one entry at a time: gcv_read_files without memory of the library.
+/* A walk over files, one entry at a time: what gcv_read_files does, but nothing is kept. gcv_enter begins it, and
+ * gcv_next returns one entry after the other, in Git's order. If an entry includes a file, open it and call gcv_enter:
+ * its entries come next. If there is no such file, just go on, as Git does. Git stops at an entry whose `include` is
+ * GCV_NO_VALUE or GCV_NO_DIRECTORY, at GCV_BAD_LINE, GCV_NUL and GCV_TOO_DEEP, and at a file that it cannot read. A
+ * caller may go on all the same.
  *
- * gcv_enter begins a walk, and gcv_next returns one entry after the other, in Git's order. If an entry includes a file,
- * open it and call gcv_enter: its entries come next. If there is no such file, just go on, as Git does. Git stops at an
- * entry whose `include` is GCV_NO_VALUE or GCV_NO_DIRECTORY, at GCV_BAD_LINE, GCV_NUL and GCV_TOO_DEEP, and at a file
- * that it cannot read. A caller may go on all the same. */
-
-/* A file of a walk, and the entries that are left of it. Only calls of the library read and write its members. */
+ * `count` is how many files a walk is in. Start with 0: the frames, which are for the library alone, are read only
+ * after gcv_enter has written them. A copy of a walk goes on from the same place. */
 typedef struct gcv_frame {
-    const char *name; size_t name_length;
-    const char *real_dir; size_t real_dir_length;
-    const char *section; size_t section_length;
-    const char *subsection; size_t subsection_length;
-    const char *rest; size_t rest_length;
-    size_t line;
-    uint32_t parts;
+    const char *name; size_t name_length; const char *real_dir; size_t real_dir_length;
+    const char *section; size_t section_length; const char *subsection; size_t subsection_length;
+    const char *rest; size_t rest_length; size_t line; uint32_t parts;
 } gcv_frame;
+typedef struct gcv_walk { size_t count; gcv_frame frames[GCV_MOST_FRAMES]; } gcv_walk;
 
-/* The most files that a walk is in: a file, and ten that are included, each by the one before. */
-enum { GCV_MOST_FRAMES = 11 };
-
-/* A walk. Start with `count` 0: the other members are read only after gcv_enter has written them. A copy of a walk goes
- * on from the same place. */
-typedef struct gcv_walk {
-    size_t count; /* how many files it is in */
-    gcv_frame frames[GCV_MOST_FRAMES];
-} gcv_walk;
-
-/* A step of a walk: an entry. The key and the value are as in a gcv_setting. */
+/* A step of a walk: an entry. Its role is GCV_REMOTE_URL for remote.NAME.url, and GCV_CONDITION in a section includeIf,
+ * which includes files on a condition, but GCV_URL_CONDITION if that is hasconfig:remote.*.url:. At such an entry Git
+ * first seeks the URLs of all remotes, by a walk over all files with `seeks_urls`: docs/C.md says how. */
+typedef GCV_ENUM(gcv_role) {
+    GCV_PLAIN = 0, GCV_REMOTE_URL = 1, GCV_CONDITION = 2, GCV_URL_CONDITION = 3
+} gcv_role;
 typedef struct gcv_step {
     const char *file; size_t file_length; /* the name that gcv_enter was given for the file */
     size_t line; /* the line of the entry, from 1 */
-    const char *key;
-    const char *value;
-    const char *included; /* the name of the file that the entry includes, or null; NUL ends it */
-    gcv_status include;   /* GCV_OK if there is such a name, and otherwise why not */
-    size_t size;          /* how many bytes of the buffer the three texts take */
+    const char *key; const char *value; /* as in a gcv_setting */
+    const char *included; gcv_status include; /* the name of the file that it includes, or null and why not */
+    gcv_role role; size_t size; /* how many bytes of the buffer the three texts take */
 } gcv_step;
 
 /* Goes on in the text of a file. `file` is its name: relative paths in it are below its directory. `real_dir` is this
  * directory as an absolute path, links resolved and no / at its end, for conditions with ./ alone. The walk keeps the
  * three pointers, so the texts must stay valid and unchanged while it is in the file, which is the last one of `count`.
  * Returns GCV_TOO_DEEP if the walk is in GCV_MOST_FRAMES files already. */
-GCV_RETURNS((1)) gcv_enter(gcv_walk *GCV_RESTRICT walk, const char *file, size_t file_length, const char *real_dir,
-                           size_t real_dir_length, const char *text, size_t length);
+GCV_CALL((1)) gcv_enter(gcv_walk *GCV_TO walk, const char *file, size_t file_length, const char *real_dir,
+                        size_t real_dir_length, const char *text, size_t length);
 
 /* Writes the next entry of the walk to `*out`, and its texts into the buffer: its key, its value if it has one, and the
  * name of the file that it includes if it includes one, each with a NUL. Writes null for a text that is not there.
- *
- * `out->include` is GCV_NO_INCLUDE if the entry includes no file, or if its condition does not hold: without a
- * repository no condition on it does. A null `known` means that no entry includes a file. If there is a condition
- * hasconfig:remote.*.url:, Git walks over all files with `seeks_urls` first, to get the values of all remote.NAME.url.
- * It stops at one in a file that is included on a condition. Otherwise `out->include` is GCV_NO_VALUE if there is no
- * value, and GCV_NO_DIRECTORY if the value begins with `~` and a user's name, or with a directory that is null.
+ * `out->include` is GCV_OK, or GCV_NO_INCLUDE if the entry includes no file, if its condition does not hold, or if
+ * `known` is null; without a repository no condition on it holds. It is GCV_NO_VALUE if there is no value, and
+ * GCV_NO_DIRECTORY if the value begins with `~` and a user's name, or with a directory that is null.
  *
  * Returns GCV_ABSENT after the last entry; then the walk may enter another file. Returns GCV_BAD_LINE if Git would
  * refuse a line, and GCV_NUL at a NUL outside a comment, where Git would cut the text, and writes the file and the line
  * to `*out`. The file ends there: the next call goes on after the entry that included it. After any other status the
- * walk is unchanged. GCV_SHORT_BUFFER means that the texts need a capacity, which is written to `out->size`, and
- * GCV_BAD_LENGTHS that the numbers in the walk are not those of a walk. The call allocates and frees memory, and
- * returns GCV_NO_MEMORY if malloc fails. */
-GCV_RETURNS((1, 5)) gcv_next(gcv_walk *GCV_RESTRICT walk, const gcv_known *known, char *GCV_RESTRICT buffer,
-                             size_t capacity, gcv_step *GCV_RESTRICT out);
+ * walk is unchanged. GCV_SHORT_BUFFER means that the texts need the capacity `out->size`. It allocates. */
+GCV_CALL((1, 5)) gcv_next(gcv_walk *GCV_TO walk, const gcv_known *known, char *GCV_TO buffer,
+                          size_t capacity, gcv_step *GCV_TO out);
 
 /* Writes the settings of a command as the text of a configuration file: those of GIT_CONFIG_COUNT, and those of
  * GIT_CONFIG_PARAMETERS, in which `git -c` hands them on. `get(state, ..)` finds these variables, and GIT_CONFIG_KEY_n
- * and GIT_CONFIG_VALUE_n: it returns a value, which ends with NUL and must stay valid until the call returns, or null.
- * Git reads that text last, and calls the file `command line`. It is in no folder: give a walk the real directory "\0"
- * of length 1, and open none of what it includes unless the name begins with `/`.
- *
- * Returns the status of the first setting that Git refuses: GCV_BAD_COUNT to GCV_KEY_LINE_FEED. It asks for each
- * variable twice, allocates and frees memory, and returns GCV_NO_MEMORY if malloc fails: then bytes may be written. */
+ * and GIT_CONFIG_VALUE_n, each twice: it returns a value, which ends with NUL and must stay valid until the call
+ * returns, or null. Git reads that text last, and calls the file `command line`. It is in no folder: give a walk the
+ * real directory "\0" of length 1, and open none of what it includes unless the name begins with `/`. Returns the
+ * status of the first setting that Git refuses: GCV_BAD_COUNT to GCV_KEY_LINE_FEED. It allocates, and GCV_NO_MEMORY may
+ * leave bytes in the buffer. */
 typedef const char *gcv_get_variable(void *state, const char *name);
-GCV_RETURNS((1, 5)) gcv_command_text(gcv_get_variable *get, void *state, char *GCV_RESTRICT buffer, size_t capacity,
-                                     size_t *size);
+GCV_CALL((1, 5)) gcv_command_text(gcv_get_variable *get, void *state, char *GCV_TO buffer, size_t capacity,
+                                  size_t *size);
 
-/* Edits of the text of a configuration file: one setting changes, and each other byte stays. A key and a name of a
- * section are as Git takes them: "user.name", "branch.Main.rebase", "branch.Main". Each call writes the new text.
+/* Edits of the text of a configuration file. Each writes the new text, in which all other bytes stay. `first` is a key,
+ * or the name of a section as in a key ("branch.Main"), and `second` a value, or the new name.
  * - gcv_set sets the one value of a key, as `git config KEY VALUE` does. If an entry has the key, only bytes of its
  *   value change: its indentation, the comment after it and its line end stay. Otherwise a new entry comes after the
- *   last one of its section, or in a new section at the end. If the key has the value already, the new text is the old
- *   one.
+ *   last one of its section, or in a new section at the end.
  * - gcv_replace_all does so also if several entries have the key: the last one gets the value, the others go with their
- *   lines.
- * - gcv_add adds an entry, where gcv_set puts a new one, whatever entries the key has.
- * - gcv_unset takes away the entry of a key, with its line and the comment on it. A header before it on the line stays.
- *   But the header goes too if its section has neither an entry nor a comment left, and no comment comes before it.
- * - gcv_unset_all does so with all entries of a key.
- * - gcv_rename_section gives the sections of a name, `first`, another one, `second`.
- * - gcv_remove_section takes away the sections of a name, with their headers and all that is in them. Comments directly
- *   above the next header stay.
+ *   lines. gcv_add adds an entry, where gcv_set puts a new one, whatever entries the key has.
+ * - gcv_unset removes the one entry of a key, and gcv_unset_all all of them, with their lines and the comments on them.
+ *   A header before an entry on its line stays. But a header goes too if its section has neither an entry nor a comment
+ *   left, and no comment comes before it.
+ * - gcv_rename_section gives all sections of a name another one. gcv_remove_section removes them, with their headers
+ *   and all that is in them, but not comments directly above the next header.
  *
- * Returns GCV_SEVERAL if several entries have the key of gcv_set or gcv_unset, and GCV_ABSENT if there is no entry or
- * no section to take away or to rename. Returns GCV_BAD_VALUE if a value has a NUL; for a key that Git refuses
- * GCV_NO_SECTION, GCV_NO_KEY_NAME, GCV_BAD_KEY or GCV_KEY_LINE_FEED; and GCV_BAD_SECTION if no header can have the new
- * name, or the subsection of the key, which has a NUL then. Returns GCV_BAD_LINE and GCV_NUL as gcv_next does, and then
- * writes the line to `*line`, which otherwise is unchanged. The calls allocate and free memory, and return
- * GCV_NO_MEMORY if malloc fails. */
+ * They return GCV_SEVERAL if several entries have the key of gcv_set or gcv_unset; GCV_ABSENT if there is no entry or
+ * section to remove or rename; GCV_BAD_VALUE if a value has a NUL; GCV_NO_SECTION to GCV_KEY_LINE_FEED for a key that
+ * Git refuses; and GCV_BAD_SECTION if no header can have the new name, or the subsection of the key, which has a NUL
+ * then. At GCV_BAD_LINE and GCV_NUL, as in gcv_next, they also write the line to `*line`. They allocate. */
 typedef gcv_status gcv_edit_by_two(const char *text, size_t length, const char *first, size_t first_length,
-                                   const char *second, size_t second_length, char *GCV_RESTRICT buffer,
+                                   const char *second, size_t second_length, char *GCV_TO buffer,
                                    size_t capacity, size_t *size, size_t *line);
-typedef gcv_status gcv_edit_by_one(const char *text, size_t length, const char *name, size_t name_length,
-                                   char *GCV_RESTRICT buffer, size_t capacity, size_t *size, size_t *line);
+typedef gcv_status gcv_edit_by_one(const char *text, size_t length, const char *first, size_t first_length,
+                                   char *GCV_TO buffer, size_t capacity, size_t *size, size_t *line);
 GCV_CHECKED GCV_NONNULL((9)) gcv_edit_by_two gcv_set, gcv_replace_all, gcv_add, gcv_rename_section;
 GCV_CHECKED GCV_NONNULL((7)) gcv_edit_by_one gcv_unset, gcv_unset_all, gcv_remove_section;
 

@@ -1,5 +1,6 @@
 pub mod AddedLines
 pub mod Edited
+pub mod EntryRoles
 pub mod Frames
 pub mod GivenKnown
 pub mod NameTags

@@ -21,11 +21,13 @@ use Rattle.config_path.specs.declared.interpolate.Place.TheVariants.{PastPrefix,
 use Rattle.config_path.specs.declared.interpolate.Place.TheVariants.{Whole}
 use Rattle.gix_config_value.specs.declared.kind.Kind.{Kind}
 use Rattle.gix_config_value.specs.declared.kind.Kind.TheVariants as kinds
+use Rattle.gix_config_value_c.specs.declared.roles.Role.{Role}
+use Rattle.gix_config_value_c.specs.declared.roles.Role.TheVariants as roles
 use Rattle.gix_config_value_c.specs.declared.status.Status.{Status}
 use Rattle.gix_config_value_c.specs.declared.status.Status.TheVariants as statuses
 use Rattle.gix_config_value_c.specs.Answers.{TellsApart}
 use Rattle.gix_config_value_c.specs.Numbers.{status_number, kind_number, suffix_number, flag_number, fault_number}
-use Rattle.gix_config_value_c.specs.Numbers.{depth_number}
+use Rattle.gix_config_value_c.specs.Numbers.{role_number, depth_number}
 use Rattle.gix_config_value_c.specs.Faults.{place_number, path_fault_number, numbered_text}
 
 -- if each value is found again from what `f` makes of it, then `f` tells values apart
@@ -49,6 +51,15 @@ statuses_apart = told_apart status_number (λ n. slice_get all_statuses n) again
   again : (s : Status) → slice_get all_statuses (status_number s) ≡ Some s
   again statuses.Ok = refl
   again s = refl
+
+abbrev all_roles : List Role
+all_roles = roles.Plain ∷ roles.RemoteUrl ∷ roles.Condition ∷ roles.UrlCondition ∷ []
+
+pub roles_apart : TellsApart role_number
+roles_apart = told_apart role_number (λ n. slice_get all_roles n) again where
+  again : (r : Role) → slice_get all_roles (role_number r) ≡ Some r
+  again roles.Plain = refl
+  again r = refl
 
 abbrev all_kinds : List Kind
 all_kinds =

@@ -10,7 +10,7 @@ abbrev pub HasOneResult : {C : Type 0} → (C → C → ℕ → Type 0) → Type
 HasOneResult {C} call = (out first second : C) (status other : ℕ)
     → call out first status → call out second other → (first ≡ second) × (status ≡ other)
 
--- the same for a call that writes into `out` and `fault`, or into a buffer and its length
+-- as `HasOneResult` says, but of a call that writes into `out` and `fault`, or into a buffer and its length
 abbrev pub HasOneAnswer : {C : Type 0} → (C → C → ℕ → ℕ → ℕ → Type 0) → Type 0
 HasOneAnswer {C} call = (out first second : C) (number one two status other : ℕ)
     → call out first number one status → call out second number two other

@@ -17,7 +17,7 @@ use Rattle.gix_config_value_c.specs.Values.{IsNoValue, LeavesAlone}
 abbrev pub AreColors : GcvColor → GcvColor → Color → Color → Type 0
 AreColors a b first second = (a ≡ color_struct first) × (b ≡ color_struct second)
 
--- the same, and each of the two colors has a text that reads to it
+-- the two structs represent these colors, and each of the colors has a text that reads to it
 pub record AreReadable (a b : GcvColor) (first second : Color) : Type 0 where
   pub colors : AreColors a b first second
   pub first_text : HasText ColorText first

@@ -1,4 +1,4 @@
--- The numbers that represent statuses, kinds, suffixes, depths, truth values and faults in C.
+-- The numbers that represent statuses, roles of entries, kinds, suffixes, depths, truth values and faults in C.
 use Rattle.std.specs.Prelude.{◌≡◌, ◌≢◌, ℕ, Bool, true, false, Option, None, Some}
 use Rattle.config_color.specs.declared.depth.Depth.{Depth}
 use Rattle.config_color.specs.declared.depth.Depth.TheVariants as depths
@@ -8,6 +8,8 @@ use Rattle.config_text.specs.declared.errors.Fault.{Fault}
 use Rattle.config_text.specs.declared.errors.Fault.TheVariants as faults
 use Rattle.gix_config_value.specs.declared.kind.Kind.{Kind}
 use Rattle.gix_config_value.specs.declared.kind.Kind.TheVariants as kinds
+use Rattle.gix_config_value_c.specs.declared.roles.Role.{Role}
+use Rattle.gix_config_value_c.specs.declared.roles.Role.TheVariants as roles
 use Rattle.gix_config_value_c.specs.declared.status.Status.{Status}
 use Rattle.gix_config_value_c.specs.declared.status.Status.TheVariants as statuses
 
@@ -53,6 +55,13 @@ status_number statuses.KeyLineFeed = 32
 status_number statuses.BadValue = 33
 status_number statuses.BadSection = 34
 status_number statuses.Several = 35
+
+-- the number of a role
+abbrev pub role_number : Role → ℕ
+role_number roles.Plain = 0
+role_number roles.RemoteUrl = 1
+role_number roles.Condition = 2
+role_number roles.UrlCondition = 3
 
 -- the number of a kind
 abbrev pub kind_number : Kind → ℕ

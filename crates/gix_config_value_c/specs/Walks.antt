@@ -5,6 +5,7 @@ use Rattle.std.specs.Borrow.{Bor}
 use Rattle.std.specs.List.{AllZip}
 use Rattle.std.specs.Option.{option_map_or}
 use Rattle.config_file.specs.File.{Entry}
+use Rattle.config_file.specs.Listing.{IsListed}
 use Rattle.config_file.specs.Views.{entry_of}
 use Rattle.config_file.specs.Walk.{Content}
 use Rattle.config_file.specs.Reading.Walks.{Enters, Takes}
@@ -24,6 +25,7 @@ use Rattle.config_file.specs.declared.walk.FilePlace.{FilePlace}
 use Rattle.config_file.specs.declared.walk.Step.{Step}
 use Rattle.config_file.specs.declared.walk.Step.TheVariants as step
 use Rattle.gix_config_value_c.specs.declared.files.Setting.{Setting}
+use Rattle.gix_config_value_c.specs.declared.roles.Role.TheVariants as roles
 use Rattle.gix_config_value_c.specs.declared.status.Status.{Status}
 use Rattle.gix_config_value_c.specs.declared.status.Status.TheVariants as statuses
 use Rattle.gix_config_value_c.specs.declared.walk.GcvFrame.{GcvFrame}
@@ -31,8 +33,9 @@ use Rattle.gix_config_value_c.specs.declared.walk.GcvKnown.{GcvKnown}
 use Rattle.gix_config_value_c.specs.declared.walk.GcvStep.{GcvStep}
 use Rattle.gix_config_value_c.specs.declared.walk.Texts.{Texts}
 use Rattle.gix_config_value_c.specs.Files.{ended, setting_bytes, value_of, IsSettingOf, fault_status}
-use Rattle.gix_config_value_c.specs.Numbers.{status_number}
+use Rattle.gix_config_value_c.specs.Numbers.{status_number, role_number}
 use Rattle.gix_config_value_c.specs.Paths.{IsGiven, HasBadFlag}
+use Rattle.gix_config_value_c.specs.Roles.{HasRole}
 
 -- ---- frames
 
@@ -110,12 +113,13 @@ include_status MissingValue = statuses.NoValue
 include_status UnknownDirectory = statuses.NoDirectory
 include_status (Named name) = statuses.Ok
 
--- the texts of an entry: those of its setting, and the name of the file that it includes
+-- the texts of an entry: those of its setting, and the name of the file that it includes; and its role
 abbrev pub AreTextsOf : Entry → Include → Texts → Type 0
 AreTextsOf entry include texts = (setting : Setting) × IsSettingOf entry setting
     × (texts.bytes.items ≡ setting_bytes setting ++ option_map_or ended (name_in include) [])
     × (texts.value ≡ length (ended setting.key.items)) × (texts.included ≡ length (setting_bytes setting))
     × (texts.has_value ≡ option_map_or (λ v. 1) (value_of setting) 0)
+    × ((listed : List ℕ) → IsListed entry.section entry.key listed → HasRole entry texts.role)
 
 -- what is told of an entry
 abbrev pub step_struct : FilePlace → code.Entry → Include → Texts → GcvStep
@@ -127,6 +131,7 @@ step_struct place entry include texts = record {
   size = length texts.bytes.items;
   has_value = texts.has_value;
   include = status_number (include_status include);
+  role = role_number texts.role;
 }
 
 -- what is told of a line that is refused
@@ -139,6 +144,7 @@ line_struct place error = record {
   size = 0;
   has_value = 0;
   include = status_number statuses.NoInclude;
+  role = role_number roles.Plain;
 }
 
 -- with what is known, this step leads from the walk that the C frames hold to the walk of these frames

@@ -17,6 +17,7 @@ mod numbers;
 mod paths;
 mod products;
 mod readers;
+mod roles;
 mod shown;
 mod status;
 mod structs;

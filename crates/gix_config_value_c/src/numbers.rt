@@ -1,11 +1,19 @@
-//! The numbers that represent kinds, suffixes, depths and truth values in C.
+//! The numbers that represent roles, kinds, suffixes, depths and truth values in C.
 ghost use Rattle.std.specs.Prelude.{◌≡◌, Some};
 ghost use Rattle.gix_config_value_c.specs.Numbers.{kind_number, suffix_number, flag_number, StandsFor};
-ghost use Rattle.gix_config_value_c.specs.Numbers.{written_depth, depth_number};
+ghost use Rattle.gix_config_value_c.specs.Numbers.{role_number, written_depth, depth_number};
 
+use crate::roles::Role;
 use gix_config_value::canonical::Kind;
 use gix_config_value::color::Depth;
 use gix_config_value::integer::Suffix;
+
+/// Returns the number of a role.
+pub(crate) fn role_number(role: Role) -> u32
+    ensures { result ≡ role_number role }
+{
+    role as u32
+}
 
 /// Returns the kind with this number, or `None` if no kind has it.
 pub(crate) fn kind_of(number: u32) -> Option<Kind>

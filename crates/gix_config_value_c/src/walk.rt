@@ -15,8 +15,9 @@ ghost use Rattle.gix_config_value_c.specs.Walks.{AreUrls};
 ghost use Rattle.gix_config_value_c.specs.Walks.{flags, IsKnown, name_in, include_status, step_struct, line_struct};
 
 use crate::files::{Setting, fault_status, push_text, push_value};
-use crate::numbers::flag_of;
+use crate::numbers::{flag_of, role_number};
 use crate::paths::given;
+use crate::roles::{Role, role_of};
 use crate::status::Status;
 use config_file::errors::FileError;
 use config_file::section::{Section, Subsection};
@@ -101,15 +102,19 @@ pub struct GcvStep<'t> {
     pub has_value: u32,
     /// The number of the status that says what the entry includes: `Ok` if it includes a file.
     pub include: u32,
+    /// The number of the role of the entry.
+    pub role: u32,
 }
 
-/// The texts of an entry: its key as Git lists it, its value, and the name of the file that it includes.
+/// The texts of an entry: its key as Git lists it, its value, and the name of the file that it includes; and its
+/// role.
 #[derive(Drop)]
 struct Texts {
     bytes: Vec<u8>,
     value: usize,
     included: usize,
     has_value: u32,
+    role: Role,
 }
 
 /// Returns the section of a frame, or `None` if no frame has such a number of parts.
@@ -279,7 +284,7 @@ fn push_included(bytes: &mut Vec<u8>, include: &Include) -> Result<(), AllocErro
     }
 }
 
-/// Returns the texts of an entry, which includes this.
+/// Returns the texts of an entry, which includes this, and its role.
 fn texts_of(alloc: Global, entry: &Entry<'_>, include: &Include) -> Result<Texts, AllocError>
     ensures { IfOk result (AreTextsOf (entry_of entry.now) include.now) }
 {
@@ -298,6 +303,7 @@ fn texts_of(alloc: Global, entry: &Entry<'_>, include: &Include) -> Result<Texts
         value,
         included,
         has_value,
+        role: role_of(alloc, entry)?,
     })
 }
 
@@ -330,6 +336,7 @@ fn step_struct<'t>(
         size: texts.bytes.len(),
         has_value: texts.has_value,
         include: include_status(include),
+        role: role_number(texts.role),
     }
 }
 
@@ -345,6 +352,7 @@ fn line_struct(place: FilePlace<'_>, error: FileError) -> GcvStep<'_>
         size: 0,
         has_value: 0,
         include: Status::NoInclude as u32,
+        role: role_number(Role::Plain),
     }
 }
 

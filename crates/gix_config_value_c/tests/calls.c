@@ -27,7 +27,7 @@ WRITER(show_attribute, uint32_t, gcv_show_attribute(*value, buffer, capacity, si
 WRITER(show_color, gcv_color, gcv_show_color(value, buffer, capacity, size))
 WRITER(escape_color, gcv_color, gcv_escape_color(value, buffer, capacity, size))
 WRITER(fault_text, uint32_t, gcv_fault_text(*value, buffer, capacity, size))
-WRITER(list_key, char, gcv_list_key(value, strlen(value), buffer, capacity, size))
+WRITER(list_key, char, gcv_list_key(lent(text_area, value, strlen(value)), strlen(value), buffer, capacity, size))
 WRITER(normalize_canonical, word, gcv_normalize(value->number, value->text, strlen(value->text), buffer, capacity, size))
 WRITER(normalize_empty, uint32_t, gcv_normalize(*value, NULL, 0, buffer, capacity, size))
 
@@ -233,13 +233,14 @@ static void users(void)
 {
     static gcv_user room;
     const struct passwd *self = getpwuid(getuid());
-    const char *home = self ? gcv_find_user(&room, self->pw_name, strlen(self->pw_name)) : NULL;
+    const char *home = self ? gcv_find_user(&room, lent(name_area, self->pw_name, strlen(self->pw_name)), strlen(self->pw_name)) : NULL;
     count(!self || (home && strcmp(home, self->pw_dir) == 0), "a user");
     static char long_name[300];
     memset(long_name, 'a', sizeof long_name);
-    count(!gcv_find_user(&room, "no such user", 12) && !gcv_find_user(&room, "root", 0) && !gcv_find_user(&room, "root\0", 5) &&
-              !gcv_find_user(&room, long_name, sizeof long_name),
-          "no user");
+    count(!gcv_find_user(&room, "no such user", 12) && !gcv_find_user(&room, NULL, 0) && !gcv_find_user(&room, "root\0", 5), "no user");
+    for (size_t length = sizeof room.name - 2; length <= sizeof long_name; length++) {
+        count(!gcv_find_user(&room, lent(name_area, long_name, length), length), "a long name of no user");
+    }
     gcv_context any_bytes = {"\xff", 1, "\xfe", 1, NULL, 0};
     static const char *const rows[][2] = {
         {"/etc/x", "/etc/x"}, {"~/x", "\xfe/x"}, {"%(prefix)/x", "\xff/x"}, {":(optional)x", "x"}};
@@ -467,7 +468,7 @@ static gcv_status open_in_memory(void *state, const char *name, gcv_file *out)
         if (strcmp(of->files[at].name, name) == 0) {
             size_t length = of->files[at].length ? of->files[at].length : strlen(of->files[at].text);
             of->opened++;
-            out->text = (char *)malloc(length + 1);
+            out->text = (char *)malloc(length > 0 ? length : 1);
             memcpy(out->text, of->files[at].text, length);
             out->length = length;
             out->real_dir = strdup("/real");
@@ -590,7 +591,7 @@ static void listed_keys(void)
                   !gcv_find_setting(&settings, key) == (longer == 1),
               "a long key");
         key[length + 1] = 'k';
-        count(gcv_find_setting(&settings, key) == settings.list, "a long key, as it is listed");
+        count(gcv_find_setting(&settings, lent(text_area, key, length + 3)) == settings.list, "a long key, as it is listed");
         gcv_free_settings(&settings);
     }
     in_memory bare = {{{"row", "k\n[ \"X\"]\na\n", 0}}, 0};
@@ -619,6 +620,8 @@ static void included_files(void)
                           {"some", "[a]k=some\n[remote \"o\"]\nurl=x", 0}}, 0};
     in_memory by_gitdir = {{{"main", "[includeIf \"gitdir:/w/\"]path=some\n[includeIf \"hasconfig:remote.*.url:x\"]path=h", 0},
                             {"some", "[remote \"o\"]\nurl=x", 0}}, 0};
+    in_memory empty_name = {{{"main", "[includeIf \"hasconfig:remote.*.url:x\"]path=some\n[remote \"\"]\nurl=x", 0},
+                             {"some", "[a]k=some", 0}}, 0};
     in_memory unasked = {{{"main", "[includeIf \"gitdir:/w/\"]path=some", 0}, {"some", "[remote \"o\"]\nurl=x", 0}}, 0};
     gcv_settings settings = GCV_NO_SETTINGS;
     count(gcv_read_files(&settings, names, 1, &known, open_in_memory, &nested) == GCV_OK && are(&settings, wanted, 4) &&
@@ -638,6 +641,10 @@ static void included_files(void)
     count(gcv_read_files(&settings, names, 1, &known, open_in_memory, &by_gitdir) == GCV_REFUSED && settings.line == 2 &&
               strcmp(settings.file, "some") == 0,
           "a URL in a file that is included on another condition");
+    gcv_free_settings(&settings);
+    count(gcv_read_files(&settings, names, 1, &known, open_in_memory, &empty_name) == GCV_OK && settings.count == 3 &&
+              strcmp(settings.list[2].key, "remote..url") == 0,
+          "the URL of a remote whose name is empty");
     gcv_free_settings(&settings);
     count(gcv_read_files(&settings, names, 1, &known, open_in_memory, &unasked) == GCV_OK && settings.count == 2,
           "the same without a condition that asks for URLs");
@@ -869,6 +876,39 @@ static void includes(void)
     }
 }
 
+/* What entries are to conditions on the URLs of remotes, as Git 2.39.5 and 2.55.0 take them: for which ones it includes
+ * a file, and for which ones it refuses URLs in a file that is included on a condition. */
+static void roles(void)
+{
+    static const struct {
+        const char *text;
+        gcv_role role;
+    } rows[] = {
+        {"[core]bare", GCV_PLAIN}, {"url=x", GCV_PLAIN}, {"[remote]url=x", GCV_PLAIN}, {"[remotes \"o\"]url=x", GCV_PLAIN},
+        {"[remote \"o\"]urls=x", GCV_PLAIN}, {"[remote \"url\"]fetch=x", GCV_PLAIN}, {"[include]path=e", GCV_PLAIN},
+        {"[include \"hasconfig:remote.*.url:x\"]path=e", GCV_PLAIN}, {"[includeIf]path=e", GCV_PLAIN},
+        {"[remote \"o\"]url=x", GCV_REMOTE_URL}, {"[Remote \"a.b\"]URL", GCV_REMOTE_URL}, {"[remote \"\"]url=x", GCV_REMOTE_URL},
+        {"[remote.a.b]url=x", GCV_REMOTE_URL}, {"[remote.]url=x", GCV_REMOTE_URL},
+        {"[includeIf \"onbranch:x\"]path=e", GCV_CONDITION}, {"[includeIf \"x\"]path=e", GCV_CONDITION},
+        {"[includeIf \"Hasconfig:remote.*.url:x\"]path=e", GCV_CONDITION},
+        {"[includeIf \"hasconfig:remote.*.URL:x\"]path=e", GCV_CONDITION},
+        {"[includeIf \"hasconfig:remote.*.url\"]path=e", GCV_CONDITION},
+        {"[includeIf \"hasconfig:remote.*.url:x\"]path=e", GCV_URL_CONDITION},
+        {"[INCLUDEIF \"hasconfig:remote.*.url:\"]k", GCV_URL_CONDITION},
+        {"[includeIf \"hasconfig\\:remote.*.url:x\"]path=e", GCV_URL_CONDITION},
+    };
+    for (size_t at = 0; at < sizeof rows / sizeof rows[0]; at++) {
+        char texts[128];
+        gcv_walk walk = {0};
+        gcv_step step;
+        step.role = UNTOUCHED;
+        count(gcv_enter(&walk, "c", 1, NULL, 0, rows[at].text, strlen(rows[at].text)) == GCV_OK &&
+                  gcv_next(&walk, &nothing, texts, 1, &step) == GCV_SHORT_BUFFER && step.role == UNTOUCHED &&
+                  gcv_next(&walk, &nothing, texts, sizeof texts, &step) == GCV_OK && step.role == rows[at].role,
+              rows[at].text);
+    }
+}
+
 /* A file with another one in its place, with a byte order mark, and with lines that Git refuses. */
 static void walks(void)
 {
@@ -955,6 +995,11 @@ static const char *variable(void *state, const char *name)
     return NULL;
 }
 
+static gcv_status command_text(const void *state, char *buffer, size_t capacity, size_t *size)
+{
+    return gcv_command_text(variable, (void *)(uintptr_t)state, buffer, capacity, size);
+}
+
 #define COUNTED(count, key, value) {"GIT_CONFIG_COUNT", count, "GIT_CONFIG_KEY_0", key, "GIT_CONFIG_VALUE_0", value, NULL}
 #define PARAMETERS(text) {"GIT_CONFIG_PARAMETERS", text, NULL}
 
@@ -988,26 +1033,17 @@ static void commands(void)
         {PARAMETERS("'=c'"), GCV_NO_KEY, 0, NULL, NULL},
     };
     for (size_t at = 0; at < sizeof rows / sizeof rows[0]; at++) {
-        void *state = (void *)(uintptr_t)rows[at].variables;
-        size_t size = UNTOUCHED, needed = UNTOUCHED;
+        const void *state = rows[at].variables;
+        size_t size = UNTOUCHED;
         char text[256] = "?";
         static const char *const names[] = {"command line"};
         gcv_settings settings = GCV_NO_SETTINGS;
-        int is_read = rows[at].status == GCV_OK;
-        gcv_status counts = gcv_command_text(variable, state, NULL, 0, &needed);
-        count(counts == (is_read && rows[at].settings > 0 ? GCV_SHORT_BUFFER : rows[at].status), "a command without room");
-        count(gcv_command_text(variable, state, text, sizeof text, &size) == rows[at].status && size == needed &&
-                  (is_read ? size < sizeof text : size == UNTOUCHED && text[0] == '?'),
-              "the text of a command");
-        if (!is_read) {
+        if (rows[at].status != GCV_OK) {
+            count(writes_nothing(buffer_area, command_text, state, rows[at].status), "a command that Git refuses");
             continue;
         }
-        if (size > 0) {
-            char shorter[256] = "?";
-            count(gcv_command_text(variable, state, shorter, size - 1, &size) == GCV_SHORT_BUFFER && size == needed &&
-                      shorter[0] == '?',
-                  "a command with one byte too little");
-        }
+        count(command_text(state, text, sizeof text, &size) == GCV_OK && writes(buffer_area, command_text, state, text, size),
+              "the text of a command");
         in_memory line = {{{"command line", size > 0 ? text : "", size}}, 0};
         count(gcv_read_files(&settings, names, 1, NULL, open_in_memory, &line) == GCV_OK && settings.count == rows[at].settings,
               "the lines of a command");
@@ -1258,6 +1294,7 @@ int main(void)
     many_settings();
     opened_files();
     includes();
+    roles();
     walks();
     depth();
     overwritten();

@@ -31,9 +31,9 @@ PLACES = [
 PARTS = [(HEADER, rf"^#define GCV_VERSION_{part} (\d+)$") for part in ("MAJOR", "MINOR", "PATCH")]
 # constants of the header, and where the sources have the same number
 CONSTANTS = [
-    ((HEADER, r"^enum \{ GCV_LONGEST_TEXT = (\d+) \};$"),
+    ((HEADER, r"^enum \{.*\bGCV_LONGEST_TEXT = (\d+)\b.*\};$"),
      (ROOT / "crates/config_text/src/value.rt", r"^pub const LONGEST_TEXT: usize = (\d+);$")),
-    ((HEADER, r"^enum \{ GCV_MOST_FRAMES = (\d+) \};$"),
+    ((HEADER, r"^enum \{.*\bGCV_MOST_FRAMES = (\d+)\b.*\};$"),
      (ROOT / "crates/config_file/src/walk.rt", r"^    frames: ArrayVec<Frame<'t>, (\d+)>,$")),
 ]
 # by the first constant of an enum of the header, where else its numbers are: the beginning of the constants' names, a
@@ -42,6 +42,10 @@ ENUMS = {
     "GCV_OK": [
         ("GCV_", CRATE / "src/status.rt", r"^    (\w+) = (\d+),$", int),
         ("GCV_", NUMBERS, r"^status_number statuses\.(\w+) = (\d+)$", int),
+    ],
+    "GCV_PLAIN": [
+        ("GCV_", CRATE / "src/roles.rt", r"^    (\w+) = (\d+),$", int),
+        ("GCV_", NUMBERS, r"^role_number roles\.(\w+) = (\d+)$", int),
     ],
     "GCV_SUFFIX": [
         ("GCV_", CRATE / "src/numbers.rt", r"^        (?P<number>\d+) => Some\(Kind::(?P<name>\w+)\),$", int),
@@ -71,7 +75,6 @@ ENUMS = {
         ("GCV_", WORDS / "specs/Attribute.antt", r'^    (?:∷ )?\(codes "(\w+)", (\d+), ', lambda bit: 1 << int(bit)),
     ],
 }
-BITS = re.compile(r"^#define (GCV_\w+) (0x[0-9a-f]{8})u$", re.MULTILINE)
 # the constants that are 0: the fault of a refused suffix, an integer without a suffix, no colors, a color without a name
 ZEROS = ("GCV_FAULT_NONE", "GCV_NO_SUFFIX", "GCV_NO_COLORS", "GCV_NO_NAME")
 OTHER_NAMES = {"GCV_FAULT_ILL_FORMED_WHOLE": "GCV_FAULT_ILL_FORMED_PATH"}
@@ -80,7 +83,7 @@ TYPES = {"i64": "int64_t", "u32": "uint32_t", "u8": "uint8_t", "usize": "size_t"
 TYPES |= {f"Gcv{it.title()}": f"gcv_{it}" for it in ("integer", "name", "color", "frame")}
 TYPES |= {f"Gcv{it.title()}": f"gcv_raw_{it}" for it in ("known", "step")}
 # the enums of C are numbers of 32 bits, and a text is of chars
-NUMBERED = re.compile(r"\bgcv_(status|kind|fault|suffix|depth|tag)\b")
+NUMBERED = re.compile(r"\bgcv_(status|kind|fault|suffix|depth|tag|role)\b")
 # the pointers to what is in slices: bytes, and texts
 SLICES = {"&[u8]": "const uint8_t *", "&[&[u8]]": "const gcv_text *"}
 SIZES = {"int64_t": (8, 8), "uint32_t": (4, 4), "uint8_t": (1, 1), "size_t": (8, 8)}
@@ -104,12 +107,16 @@ def constant(beginning, name):
     return OTHER_NAMES.get(whole, whole)
 
 
+def enum_of(first):
+    """The constants of the header's enum whose first one has this name, and their numbers."""
+    body = re.search(rf"^typedef GCV_ENUM\(\w+\) \{{\s+({first} = .*?)\}}", text_of(HEADER), re.MULTILINE | re.DOTALL)
+    return {name: int(number, 0) for name, number in re.findall(r"\b(GCV_\w+) = (\w+)", body[1] if body else "")}
+
+
 def numbers():
     """Each number of an enum of the header: in the header, and in each sort of file that has it."""
     for first, places in ENUMS.items():
-        body = re.search(rf"^typedef GCV_ENUM\(\w+\) \{{\n(    {first} = .*?)^\}}", text_of(HEADER), re.MULTILINE | re.DOTALL)
-        listed = re.findall(r"\b(GCV_\w+) = (\d+)", body[1]) if body else BITS.findall(text_of(HEADER))
-        here = {name: int(number, 0) for name, number in listed}
+        here = enum_of(first)
         found = {path.suffix: {} for _, path, *_ in places}
         for beginning, path, pattern, value in places:
             for it in re.finditer(pattern, text_of(path), re.MULTILINE):
@@ -143,9 +150,9 @@ def structs():
     # the structs in a struct come first
     for name, body in sorted(found, key=lambda it: it[1].count("Gcv")):
         struct, wanted = TYPES[name], list(fields_of(body))
-        told = re.search(rf"^typedef struct {struct} \{{\n(.*?)^\}} {struct};$", header, re.MULTILINE | re.DOTALL)
+        told = re.search(rf"^typedef struct {struct} \{{(.*?)\}} {struct};$", header, re.MULTILINE | re.DOTALL)
         told = NUMBERED.sub("uint32_t", told[1] if told else "")
-        given = re.findall(r"(?:^   |;) (\w+ |const \w+ \*)(\w+)(?=;)", told, re.MULTILINE)
+        given = re.findall(r"(\w+ |const \w+ \*)(\w+);", re.sub(r"/\*.*?\*/", "", told))
         given = [(name, kind.strip()) for kind, name in given]
         yield f"the header, {struct}", given, wanted
         size, widest, offsets = 0, 1, {}
@@ -184,15 +191,14 @@ def calls():
 
 def names():
     """Python's codes of the faults, in the order of their numbers, its attributes, and the statuses that have a text."""
-    faults = re.findall(r"\bGCV_FAULT_(\w+) = \d+", text_of(HEADER))
+    faults = [name.removeprefix("GCV_FAULT_") for name in enum_of("GCV_FAULT_NONE")]
     listed = re.search(r"^static const char \*const codes\[\] = \{(.*?)\};$", text_of(MODULE), re.MULTILINE | re.DOTALL)
     yield "Python, codes", re.findall(r'"(\w+)"', listed[1]), ["suffix", *map(str.lower, faults[1:])]
-    bits = [name.replace("GCV_", "") for name, _ in BITS.findall(text_of(HEADER))]
+    bits = [name.removeprefix("GCV_") for name in enum_of("GCV_BOLD")]
     yield "Python, attributes", re.findall(r'\{"(\w+)", GCV_\1\}', text_of(MODULE)), bits
     # each status has a text of its own
-    statuses = re.findall(r"\b(GCV_\w+) = \d", text_of(HEADER).split("} gcv_status;")[0])
     texts = re.findall(r"^    case (GCV_\w+):$", text_of(CALLS), re.MULTILINE)
-    yield "the texts of statuses", sorted(texts), sorted(statuses)
+    yield "the texts of statuses", sorted(texts), sorted(enum_of("GCV_OK"))
 
 
 def built(prefix, version):

@@ -89,10 +89,10 @@ static gcv_status list_key(const void *state, char *buffer, size_t capacity, siz
     return gcv_list_key("A.B.C", 5, buffer, capacity, size);
 }
 
-/* Opens a file with one key, which includes another that is not there. */
+/* Opens a file with one key, with the URL of a remote, and with two includes of a file that is not there. */
 static gcv_status open_text(void *state, const char *name, gcv_file *out)
 {
-    static const char text[] = "[a]\nb\n[include]path=x";
+    static const char text[] = "[a]\nb\n[include]path=x\n[remote \"o\"]url=u\n[includeIf \"hasconfig:remote.*.url:u\"]path=x";
     (void)state;
     if (strcmp(name, "file") != 0) {
         return GCV_ABSENT;
@@ -118,9 +118,27 @@ static gcv_status read_files(const void *state, char *buffer, size_t capacity, s
         *size = strlen(settings.list[0].key);
         memcpy(buffer, settings.list[0].key, capacity);
     }
-    int is_right = settings.count == (status == GCV_OK ? 2 : 0);
+    int is_right = settings.count == (status == GCV_OK ? 4 : 0);
     gcv_free_settings(&settings);
     return is_right ? status : UNTOUCHED;
+}
+
+static char file_name[] = "/tmp/gcv_XXXXXX";
+
+/* Opens a file of the system. The text is its own. */
+static gcv_status open_file(const void *state, char *buffer, size_t capacity, size_t *size)
+{
+    gcv_file file = {NULL, 0, NULL};
+    (void)state;
+    gcv_status status = gcv_open_file(NULL, file_name, &file);
+    if (status == GCV_OK) {
+        *size = file.length;
+        memcpy(buffer, file.text, capacity);
+        free(file.text);
+        blocks += file.real_dir != NULL; /* from realpath, which is not wrapped */
+        free(file.real_dir);
+    }
+    return status;
 }
 
 /* Takes the first step of a walk, at an entry that includes a file. */
@@ -206,7 +224,15 @@ int main(void)
     ASKS(read_and_show, "red bold", 0);
     ASKS(normalize, "16k", 0);
     ASKS(list_key, "a.B.c", 0);
-    ASKS(read_files, "a.b", 11);
+    ASKS(read_files, "a.b", 34);
+    int made = mkstemp(file_name);
+    count(made >= 0 && write(made, "[a]\n", 4) == 4, "a file");
+    ASKS(open_file, "[a]\n", 1);
+    close(made);
+    unlink(file_name);
+    static gcv_user room;
+    requests = 0;
+    count((gcv_find_user(&room, "root", 4), requests == 0), "find_user");
     ASKS(command, "[a]b=c\n", 10);
     ASKS(set, "[a]\n\tb = 2\n", 1);
     ASKS(replace_all, "[a]\n\tb = 3\n", 1);
@@ -215,6 +241,6 @@ int main(void)
     ASKS(unset_all, "[a]\n\tc = 2\n", 3);
     ASKS(rename_section, "[c \"D\"]\n\tb = 1\n", 7);
     ASKS(remove_section, "[c]\n\td\n", 3);
-    ASKS(next, "includeif.onbranch:ma*.path\0~/x\t\0/home/u/x\t\0", 9);
+    ASKS(next, "includeif.onbranch:ma*.path\0~/x\t\0/home/u/x\t\0", 10);
     return finish();
 }

@@ -78,7 +78,7 @@ holds "the header" python3 "$tests/header.py" "$prefix"
 
 # the library exports exactly the calls that the header declares, and needs only the symbols of docs/C.md
 {
-    sed -nE '/^typedef/d; s/^(GCV_RETURNS|GCV_NONNULL|gcv_depth|const char).*[ *](gcv_[a-z0-9_]+)\(.*/\2/p' \
+    sed -nE '/^typedef/d; s/^(GCV_CALL|GCV_NONNULL|gcv_depth|const char).*[ *](gcv_[a-z0-9_]+)\(.*/\2/p' \
         "$prefix/include/gix_config_value.h"
     sed -n 's/^GCV_CHECKED .* gcv_edit_by_[a-z]* \(.*\);$/\1/p' "$prefix/include/gix_config_value.h" | tr -d ' ' | tr , '\n'
 } | sort > "$work/declared"
@@ -193,7 +193,7 @@ for compiler in gcc clang g++ clang++; do
         *++) language="-x c++ -std=c++11" ;;
         *) language="-std=c99" ;;
     esac
-    body 'gcv_read_boolean(t, 1, &b, NULL) == GCV_OK ? (both.attributes = b, both.attributes &= ~GCV_UL) > n : c.home != NULL' \
+    body 'gcv_read_boolean(t, 1, &b, NULL) == GCV_OK ? (both.attributes = b | GCV_UL, both.attributes & GCV_BOLD) > n : c.home != NULL' \
         > "$work/right.c"
     case $compiler in
         *++) also="-x c++ -std=c++98 -Wold-style-cast" ;;

@@ -6,12 +6,13 @@ ghost use Rattle.config_path.specs.Interpolation.{path_error_text};
 ghost use Rattle.config_path.specs.declared.interpolate.Error.{Error};
 ghost use Rattle.gix_config_value_c.specs.Answers.{TellsApart};
 ghost use Rattle.gix_config_value_c.specs.Numbers.{status_number, kind_number, suffix_number, flag_number};
-ghost use Rattle.gix_config_value_c.specs.Numbers.{depth_number, fault_number};
+ghost use Rattle.gix_config_value_c.specs.Numbers.{role_number, depth_number, fault_number};
 ghost use Rattle.gix_config_value_c.specs.Faults.{place_number, path_fault_number, numbered_text};
 
-/// No two statuses, kinds, suffixes, depths or truth values have the same number.
+/// No two statuses, roles, kinds, suffixes, depths or truth values have the same number.
 pub fn numbers()
     ensures statuses { TellsApart status_number }
+    ensures roles { TellsApart role_number }
     ensures kinds { TellsApart kind_number }
     ensures suffixes { TellsApart suffix_number }
     ensures depths { TellsApart depth_number }

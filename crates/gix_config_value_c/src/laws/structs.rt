@@ -4,6 +4,7 @@ ghost use Rattle.config_text.specs.Orders.{Equates, IsCopied};
 ghost use Rattle.gix_config_value_c.specs.Answers.{TellsApart};
 ghost use Rattle.gix_config_value_c.specs.Structs.{integer_struct, name_struct, part_struct, color_struct};
 
+use crate::roles::Role;
 use crate::status::Status;
 use crate::structs::{GcvColor, GcvInteger, GcvName};
 
@@ -33,7 +34,8 @@ pub fn colors()
     ensures clones { IsCopied ⟦<GcvColor as Clone>⟧.is_clone ⟦<GcvColor as Clone>⟧.is_infallible }
 {}
 
-/// A clone of a status is the same, and never fails.
-pub fn statuses()
-    ensures { IsCopied ⟦<Status as Clone>⟧.is_clone ⟦<Status as Clone>⟧.is_infallible }
+/// A clone of a status or of a role is equal to it, and never fails.
+pub fn enums()
+    ensures statuses { IsCopied ⟦<Status as Clone>⟧.is_clone ⟦<Status as Clone>⟧.is_infallible }
+    ensures roles { IsCopied ⟦<Role as Clone>⟧.is_clone ⟦<Role as Clone>⟧.is_infallible }
 {}
