@@ -2,7 +2,7 @@
 use Rattle.std.specs.Prelude.{◌≡◌, ℕ, Bool, true, false, List, Some, map, codes}
 use Rattle.std.specs.Char.{to_ascii_lowercase}
 use Rattle.config_file.specs.File.{Entry}
-use Rattle.config_file.specs.Include.{Names, IsRemoteUrl}
+use Rattle.config_file.specs.Include.{SpellsCondition, IsRemoteUrl}
 use Rattle.config_file.specs.Subsection.{SpellsSubsection}
 use Rattle.config_file.specs.declared.include.Condition.{Condition}
 use Rattle.config_file.specs.declared.include.Condition.TheVariants.{HasRemoteUrl}
@@ -22,7 +22,7 @@ asks_urls condition = false
 -- these bytes spell a condition that asks about the URLs of remotes, or that does not, by the flag
 abbrev pub SpellsCondition : List ℕ → Bool → Type 0
 SpellsCondition raw asks = (text : List ℕ) → SpellsSubsection raw text
-    → (condition : Condition) × Names text condition × (asks_urls condition ≡ asks)
+    → (condition : Condition) × SpellsCondition text condition × (asks_urls condition ≡ asks)
 
 -- the role of an entry: the URL of a remote, or an entry of a section with a condition, whatever its key
 pub data HasRole (entry : Entry) : Role → Type 0 where
