@@ -1,5 +1,6 @@
 mod BooleanLemmas
 mod NearestLemmas
+mod LackLemmas
 mod RunLemmas
 mod WordLemmas
 mod ShownLemmas
