@@ -1,5 +1,5 @@
 -- A text that lacks bytes of another one is at least as many edits away.
-use Rattle.std.proofs.Common.{◌≡◌, ◌+◌, ◌≤◌, ℕ, zero, suc, List, [], ◌∷◌, ◌++◌, length, map, nat_eq, refl, sym, ap, ◌∙◌, subst, arith, append_assoc}
+use Rattle.std.proofs.Common.{◌≡◌, ◌+◌, ◌≤◌, ℕ, zero, suc, List, [], ◌∷◌, ◌++◌, length, nat_eq, refl, sym, ap, ◌∙◌, arith, append_assoc}
 use Rattle.std.proofs.Common.{Bool, true, false, inl, inr, ◌==◌}
 use Rattle.std.proofs.lemmas.Int.{clamps}
 use Rattle.std.proofs.lemmas.Bool.{false≢true, cases_Bool, eq-eqb}
@@ -13,7 +13,7 @@ use Rattle.config_text.specs.SameWord.{SameWord}
 use Rattle.config_checks.proofs.NearestLemmas.{common}
 use Rattle.strsim.specs.Edits.{next_row, rows, cost_at}
 use Rattle.config_checks.specs.Reading.Steps.{has_byte, is_same_byte}
-use Rattle.config_checks.specs.Nearest.{Edits, IsSwap, lower, edits}
+use Rattle.config_checks.specs.Nearest.{Edits, IsSwap, lower}
 use Rattle.config_checks.specs.Nearest.Edits.{swapped, counted}
 use Rattle.config_checks.specs.Nearest.IsSwap.{at_front, further}
 

@@ -1,6 +1,6 @@
 -- Rows in runs of one section.
 use Rattle.std.proofs.Common.{Option, None, Some, MatchOption, Bor, inr}
-use Rattle.std.proofs.Common.{◌≡◌, ◌+◌, ◌<◌, ℕ, List, [], ◌∷◌, ◌++◌, length, take, drop, get_or, arith, sym, ap, subst, ◌∙◌, codes, Bool, true, false}
+use Rattle.std.proofs.Common.{◌≡◌, ◌+◌, ◌<◌, ℕ, List, [], ◌∷◌, ◌++◌, length, take, drop, get_or, arith, sym, ap, subst, ◌∙◌, codes, true, false}
 use Rattle.std.proofs.lemmas.List.{get_or-take, get_or_default, length-take}
 use Rattle.std.proofs.lemmas.List.{length-append, take-append-le, get_or_append_left, get_or-append-add, flat_map_more, take-append-drop}
 use Rattle.std.proofs.lemmas.List.Elements.{All-append}

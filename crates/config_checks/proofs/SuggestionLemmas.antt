@@ -1,6 +1,6 @@
 -- The edits between the keys of rows and a key.
 use Rattle.std.proofs.Common.{◌≡◌, ◌<◌, ◌≤◌, ℕ, zero, suc, Result, Ok, Err, IfOk, List, [], ◌∷◌, Option, None, Some, MatchOption}
-use Rattle.std.proofs.Common.{◌∙◌, sym, ap, subst, arith, length, map, get_or, nat_eq, nat_lt, Bool, IsTrue, ◌↔◌, codes, ◌||◌, if◌then◌else◌}
+use Rattle.std.proofs.Common.{◌∙◌, sym, ap, subst, arith, length, get_or, nat_eq, nat_lt, Bool, IsTrue, ◌↔◌, codes, ◌||◌, if◌then◌else◌}
 use Rattle.std.proofs.lemmas.List.{length-map}
 use Rattle.std.specs.Char.{to_ascii_lowercase}
 use Rattle.std.specs.List.{AllZip}

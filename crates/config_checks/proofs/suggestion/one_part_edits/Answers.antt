@@ -1,4 +1,4 @@
-use Rattle.std.proofs.Common.{MatchOption, subst}
+use Rattle.std.proofs.Common.{subst}
 use Rattle.config_file.specs.KeyView.{key_of}
 use Rattle.config_checks.specs.Reading.Steps.{IsRelation}
 use Rattle.config_checks.proofs.SuggestionLemmas.{of_section, near_if, of_far}

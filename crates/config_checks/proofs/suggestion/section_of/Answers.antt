@@ -1,4 +1,4 @@
-use Rattle.std.proofs.Common.{◌≡◌, ◌∙◌, sym, subst, rules}
+use Rattle.std.proofs.Common.{◌≡◌, sym, subst, rules}
 use Rattle.config_checks.specs.Reading.Steps.{AreRelations}
 use Rattle.config_checks.proofs.suggestion.section_of.Goals as goal
 

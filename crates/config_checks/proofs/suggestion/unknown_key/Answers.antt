@@ -1,4 +1,3 @@
-use Rattle.std.proofs.Common.{MatchOption, subst}
 use Rattle.config_file.specs.KeyView.{key_of}
 use Rattle.config_checks.specs.Rows.{rows_of}
 use Rattle.config_checks.proofs.SuggestionLemmas.{of_text}
