@@ -682,7 +682,7 @@ pub(crate) fn check<'m, 't>(
         None => None,
     };
     let judge = Judge::new(alloc, &rows)?;
-    let report = Report::new(alloc, asked, baseline)?;
+    let report = Report::new(alloc, asked, &rows, baseline)?;
     let mut checking = Checking {
         rt,
         rows: &rows,

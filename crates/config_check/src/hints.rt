@@ -1,7 +1,11 @@
-//! What to write in place of a value that the reader of a boolean, an integer or a color refuses.
+//! What to write in place of a value that the reader of a boolean, an integer or a color refuses, or of a slot.
 
-use config_checks::finding::Finding;
+use crate::text::{push, push_number};
+use config_checks::code::Code;
+use config_checks::finding::{Finding, push_shown};
 use config_checks::reason::nearest_word;
+use config_checks::row::Row;
+use config_file::key::Key;
 use gix_config_value::canonical::TryRead;
 use gix_config_value::integer::Amount;
 use gix_config_value::{Color, Fault};
@@ -259,4 +263,54 @@ pub(crate) fn hint_for<'v>(alloc: Global, finding: &Finding<'v>) -> Result<Hint<
         (Some(Fault::Integer), Some(value)) => Ok(hint_of(None, number(alloc, value)?)),
         _ => Ok(hint_of(None, None)),
     }
+}
+
+/// How many slots are told.
+const MOST_SLOTS: usize = 10;
+
+/// The slots of colors that rows have in a subsection of `color`, each once.
+fn slots<'r>(
+    alloc: Global,
+    rows: &[Row<'r>],
+    subsection: &[u8],
+) -> Result<Vec<&'r [u8]>, AllocError> {
+    let mut names: Vec<&[u8]> = Vec::new(alloc);
+    for row in rows {
+        let is_color = row.key.section().eq_ignore_ascii_case(b"color");
+        if is_color && row.key.subsection() == Some(subsection) && !has(&names, row.key.name()) {
+            names.push(row.key.name())?;
+        }
+    }
+    Ok(names)
+}
+
+/// Appends which slots the rows have, if a finding is about an unknown slot and suggests none.
+pub(crate) fn push_slots(
+    reason: &mut Vec<u8>,
+    rows: &[Row<'_>],
+    finding: &Finding<'_>,
+) -> Result<(), AllocError> {
+    if finding.code != Code::UnknownKey || finding.suggested_key.is_some() {
+        return Ok(());
+    }
+    let Some(key) = finding.key.and_then(|key| Key::split(key)) else {
+        return Ok(());
+    };
+    let Some(subsection) = key.subsection() else {
+        return Ok(());
+    };
+    push(reason, "; color.")?;
+    push_shown(reason, subsection)?;
+    push(reason, " has: ")?;
+    let names = slots(*reason.allocator(), rows, subsection)?;
+    for (place, name) in names.iter().take(MOST_SLOTS).enumerate() {
+        push(reason, if place > 0 { ", " } else { "" })?;
+        push_shown(reason, name)?;
+    }
+    if names.len() > MOST_SLOTS {
+        push(reason, " and ")?;
+        push_number(reason, names.len().saturating_sub(MOST_SLOTS))?;
+        push(reason, " more")?;
+    }
+    Ok(())
 }

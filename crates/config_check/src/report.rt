@@ -4,7 +4,7 @@ ghost use Rattle.std.specs.Prelude.{None};
 use crate::annotations::push_annotation;
 use crate::causes::Cause;
 use crate::changes::Mender;
-use crate::hints::{Hint, hint_for};
+use crate::hints::{Hint, hint_for, push_slots};
 use crate::options::{Asked, Format, Ignored, Output, Style};
 use crate::sarif::push_result;
 use crate::source::{Source, Spot};
@@ -16,6 +16,7 @@ use config_checks::fingerprint::{fingerprint, is_known};
 use config_checks::json_line::json_text;
 use config_checks::key::covers;
 use config_checks::reason::Severity;
+use config_checks::row::Row;
 use config_file::key::Key;
 use std::alloc::{AllocError, Global};
 use std::collections::{BTreeMap, BTreeSet};
@@ -51,6 +52,8 @@ impl Hidden {
 /// What a run reports of its findings.
 #[derive(Drop)]
 pub(crate) struct Report<'c> {
+    /// The rows of the run.
+    rows: &'c [Row<'c>],
     pub(crate) style: Style,
     pub(crate) output: Output,
     pub(crate) ignored: &'c [Ignored<'c>],
@@ -83,15 +86,17 @@ struct Told {
     is_sure: bool,
 }
 
-/// What is told of a finding about an entry: what is known of its value.
+/// What is told of a finding about an entry: what is known of its value, and the slots that rows have.
 fn told_of_entry(
     alloc: Global,
+    rows: &[Row<'_>],
     finding: &Finding<'_>,
     hint: Hint<'_>,
     line: usize,
 ) -> Result<Told, AllocError> {
     let mut reason = finding.reason.to_vec(alloc)?;
     push_hint(&mut reason, &hint)?;
+    push_slots(&mut reason, rows, finding)?;
     Ok(Told {
         line,
         reason,
@@ -146,11 +151,13 @@ impl<'c> Report<'c> {
     pub(crate) fn new(
         alloc: Global,
         asked: &'c Asked<'_, 'c>,
+        rows: &'c [Row<'c>],
         baseline: Option<BTreeSet<String>>,
     ) -> Result<Report<'c>, AllocError> {
         let mut counts = Vec::new(alloc);
         counts.resize(Code::ALL.len(), 0)?;
         Ok(Report {
+            rows,
             style: asked.style,
             output: asked.output,
             ignored: asked.ignored,
@@ -308,7 +315,7 @@ impl<W: Write> Lines<'_, '_, '_, '_, W> {
     fn text_for_entry(&mut self, finding: &Finding<'_>) -> Result<Vec<u8>, AllocError> {
         let hint = hint_for(self.alloc, finding)?;
         let spot = self.source.spot(finding, hint.wrong);
-        let told = told_of_entry(self.alloc, finding, hint, spot.number)?;
+        let told = told_of_entry(self.alloc, self.report.rows, finding, hint, spot.number)?;
         match &told.meant {
             Some(meant) => {
                 let whole = Finding {

@@ -1,12 +1,14 @@
 """Compares single entries, keys, rows and arguments with the tables of rows.py."""
 import itertools
+import os
 import pathlib
 import re
+import shutil
 
 import made
 import plain_reader
 import rows
-from checking import CANNOT, Ended, arguments, ended, expect_json, summary, with_errors_cut, without_cause
+from checking import CANNOT, Ended, arguments, ended, expect_json, run, summary, with_errors_cut, without_cause
 from plain_reader import beginning, cut, finding, key_of, named, shown
 
 ROWS = 10_000
@@ -96,14 +98,34 @@ def escapes(group, program):
         (made.line_of(key, value), key, value, None) for key, value in rows.UNSHOWN_ACCEPTED])
 
 
+def expect_said(group, program, how, key, said):
+    """Expects a key that is reported as unknown, and what is said after that."""
+    entry = made.line_of(key, b"x")
+    place = plain_reader.entries(entry)[0][0][0]
+    output = finding(place, cut(listed(key)), None, b"warning: unknown key" + said)
+    group.expect(entry, ended(output, (1, 0, 1, 1)), program.run(how, entry))
+
+
 def expect_unknown(group, program, how, keys):
     """Expects keys that are reported as unknown, each with the key that is suggested, or None."""
     for key, meant in keys:
-        entry = made.line_of(key, b"x")
-        asked = b"" if meant is None else b"; did you mean %s?" % meant
-        place = plain_reader.entries(entry)[0][0][0]
-        output = finding(place, cut(listed(key)), None, b"warning: unknown key" + asked)
-        group.expect(entry, ended(output, (1, 0, 1, 1)), program.run(how, entry))
+        expect_said(group, program, how, key, b"" if meant is None else b"; did you mean %s?" % meant)
+
+
+def slots(group, program):
+    """Slots of colors that no row has: the finding has those that rows have, and Git says nothing of a wrong color."""
+    for how, found in ((arguments(program.settings(rows.SETTINGS)), rows.OTHER_SLOTS), (["-"], rows.OTHER_SLOTS_BUILT_IN)):
+        for key, said in found:
+            expect_said(group, program, how, key, said)
+    git = shutil.which("git")
+    if git is None:
+        group.skip("slots in Git", "no git on PATH")
+        return
+    alone = {"GIT_CONFIG_GLOBAL": os.devnull, "GIT_CONFIG_NOSYSTEM": "1", "PATH": os.environ["PATH"]}
+    run([git, "init", "-q", program.folder / "slots"], env=alone)
+    for key, command, status in rows.SLOTS_OF_GIT:
+        came = run([git, "-c", key + b"=zzz", command], env=alone, cwd=program.folder / "slots")
+        group.expect((key, command), (status, status == 0), (came.status, came.errors == b""))
 
 
 def keys(group, program):
@@ -245,5 +267,5 @@ def wrong_and_other_arguments(group, program):
 
 
 def check(group, program):
-    for part in (values, escapes, keys, files, as_json, fail_on, built_in, settings_files, musts, wrong_and_other_arguments):
+    for part in (values, escapes, keys, slots, files, as_json, fail_on, built_in, settings_files, musts, wrong_and_other_arguments):
         part(group, program)

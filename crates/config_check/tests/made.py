@@ -16,7 +16,7 @@ MARKS = [b"[", b"]", b'"', b"\\", b"=", b"#", b";", b"\n", b"\r\n", b"\0", b"\\\
 def keys():
     """The keys that the tables have, known and unknown."""
     named = [key for key, *_ in rows.ACCEPTED + rows.FIRST_ROWS]
-    return list(dict.fromkeys(named * 2 + [key for key, _ in rows.KNOWN_KEYS + rows.MISSPELLED_KEYS]
+    return list(dict.fromkeys(named * 2 + [key for key, _ in rows.KNOWN_KEYS + rows.MISSPELLED_KEYS + rows.OTHER_SLOTS]
                               + rows.OWN_KEYS + rows.UNKNOWN_KEYS))
 
 

@@ -570,6 +570,22 @@ def is_moved(pattern, key):
             and pattern.first not in TOPICS)
 
 
+def slots_of(rows, middle):
+    """The slots of colors that rows have with this middle, each once; rows for the newest Git come before others."""
+    ordered = sorted(rows, key=lambda row: outside(row) is not None)
+    found = {}
+    for row in ordered:
+        if row.key.first == b"color" and row.key.middle == middle:
+            found.setdefault(row.key.last, row.text.rpartition(b".")[2])
+    return list(found.values())
+
+
+def has_slots(middle, slots):
+    """What is said of a slot that no row has: the first ten of those with this middle."""
+    more = b" and %d more" % (len(slots) - 10) if len(slots) > 10 else b""
+    return b"; color.%s has: %s%s" % (shown(middle), b", ".join(map(shown, slots[:10])), more)
+
+
 def unknown(rows, text):
     """The severity and the reason of a key that no row covers; None if it is not reported."""
     key = key_of(text)
@@ -580,7 +596,10 @@ def unknown(rows, text):
         found = next((at for at, row in enumerate(rows) if is_moved(row.key, key)), None)
     if found is not None:
         return b"warning: unknown key; did you mean %s?" % shown(filled(rows[found].text, key))
-    is_own = key.middle is None and key.first not in SHARED and any(row.key.first == key.first for row in rows)
+    if key.middle is not None:
+        slots = slots_of(rows, key.middle) if key.first == b"color" else []
+        return b"warning: unknown key" + has_slots(key.middle, slots) if slots else None
+    is_own = key.first not in SHARED and any(row.key.first == key.first for row in rows)
     return b"warning: unknown key" if is_own else None
 
 

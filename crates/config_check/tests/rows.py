@@ -66,6 +66,10 @@ literal.a*.last int
 literal.last* int
 *.star int
 t\xc3\xa9st.\xc3\x9f int
+color.paint.first int
+color.paint.Second-one int
+color.paint.second-one text
+color.*.any int
 
 # the first row wins
 first.twice int
@@ -383,7 +387,7 @@ KNOWN_KEYS = [
     (b"middle.\xc3\xa9 \"q\".last", b"middle.\xc3\xa9 \"q\".last"), (b"middle.Exact.other", None),
     (b"Middle.Exact.OTHER", None), (b"middle.two.parts.other", None), (b"empty..middle", None),
     (b"any-last.x", None), (b"any-last.sub.x", None), (b"any-both.x.y", None), (b"any-both.a.b.c", None),
-    (b"literal.a*.last", None),
+    (b"literal.a*.last", None), (b"color.paint.FIRST", None), (b"color.x.any", None),
 ]
 # keys that no row covers, and the suggested key: one part differs by one edit, or by two if both texts have five bytes
 # (eight in a section); a swap of neighbors is one edit, and a run of bytes in the last part of two is three; the key of
@@ -408,13 +412,32 @@ MISSPELLED_KEYS = [
 ]
 # keys in sections in which only the rows have settings
 OWN_KEYS = [b"test.wrong", b"test.tni", b"any-both.y", b"literal.last-one", b"test.key", b"test.nothing"]
+# slots of colors that no row has, and what is said of those that rows have; Git 2.39.5 and 2.55.0 say nothing of these
+OTHER_SLOTS = [(key, b"; color.paint has: first, Second-one") for key in (b"color.paint.third", b"COLOR.paint.f")]
+OTHER_SLOTS_BUILT_IN = [
+    (b"color.status.add", b"; color.status has: header, added, updated, changed, untracked, branch, nobranch, localBranch, remoteBranch, unmerged"),
+    (b"color.diff.hunk", b"; color.diff has: context, plain, meta, frag, func, old, new, commit, whitespace, oldMoved and 13 more"),
+    (b"color.branch.head", b"; color.branch has: current, local, remote, upstream, plain, worktree, reset"),
+    (b"color.decorate.note", b"; color.decorate has: branch, remoteBranch, tag, stash, HEAD, grafted"),
+    (b"color.interactive.question", b"; color.interactive has: prompt, header, help, error, plain, reset"),
+    (b"color.push.warning", b"; color.push has: error, reset"), (b"color.transport.ok", b"; color.transport has: rejected, reset"),
+    (b"color.remote.note", b"; color.remote has: hint, warning, success, error"), (b"color.advice.text", b"; color.advice has: hint, reset"),
+    (b"color.blame.old", b"; color.blame has: repeatedLines, highlightRecent"),
+]
+# how `git COMMAND` ends in an empty repository if this key is `zzz`: it takes no slot but its own
+SLOTS_OF_GIT = [
+    (b"color.status.add", b"status", 0), (b"color.status.added", b"status", 128),
+    (b"color.branch.head", b"branch", 0), (b"color.branch.reset", b"branch", 128),
+    (b"color.diff.hunk", b"diff", 0), (b"color.diff.frag", b"diff", 128),
+]
 UNKNOWN_KEYS = [
+    b"color.Paint.third", b"color.other.first-one", b"colors.paint.third",
     b".test.int", b"..int", b"te.int", b"middle.Exact.x", b"middle.two.other",
     b"empty.xx.middle", b"any-last.x.y", b"any-last..x", b"any-last.sub.x.y", b"literal.abcd.last", b"xx.star",
     b"middle.x.lasttt", b"middle.Exact.Other-word", b"an-lats.x", b"other.key",
 ]
 # keys that the built-in rows, which the second reader does not have, do not report either
-UNKNOWN_BUILT_IN = [b"pretty.a.b", b"gui.x.y", b"lfs.url", b"core.crlf", b"user.nickname", b"user.home", b"user.username", b"branch.x.base", b"branch.x.rebase-merges",
+UNKNOWN_BUILT_IN = [b"color.diff-highlight.oldNormal", b"color.Status.add", b"pretty.a.b", b"gui.x.y", b"lfs.url", b"core.crlf", b"user.nickname", b"user.home", b"user.username", b"branch.x.base", b"branch.x.rebase-merges",
                     b"gitlab.url", b"alien.x"]
 
 # which row decides: key, value, and the reason

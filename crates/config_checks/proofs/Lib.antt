@@ -1,6 +1,7 @@
 mod BooleanLemmas
 mod NearestLemmas
 mod PathLemmas
+mod LackLemmas
 mod RunLemmas
 mod WordLemmas
 mod ShownLemmas

@@ -74,6 +74,6 @@ module _ (rows : List Row) where
 
   pub not_passed : (t : List ℕ) (x : UnknownKey) → IsUnknownKey rows t x → ¬ (IsPassed rows t)
   not_passed t x p (no_dot none) = cut_has_dot p.cut none
-  not_passed t x p (foreign key is far none not) =
-      not (suggests_far key (nearest_of x)
-      (subst (λ key. Suggests rows key (nearest_of x)) (cut_same p.cut is) p.suggests) far none)
+  not_passed t x p (foreign key is other) =
+      other.not_own (suggests_far key (nearest_of x)
+      (subst (λ key. Suggests rows key (nearest_of x)) (cut_same p.cut is) p.suggests) other.far other.nowhere)

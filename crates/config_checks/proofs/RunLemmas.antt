@@ -1,26 +1,23 @@
 -- Rows in runs of one section.
 use Rattle.std.proofs.Common.{Option, None, Some, MatchOption, Bor, inr}
-use Rattle.std.proofs.Common.{◌≡◌, ◌+◌, ◌<◌, ℕ, List, [], ◌∷◌, ◌++◌, length, take, drop, get_or, arith, sym, ap, subst, ◌∙◌, ◌||◌, nat_lt, if◌then◌else◌}
+use Rattle.std.proofs.Common.{◌≡◌, ◌+◌, ◌<◌, ℕ, List, [], ◌∷◌, ◌++◌, length, take, drop, get_or, arith, sym, ap, subst, ◌∙◌, codes, true, false}
 use Rattle.std.proofs.lemmas.List.{get_or-take, get_or_default, length-take}
-use Rattle.std.proofs.lemmas.List.{length-append, length-map, take-append-le, get_or_append_left, get_or-append-add, flat_map_more, take-append-drop}
+use Rattle.std.proofs.lemmas.List.{length-append, take-append-le, get_or_append_left, get_or-append-add, flat_map_more, take-append-drop}
 use Rattle.std.proofs.lemmas.List.Elements.{All-append}
 use Rattle.std.proofs.lemmas.Grind.{flat_map-append}
 use Rattle.std.proofs.Math.Seq.{take-append-add, take-add, get_or-append_seam}
 use Rattle.std.specs.List.{All, Any}
-use Rattle.std.proofs.lemmas.Int.{clamps}
-use Rattle.std.specs.Char.{to_ascii_lowercase}
-use Rattle.std.specs.Int.{abs_diff}
+use Rattle.std.proofs.lemmas.Bool.{false≢true}
+use Rattle.std.specs.Option.{is_some}
 use Rattle.config_text.specs.SameWord.{SameWord}
 use Rattle.config_file.specs.Key.{Key, IsCut}
 use Rattle.config_file.specs.KeyView.{key_of}
 use Rattle.config_checks.specs.declared.row.Row.{Row}
 use Rattle.config_checks.specs.declared.row.Run.{Run}
 use Rattle.config_checks.specs.Keys.{Covers}
-use Rattle.config_checks.specs.Nearest.{AreFar, most_edits}
 use Rattle.config_checks.specs.Rows.{CoversNone, Decides, IsFirstCovering, rows_of}
-use Rattle.config_checks.specs.Suggestions.{RowEdits, HasSection, HasNone, IsFirstSuch, IsMovedRow, IsNowhere, IsElsewhere}
-use Rattle.config_checks.specs.Suggestions.OnePartEdits.{in_rest, in_section}
-use Rattle.config_checks.proofs.NearestLemmas.{take_more, lengths_near}
+use Rattle.config_checks.specs.Suggestions.{HasSection, HasSlots, HasNone, IsFirstSuch, IsMovedRow, IsNowhere, IsElsewhere}
+use Rattle.config_checks.proofs.NearestLemmas.{take_more}
 
 -- the rows of the runs before place `i`, and of the run there
 pub rows_more : (runs : List Run) (i : ℕ) (run : Run) → i < length runs → get_or runs i run ≡ run
@@ -33,9 +30,6 @@ rows_around : (runs : List Run) (i : ℕ) (run : Run) → i < length runs → ge
 rows_around runs i run below here =
     ap rows_of (sym (take-append-drop (i + 1) runs)) ∙ flat_map-append (λ r. r.rows.now) (take (i + 1) runs) (drop (i + 1) runs)
     ∙ ap (λ l. l ++ rows_of (drop (i + 1) runs)) (rows_more runs i run below here)
-
-same_length : (a b : List ℕ) → SameWord a b → length a ≡ length b
-same_length a b same = sym (length-map a to_ascii_lowercase) ∙ ap length same ∙ length-map b to_ascii_lowercase
 
 module _ (key : Key) where
   -- no row of a run with another section covers the key
@@ -68,26 +62,6 @@ module _ (key : Key) where
         covering = subst (λ l. IsFirstCovering l key row) (sym (rows_around runs i run below here))
             (first_within (rows_of (take i runs)) run.rows.now (rows_of (drop (i + 1) runs)) row none first);
       }
-
-  -- ---- the edits that lead to a key
-
-  -- if the lengths of the sections differ by too much, the key of the row is not near the key
-  far_row : (row : Row) → most_edits 8 (key_of row.key).section key.section
-      < abs_diff (length (key_of row.key).section) (length key.section) → (n : ℕ) → RowEdits key row n → 3 < n
-  far_row row far n (in_rest same edits) =
-      absurd (omega (arith, clamps, far, same_length (key_of row.key).section key.section same))
-  far_row row far n (in_section other between last edits) =
-      let near = lengths_near (key_of row.key).section key.section n edits.0 in
-      let few = edits.1 in
-      absurd (omega (arith, clamps, far, near.0, near.1, few))
-
-  pub far_run : (run : Run) → most_edits 8 run.section.now key.section
-      < abs_diff (length run.section.now) (length key.section) → AreFar (RowEdits key) run.rows.now
-  far_run run far k d inside =
-      let row = get_or run.rows.now k d in
-      far_row row
-      (subst (λ l. (if nat_lt l 8 || nat_lt (length key.section) 8 then 1 else 2) < abs_diff l (length key.section))
-      (sym (same_length (key_of row.key).section run.section.now (run.of_section k d inside))) far)
 
 -- what holds for the rows of the first runs and for those of one more run
 pub all_more : (P : Row → Type 0) (runs : List Run) (i : ℕ) (run : Run) → i < length runs → get_or runs i run ≡ run
@@ -167,3 +141,50 @@ pub elsewhere_of : (rows : List Row) (key : Key) (r : Option (Bor Row)) → HasS
     → MatchOption r (IsNowhere rows key) (λ row. IsElsewhere rows key row.now)
 elsewhere_of rows key None has none = inr none
 elsewhere_of rows key (Some row) has first = (has, first)
+
+-- ---- slots of colors
+
+any_among : (P : Row → Type 0) (xs ys zs : List Row) → Any P ys → Any P ((xs ++ ys) ++ zs)
+any_among P xs ys zs (place, row, inside, stands, is) =
+    let below : length xs + place < length (xs ++ ys) = omega (arith, inside, length-append xs ys) in (
+      length xs + place,
+      row,
+      omega (arith, below, length-append (xs ++ ys) zs),
+      get_or_append_left (xs ++ ys) zs row (length xs + place) below ∙ get_or-append-add xs ys place row ∙ stands,
+      is,
+    )
+
+module _ (t : List ℕ) where
+  abbrev pub IsWithin : Row → Type 0
+  IsWithin row = (key_of row.key).subsection ≡ Some t
+
+  abbrev pub IsSlot : Row → Type 0
+  IsSlot row = SameWord (key_of row.key).section (codes "color") × ((key_of row.key).subsection ≡ Some t)
+
+  any_slot : (run : Run) → SameWord run.section.now (codes "color") → (r : Option (Bor Row)) → is_some r ≡ true
+      → MatchOption r (HasNone IsWithin run.rows.now) (λ row. IsFirstSuch IsWithin run.rows.now row.now) → Any IsSlot run.rows.now
+  any_slot run same None some none = absurd (false≢true some)
+  any_slot run same (Some row) some first =
+      let in_run = subst (λ (row : Row). SameWord (key_of row.key).section run.section.now) first.stands
+      (run.of_section first.place row.now first.inside) in
+      (first.place, row.now, first.inside, first.stands, (in_run ∙ same, first.is))
+
+  -- a row of the run has this subsection
+  pub slots_in : (runs : List Run) (i : ℕ) (run : Run) → i < length runs → get_or runs i run ≡ run
+      → SameWord run.section.now (codes "color") → (r : Option (Bor Row)) → is_some r ≡ true
+      → MatchOption r (HasNone IsWithin run.rows.now) (λ row. IsFirstSuch IsWithin run.rows.now row.now)
+      → HasSlots (rows_of runs) t
+  slots_in runs i run below here same r some first =
+      subst (Any IsSlot) (sym (rows_around runs i run below here))
+      (any_among IsSlot (rows_of (take i runs)) run.rows.now (rows_of (drop (i + 1) runs)) (any_slot run same r some first))
+
+  -- no row of the run has it
+  pub no_slots : (run : Run) (r : Option (Bor Row)) → is_some r ≡ false
+      → MatchOption r (HasNone IsWithin run.rows.now) (λ row. IsFirstSuch IsWithin run.rows.now row.now)
+      → HasNone IsSlot run.rows.now
+  no_slots run None not none = λ k d inside slot. none k d inside slot.1
+  no_slots run (Some row) not first = absurd (false≢true (sym not))
+
+  -- the run has another section
+  pub no_colors : (run : Run) → ¬ (SameWord run.section.now (codes "color")) → HasNone IsSlot run.rows.now
+  no_colors run other = λ k d inside slot. other (sym (run.of_section k d inside) ∙ slot.0)

@@ -1,13 +1,29 @@
 -- The edits between the keys of rows and a key.
-use Rattle.std.proofs.Common.{◌≡◌, ◌<◌, ℕ, Result, Ok, Err, IfOk, List, Option, None, Some}
-use Rattle.std.proofs.Common.{◌∙◌, sym}
-use Rattle.config_checks.specs.Reading.Steps.{IsFew}
+use Rattle.std.proofs.Common.{◌≡◌, ◌<◌, ◌≤◌, ℕ, zero, suc, Result, Ok, Err, IfOk, List, [], ◌∷◌, Option, None, Some, MatchOption}
+use Rattle.std.proofs.Common.{◌∙◌, sym, ap, subst, arith, length, get_or, nat_eq, nat_lt, Bool, IsTrue, ◌↔◌, codes, ◌||◌, if◌then◌else◌}
+use Rattle.std.proofs.lemmas.List.{length-map}
+use Rattle.std.specs.Char.{to_ascii_lowercase}
+use Rattle.std.specs.List.{AllZip}
+use Rattle.strsim.specs.Edits.{levenshtein_row}
+use Rattle.config_file.specs.KeyView.{key_of}
+use Rattle.config_checks.specs.declared.row.Row.{Row}
+use Rattle.config_checks.specs.declared.row.Run.{Run}
+use Rattle.config_checks.specs.declared.suggestion.Relation.{Relation}
+use Rattle.config_checks.specs.declared.suggestion.Relation.TheVariants as relations
+use Rattle.config_checks.specs.Nearest.{Edits, IsSwap, lower, AreFar}
+use Rattle.config_checks.specs.Nearest.Edits.{swapped, counted}
+use Rattle.config_checks.specs.Reading.Steps.{IsFew, IsRelation}
 use Rattle.config_text.specs.SameWord.{SameWord}
-use Rattle.config_file.specs.Key.{Key}
+use Rattle.config_file.specs.Key.{Key, IsCut}
 use Rattle.config_checks.specs.Keys.{CoversSubsection, CoversName}
-use Rattle.config_checks.specs.Suggestions.{NameEdits, EditsAfter, OnePartEdits, SectionEdits, SubsectionEdits}
+use Rattle.config_checks.specs.Suggestions.{NameEdits, EditsAfter, OnePartEdits, RowEdits, SectionEdits, SubsectionEdits, HasSlots, IsOwn}
 use Rattle.config_checks.specs.Suggestions.NameEdits.{few, by_run}
 use Rattle.config_checks.specs.Suggestions.EditsAfter.{in_name, in_subsection}
+use Rattle.config_checks.specs.Suggestions.IsOwn.{alone, slot}
+use Rattle.config_checks.specs.Suggestions.IsPassed.{foreign}
+use Rattle.config_checks.specs.Suggestions.{IsForeign, IsPassed, IsUnknownKey, Suggests, nearest_of}
+use Rattle.config_checks.specs.declared.suggestion.UnknownKey.{UnknownKey}
+use Rattle.config_checks.specs.Rows.{IsUnknown}
 use Rattle.config_checks.specs.Suggestions.OnePartEdits.{in_rest, in_section}
 use Rattle.config_checks.proofs.NearestLemmas.{one_count}
 
@@ -52,19 +68,91 @@ of_subsection row key not covers (Ok None) many = many_before row key covers man
 of_subsection row key not covers (Ok (Some n)) edits = (in_subsection not covers edits.0, edits.1)
 of_subsection row key not covers (Err e) is = tt
 
--- if only the sections differ, the edits are those of the sections
-many_sections : (row key : Key) → ¬ (SameWord row.section key.section)
-    → ((n : ℕ) → SectionEdits row.section key.section n → 3 < n) → (n : ℕ) → OnePartEdits row key n → 3 < n
-many_sections row key other many n (in_rest same edits) = absurd (other same)
-many_sections row key other many n (in_section not b l is) = many n is
+-- ---- how sections are related
 
-pub of_other_section : {E : Type 0} (row key : Key) → ¬ (SameWord row.section key.section)
-    → CoversSubsection row.subsection key.subsection → CoversName row.name key.name
-    → (r : Result (Option ℕ) E) → IfOk r (λ r. IsFew (SectionEdits row.section key.section) r)
-    → IfOk r (λ r. IsFew (OnePartEdits row key) r)
-of_other_section row key other subsection name (Ok None) many = many_sections row key other many
-of_other_section row key other subsection name (Ok (Some n)) edits = (in_section other subsection name edits.0, edits.1)
-of_other_section row key other subsection name (Err e) is = tt
+same_length : (a b : List ℕ) → SameWord a b → length a ≡ length b
+same_length a b same = sym (length-map a to_ascii_lowercase) ∙ ap length same ∙ length-map b to_ascii_lowercase
+
+same_edits : (a b c : List ℕ) (n : ℕ) → SameWord a b → Edits b c n → Edits a c n
+same_edits a b c n same (swapped swap is) = swapped (subst (λ l. IsSwap l (lower c)) (sym same) swap) is
+same_edits a b c n same (counted not is) =
+    counted (λ swap. not (subst (λ l. IsSwap l (lower c)) same swap))
+    (is ∙ ap (λ l. levenshtein_row nat_eq l (lower c) (length (lower c))) (sym same))
+
+same_few : (a b c : List ℕ) (n : ℕ) → SameWord a b → SectionEdits b c n → SectionEdits a c n
+same_few a b c n same edits = (
+  same_edits a b c n same edits.0,
+  subst (λ l. n ≤ (if nat_lt l 8 || nat_lt (length c) 8 then 1 else 2)) (sym (same_length a b same)) edits.1,
+)
+
+-- sections of the same word are related alike
+pub same_relation : (a b c : List ℕ) (r : Relation) → SameWord a b → IsRelation b c r → IsRelation a c r
+same_relation a b c relations.Same same is = same ∙ is
+same_relation a b c (relations.Near n) same is =
+    ((λ s. is.0 (sym same ∙ s)), (same_few a b c n same is.1.0, is.1.1))
+same_relation a b c relations.Far same is =
+    ((λ s. is.0 (sym same ∙ s)), (λ n edits. is.1 n (same_few b a c n (sym same) edits)))
+
+uncovered : (row key : Key) (n : ℕ) → IsRelation row.section key.section (relations.Near n)
+    → ¬ (CoversSubsection row.subsection key.subsection × CoversName row.name key.name) → (m : ℕ) → OnePartEdits row key m
+    → 3 < m
+uncovered row key n is not m (in_rest same edits) = absurd (is.0 same)
+uncovered row key n is not m (in_section other subsection name edits) = absurd (not (subsection, name))
+
+-- if a section is near, the keys are near if the row's key covers the key but for the section
+pub near_if : (row key : Key) (n : ℕ) → IsRelation row.section key.section (relations.Near n) → (r : Option ℕ)
+    → MatchOption r (¬ (CoversSubsection row.subsection key.subsection × CoversName row.name key.name))
+    (λ m. CoversSubsection row.subsection key.subsection × CoversName row.name key.name × (m ≡ n))
+    → IsFew (OnePartEdits row key) r
+near_if row key n is None not = uncovered row key n is not
+near_if row key n is (Some m) (subsection, name, same) =
+    subst (λ m. IsFew (OnePartEdits row key) (Some m)) (sym same) (in_section is.0 subsection name is.1.0, is.1.1)
+
+pub of_far : (row key : Key) → IsRelation row.section key.section relations.Far → IsFew (OnePartEdits row key) None
+of_far row key is n (in_rest same edits) = absurd (is.0 same)
+of_far row key is n (in_section other subsection name edits) = is.1 n edits
+
+-- no row of a run whose section is far is near
+pub far_run : (key : Key) (run : Run) → IsRelation run.section.now key.section relations.Far
+    → AreFar (RowEdits key) run.rows.now
+far_run key run far k d inside =
+    let row = get_or run.rows.now k d in
+    of_far (key_of row.key) key
+    (same_relation (key_of row.key).section run.section.now key.section relations.Far (run.of_section k d inside) far)
+
+-- what is at the same place of two lists is related, if all is
+pub zipped_at : {A B : Type 0} (R : A → B → Type 0) (xs : List A) (ys : List B) → AllZip R xs ys → (i : ℕ) (x : A) (d : B)
+    → i < length xs → get_or xs i x ≡ x → R x (get_or ys i d)
+zipped_at R [] ys all i x d inside is = absurd (omega (arith, inside))
+zipped_at R (a ∷ xs) [] all i x d inside is = absurd all
+zipped_at R (a ∷ xs) (b ∷ ys) all zero x d inside is = subst (λ a. R a b) is all.0
+zipped_at R (a ∷ xs) (b ∷ ys) all (suc i) x d inside is = zipped_at R xs ys all.1 i x d (omega (arith, inside)) is
+
+-- ---- where only rows have settings
+
+slots_of : (rows : List Row) (key : Key) (t : List ℕ) → key.subsection ≡ Some t → IsOwn rows key → HasSlots rows t
+slots_of rows key t is (alone none not has) = absurd (cc)
+slots_of rows key t is (slot u also same has) = let one : u ≡ t = cc in subst (HasSlots rows) one has
+
+-- a key with a subsection
+pub own_slot : (rows : List Row) (key : Key) (t : List ℕ) (b : Bool) → key.subsection ≡ Some t
+    → SameWord (codes "color") key.section → IsTrue b ↔ HasSlots rows t → IsTrue b ↔ IsOwn rows key
+own_slot rows key t b is same told =
+    (λ yes. slot t is same (told.0 yes), λ own. told.1 (slots_of rows key t is own))
+
+-- what is said of the key of a text
+pub of_key : (rows : List Row) (t : List ℕ) (key : Key) → IsCut t key → IsUnknown rows t → (r : Option UnknownKey)
+    → MatchOption r (IsForeign rows key) (λ k. Suggests rows key (nearest_of k))
+    → MatchOption r (IsPassed rows t) (IsUnknownKey rows t)
+of_key rows t key cut unknown None other = foreign key cut other
+of_key rows t key cut unknown (Some k) suggests =
+    record { key = key; cut = cut; unknown = unknown; suggests = suggests }
+
+pub of_text : {E : Type 0} (rows : List Row) (t : List ℕ) (key : Key) → IsCut t key → IsUnknown rows t
+    → (r : Result (Option UnknownKey) E) → IfOk r (λ r. MatchOption r (IsForeign rows key) (λ k. Suggests rows key (nearest_of k)))
+    → IfOk r (λ r. MatchOption r (IsPassed rows t) (IsUnknownKey rows t))
+of_text rows t key cut unknown (Err e) is = tt
+of_text rows t key cut unknown (Ok r) is = of_key rows t key cut unknown r is
 
 -- ---- there is at most one number of edits
 

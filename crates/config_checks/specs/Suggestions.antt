@@ -81,9 +81,16 @@ IsShared t = SameWord (codes "advice") t ⊎ (SameWord (codes "core") t ⊎ (Sam
 abbrev pub HasSection : List Row → List ℕ → Type 0
 HasSection rows t = Any (λ row. SameWord (key_of row.key).section t) rows
 
--- a key without a subsection, in a section of the rows that has no settings without a row
-abbrev pub IsOwn : List Row → Key → Type 0
-IsOwn rows key = (key.subsection ≡ None) × (¬ (IsShared key.section) × HasSection rows key.section)
+-- a row of the section `color` has this subsection
+abbrev pub HasSlots : List Row → List ℕ → Type 0
+HasSlots rows t =
+    Any (λ row. SameWord (key_of row.key).section (codes "color") × ((key_of row.key).subsection ≡ Some t)) rows
+
+-- Only rows have settings where the key is. Without a subsection that is a section of the rows that has no settings
+-- without a row. With one it is such a subsection of `color`, since Git takes no slot there but those of the rows.
+pub data IsOwn (rows : List Row) (key : Key) : Type 0 where
+  alone : key.subsection ≡ None → ¬ (IsShared key.section) → HasSection rows key.section → IsOwn rows key
+  slot : (t : List ℕ) → key.subsection ≡ Some t → SameWord (codes "color") key.section → HasSlots rows t → IsOwn rows key
 
 -- ---- a name in another section
 
@@ -125,8 +132,8 @@ pub data IsSuggested (rows : List Row) (key : Key) (row : Row) : Type 0 where
   near : IsNearest (RowEdits key) rows row → IsSuggested rows key row
   moved : AreFar (RowEdits key) rows → IsElsewhere rows key row → IsSuggested rows key row
 
--- what is suggested for an unknown key: the key of such a row, or nothing if there is none and only rows have settings in
--- the key's section (`IsOwn`)
+-- what is suggested for an unknown key: the key of such a row, or nothing if there is none and only rows have settings
+-- where the key is (`IsOwn`)
 abbrev pub Suggests : List Row → Key → Option Key → Type 0
 Suggests rows key None = AreFar (RowEdits key) rows × (IsNowhere rows key × IsOwn rows key)
 Suggests rows key (Some nearest) = (row : Row) × IsSuggested rows key row × FillsKey (key_of row.key) key nearest
@@ -142,11 +149,16 @@ pub record IsUnknownKey (rows : List Row) (t : List ℕ) (k : UnknownKey) : Type
   pub unknown : IsUnknown rows t
   pub suggests : Suggests rows key (nearest_of k)
 
--- the text is not reported: it has no dot, or all rows are far, its name is nowhere else and `IsOwn` does not hold
+-- the key is not reported: all rows are far, its name is nowhere else, and not only rows have settings where it is
+pub record IsForeign (rows : List Row) (key : Key) : Type 0 where
+  pub far : AreFar (RowEdits key) rows
+  pub nowhere : IsNowhere rows key
+  pub not_own : ¬ (IsOwn rows key)
+
+-- the text is not reported: it has no dot, or its key is not reported
 pub data IsPassed (rows : List Row) (t : List ℕ) : Type 0 where
   no_dot : list_all is_no_dot t ≡ true → IsPassed rows t
-  foreign : (key : Key) → IsCut t key → AreFar (RowEdits key) rows → IsNowhere rows key → ¬ (IsOwn rows key)
-      → IsPassed rows t
+  foreign : (key : Key) → IsCut t key → IsForeign rows key → IsPassed rows t
 
 -- ---- the text about an unknown key
 

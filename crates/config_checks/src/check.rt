@@ -1,11 +1,13 @@
 //! Checks the settings of a file, and hands on each finding.
 ghost use Rattle.std.specs.Prelude.{◌≡◌, ◌==◌, ◌∷◌, [], List, Option, if◌then◌else◌, OnOk, OnErr, IfOk, IfSome, Some};
+ghost use Rattle.config_file.specs.Key.{IsCut};
+ghost use Rattle.config_file.specs.KeyView.{key_of};
 ghost use Rattle.config_checks.specs.Findings.{Finding, finding_of};
 ghost use Rattle.config_checks.specs.Report.{counted, counts_shown, reason_finding};
 ghost use Rattle.config_checks.specs.Report.{Receives, Completes, Fails};
 ghost use Rattle.config_checks.specs.Rows.{rows_of, IsUnknown};
 ghost use Rattle.config_checks.specs.Reading.Steps.{HasRoom, HasRoomForFinding, Reports};
-ghost use Rattle.config_checks.specs.Reading.Steps.{IsSaid, said_findings, is_reported};
+ghost use Rattle.config_checks.specs.Reading.Steps.{IsKept, IsSection, said_findings, is_reported};
 ghost use Rattle.config_checks.specs.Reading.Steps.{ReportsError, ReportsEntries};
 
 use crate::code::Code;
@@ -18,8 +20,9 @@ use crate::options::Options;
 use crate::reason::{Reason, Severity, find};
 use crate::row::{Row, Run};
 use crate::setting::Setting;
-use crate::suggestion::{push_unknown, unknown_key};
+use crate::suggestion::{Section, push_unknown, recalled_section, unknown_in};
 use config_file::errors::FileError;
+use config_file::key::Key;
 use config_file::reader::Entries;
 use std::alloc::{AllocError, Global};
 use std::{fmt, io};
@@ -179,7 +182,8 @@ fn give_reason<R: Receiver>(
     })
 }
 
-/// What is said of a key that no row covers. The last one is kept, since many settings may have one key.
+/// What is said of a key that no row covers. The last one is kept, since many settings may have one key, or
+/// keys of one section.
 #[derive(Drop)]
 struct Said {
     key: Vec<u8>,
@@ -187,15 +191,26 @@ struct Said {
     reason: Option<Vec<u8>>,
     /// The key that is suggested, if there is one.
     meant: Option<Vec<u8>>,
+    /// What is known of a section, which is mostly that of the key.
+    section: Option<Section>,
 }
 
-/// What is said of a key that no row covers.
-fn said_of(alloc: Global, runs: &[Run<'_, '_>], key: &[u8]) -> Result<Said, AllocError>
-    requires { IsUnknown (rows_of runs.now) key.now }
-    ensures { IfOk result (λ said. (said.key.items ≡ key.now) × IsSaid (rows_of runs.now) said) }
+/// What is said of a key that no row covers, with these parts.
+fn said_of_parts(
+    alloc: Global,
+    runs: &[Run<'_, '_>],
+    key: &[u8],
+    parts: &Key<'_>,
+    section: Section,
+) -> Result<Said, AllocError>
+    requires unknown { IsUnknown (rows_of runs.now) key.now }
+    requires parts { IsCut key.now (key_of parts.now) }
+    requires section { IsSection runs.now section }
+    requires same { section.name.items ≡ (key_of parts.now).section }
+    ensures { IfOk result (λ said. (said.key.items ≡ key.now) × IsKept runs.now said) }
 {
     let copy = key.to_vec(alloc)?;
-    match unknown_key(alloc, runs, key)? {
+    match unknown_in(alloc, runs, &section, parts)? {
         Some(unknown) => {
             let mut text = Vec::new(alloc);
             push_unknown(&mut text, &unknown)?;
@@ -204,14 +219,39 @@ fn said_of(alloc: Global, runs: &[Run<'_, '_>], key: &[u8]) -> Result<Said, Allo
                 key: copy,
                 reason: Some(text),
                 meant,
+                section: Some(section),
             })
         }
         None => Ok(Said {
             key: copy,
             reason: None,
             meant: None,
+            section: Some(section),
         }),
     }
+}
+
+/// What is said of a key that no row covers. `last` is what is known of the last section.
+fn said_of(
+    alloc: Global,
+    runs: &[Run<'_, '_>],
+    key: &[u8],
+    last: Option<Section>,
+) -> Result<Said, AllocError>
+    requires unknown { IsUnknown (rows_of runs.now) key.now }
+    requires last { IfSome last (IsSection runs.now) }
+    ensures { IfOk result (λ said. (said.key.items ≡ key.now) × IsKept runs.now said) }
+{
+    let Some(parts) = Key::split(key) else {
+        return Ok(Said {
+            key: key.to_vec(alloc)?,
+            reason: None,
+            meant: None,
+            section: last,
+        });
+    };
+    let section = recalled_section(alloc, runs, parts.section(), last)?;
+    said_of_parts(alloc, runs, key, &parts, section)
 }
 
 /// What is said of a key that no row covers. It is what was said last, if that was of this key.
@@ -222,12 +262,13 @@ fn recalled(
     last: Option<Said>,
 ) -> Result<Said, AllocError>
     requires unknown { IsUnknown (rows_of runs.now) key.now }
-    requires last { IfSome last (IsSaid (rows_of runs.now)) }
-    ensures { IfOk result (λ said. (said.key.items ≡ key.now) × IsSaid (rows_of runs.now) said) }
+    requires last { IfSome last (IsKept runs.now) }
+    ensures { IfOk result (λ said. (said.key.items ≡ key.now) × IsKept runs.now said) }
 {
     match last {
         Some(said) if said.key.as_slice() == key => Ok(said),
-        _ => said_of(alloc, runs, key),
+        Some(said) => said_of(alloc, runs, key, said.section),
+        None => said_of(alloc, runs, key, None),
     }
 }
 
@@ -282,10 +323,10 @@ fn report<R: Receiver>(
     receiver: &mut R,
 ) -> Result<Progress, CheckError>
     requires room { HasRoom progress.counts }
-    requires last { IfSome progress.last (IsSaid (rows_of runs.now)) }
+    requires last { IfSome progress.last (IsKept runs.now) }
     ensures ok { IfOk result (λ after. Reports (rows_of runs.now) options.now setting.now
         progress.counts after.counts (R.received receiver.old) (R.received receiver.new)) }
-    ensures last { IfOk result (λ after. IfSome after.last (IsSaid (rows_of runs.now))) }
+    ensures last { IfOk result (λ after. IfSome after.last (IsKept runs.now)) }
     ensures err { OnErr result (Receives (R.received receiver.old) (R.received receiver.new) []) }
 {
     let Progress { counts, last } = progress;

@@ -1,9 +1,10 @@
 //! The edits that lead from one text to another.
-ghost use Rattle.std.specs.Prelude.{◌≡◌, ◌≤◌, ◌↔◌, ◌==◌, length, IsTrue, IfOk};
-ghost use Rattle.std.specs.List.{prefix_len, zip};
-ghost use Rattle.config_checks.specs.Nearest.{Edits, IsSwap, FewEdits, most_edits, LeavesOut, LacksRun};
-ghost use Rattle.config_checks.specs.Reading.Steps.{AreApart, AreRests, IsFew};
+ghost use Rattle.std.specs.Prelude.{◌≡◌, ◌≤◌, ◌↔◌, ◌==◌, ◌++◌, ℕ, List, length, not, IsTrue, IfOk};
+ghost use Rattle.std.specs.List.{prefix_len, zip, filter};
+ghost use Rattle.config_checks.specs.Nearest.{Edits, IsSwap, FewEdits, most_edits, LacksRun, lower};
+ghost use Rattle.config_checks.specs.Reading.Steps.{AreApart, AreRests, IsFew, has_byte, is_same_byte};
 
+use crate::key::is_same_word;
 use std::alloc::{AllocError, Global};
 use strsim::generic_levenshtein;
 
@@ -73,8 +74,22 @@ fn edits_between(alloc: Global, from: &[u8], to: &[u8]) -> Result<usize, AllocEr
     generic_levenshtein(alloc, from.as_slice(), to.as_slice())
 }
 
+/// Whether a text has a byte, ignoring ASCII case.
+fn has_byte(text: &[u8], byte: u8) -> bool
+    ensures { result ≡ has_byte text.now byte }
+{
+    text.iter().any(|other| byte.eq_ignore_ascii_case(other))
+}
+
+/// How many bytes of one text the other lacks, ignoring ASCII case. No fewer edits lead from one to the other.
+fn count_lacked(from: &[u8], to: &[u8]) -> usize
+    ensures { result ≡ length (filter (λ byte. not (has_byte to.now byte)) from.now) }
+{
+    from.iter().filter(|byte| !has_byte(to, **byte)).count()
+}
+
 /// How many edits lead from one text to the other, or `None` if the texts are not near.
-// Most texts are not compared, since their lengths differ by more edits than near texts may have.
+// Most texts are not compared, since their lengths or their bytes differ by more edits than near texts may have.
 pub(crate) fn few_edits(
     alloc: Global,
     long: usize,
@@ -84,7 +99,7 @@ pub(crate) fn few_edits(
     ensures { IfOk result (λ r. IsFew (FewEdits long from.now to.now) r) }
 {
     let most = most_edits(long, from, to);
-    if from.len().abs_diff(to.len()) > most {
+    if from.len().abs_diff(to.len()) > most || count_lacked(from, to) > most {
         return Ok(None);
     }
     let edits = edits_between(alloc, from, to)?;
@@ -94,22 +109,42 @@ pub(crate) fn few_edits(
     Ok(Some(edits))
 }
 
-/// Whether the first text is the second one without one run of bytes, which may be empty.
-fn leaves_out(short: &[u8], long: &[u8]) -> bool
-    ensures { IsTrue result ↔ (LeavesOut short.now long.now) }
+/// How many bytes both texts begin with, ignoring ASCII case.
+fn common_word(a: &[u8], b: &[u8]) -> usize
+    ensures count { result ≡ prefix_len (λ p. is_same_byte p.0 p.1) (zip a.now b.now) }
+    ensures within { (result ≤ length a.now) × (result ≤ length b.now) }
 {
-    let (short, long) = rests(short, long);
-    long.ends_with(short)
+    a.iter()
+        .zip(b)
+        .take_while(|(a, b)| a.eq_ignore_ascii_case(b))
+        .count()
+}
+
+/// What follows the longest text that both texts begin with, ignoring ASCII case.
+fn word_rests<'t>(a: &'t [u8], b: &'t [u8]) -> (&'t [u8], &'t [u8])
+    ensures { AreRests (lower a.now) (lower b.now) (lower result.0.now) (lower result.1.now) }
+{
+    let count = common_word(a, b);
+    (&a[count..], &b[count..])
+}
+
+/// Whether a text ends with another one, ignoring ASCII case.
+fn ends_with_word(text: &[u8], end: &[u8]) -> bool
+    ensures { IsTrue result ↔ ((word : List ℕ) × (lower text.now ≡ word ++ lower end.now)) }
+{
+    if text.len() < end.len() {
+        return false;
+    }
+    is_same_word(&text[text.len() - end.len()..], end)
 }
 
 /// Whether the first text is long, and is the second one without one run of bytes, ignoring ASCII case.
-pub(crate) fn lacks_run(alloc: Global, short: &[u8], long: &[u8]) -> Result<bool, AllocError>
-    ensures { IfOk result (λ r. IsTrue r ↔ (LacksRun short.now long.now)) }
+pub(crate) fn lacks_run(short: &[u8], long: &[u8]) -> bool
+    ensures { IsTrue result ↔ (LacksRun short.now long.now) }
 {
     if short.len() < LONG {
-        return Ok(false);
+        return false;
     }
-    let short = short.to_ascii_lowercase(alloc)?;
-    let long = long.to_ascii_lowercase(alloc)?;
-    Ok(leaves_out(&short, &long))
+    let (short, long) = word_rests(short, long);
+    ends_with_word(long, short)
 }

@@ -987,9 +987,11 @@ trailer.*.cmd                       text
 advice.graftFileDeprecated          bool
 advice.objectNameWarning            bool
 am.messageId                        bool
+color.advice.reset                  color
 color.branch.reset                  color
 color.interactive.plain             color
 color.interactive.reset             color
+color.push.reset                    color
 color.transport.reset               color
 core.disambiguate                   word-any-case none commit committish tree treeish blob
 diff.color                          bool-or-word-any-case always never auto

@@ -1,20 +1,23 @@
 //! Keys that no row covers, and the nearest keys of the rows.
-ghost use Rattle.std.specs.Prelude.{◌≡◌, ◌⊎◌, ◌++◌, ◌↔◌, IsTrue, MatchOption, IfOk, OnOk, Some};
+ghost use Rattle.std.specs.Prelude.{◌≡◌, ◌⊎◌, ◌++◌, ◌↔◌, IsTrue, MatchOption, IfOk, IfSome, OnOk, Some};
 ghost use Rattle.std.specs.Prelude.{option_copied};
+ghost use Rattle.std.specs.List.{Any};
 ghost use Rattle.config_text.specs.SameWord.{SameWord};
 ghost use Rattle.config_file.specs.KeyView.{key_of};
+ghost use Rattle.config_checks.specs.Keys.{CoversSubsection, CoversName};
 ghost use Rattle.config_checks.specs.Nearest.{LacksRun, AreFar, IsNearest};
 ghost use Rattle.config_checks.specs.Suggestions.{SubsectionEdits, NameEdits, EditsAfter};
 ghost use Rattle.config_checks.specs.Suggestions.{OnePartEdits, RowEdits, Fills, FillsSubsection};
 ghost use Rattle.config_checks.specs.Suggestions.{FillsKey, IsShared, IsOwn};
 ghost use Rattle.config_checks.specs.Suggestions.{IsTopic, IsMoved, IsMovedRow, HasNone, IsFirstSuch};
-ghost use Rattle.config_checks.specs.Suggestions.{IsNowhere, IsElsewhere};
+ghost use Rattle.config_checks.specs.Suggestions.{IsNowhere, IsElsewhere, HasSlots, IsForeign};
+ghost use Rattle.config_checks.specs.Suggestions.{Suggests, nearest_of};
 ghost use Rattle.config_checks.specs.Rows.{IsUnknown, rows_of};
-ghost use Rattle.config_checks.specs.Reading.Steps.{IsFew};
+ghost use Rattle.config_checks.specs.Reading.Steps.{IsFew, IsRelation, AreRelations, IsSection};
 ghost use Rattle.config_checks.specs.Suggestions.{HasSection, IsPassed, IsUnknownKey, dotted};
 ghost use Rattle.config_checks.specs.Suggestions.{subsection_shown, after_shown, key_shown, asked, unknown_text};
 
-use crate::edits::{LONG, MOST_EDITS, few_edits, lacks_run, most_edits};
+use crate::edits::{LONG, MOST_EDITS, few_edits, lacks_run};
 use crate::finding::push_shown;
 use crate::key::{ANY, covers_name, covers_subsection, is_same_word};
 use crate::row::{Row, Run};
@@ -54,14 +57,14 @@ fn subsection_edits(
 }
 
 /// Three edits if one name is long and only lacks a run of bytes of the other, and otherwise `None`.
-fn edits_of_run(alloc: Global, row: &[u8], name: &[u8]) -> Result<Option<usize>, AllocError>
-    ensures { IfOk result (λ r. MatchOption r (¬ (LacksRun row.now name.now ⊎ LacksRun name.now row.now))
-        (λ n. (LacksRun row.now name.now ⊎ LacksRun name.now row.now) × (n ≡ 3))) }
+fn edits_of_run(row: &[u8], name: &[u8]) -> Option<usize>
+    ensures { MatchOption result (¬ (LacksRun row.now name.now ⊎ LacksRun name.now row.now))
+        (λ n. (LacksRun row.now name.now ⊎ LacksRun name.now row.now) × (n ≡ 3)) }
 {
-    if lacks_run(alloc, row, name)? || lacks_run(alloc, name, row)? {
-        return Ok(Some(MOST_EDITS));
+    if lacks_run(row, name) || lacks_run(name, row) {
+        return Some(MOST_EDITS);
     }
-    Ok(None)
+    None
 }
 
 /// How many edits lead from one name to the other, if they are near. If they are not, a missing run of
@@ -74,7 +77,7 @@ fn name_edits(alloc: Global, row: &Key<'_>, key: &Key<'_>) -> Result<Option<usiz
     }
     match key.subsection() {
         Some(_) => Ok(None),
-        None => edits_of_run(alloc, row.name(), key.name()),
+        None => Ok(edits_of_run(row.name(), key.name())),
     }
 }
 
@@ -90,47 +93,137 @@ fn edits_after(alloc: Global, row: &Key<'_>, key: &Key<'_>) -> Result<Option<usi
     }
 }
 
+/// How the section of rows is related to a section.
+#[derive(Clone, Copy)]
+enum Relation {
+    /// They are the same, ignoring ASCII case.
+    Same,
+    /// They are near, and this many edits apart.
+    Near(usize),
+    /// They are not near.
+    Far,
+}
+
+/// How the section of rows is related to a section.
+fn relation_between(alloc: Global, row: &[u8], section: &[u8]) -> Result<Relation, AllocError>
+    ensures { IfOk result (IsRelation row.now section.now) }
+{
+    if is_same_word(row, section) {
+        return Ok(Relation::Same);
+    }
+    match few_edits(alloc, LONG_SECTION, row, section)? {
+        Some(edits) => Ok(Relation::Near(edits)),
+        None => Ok(Relation::Far),
+    }
+}
+
+/// How the section of each run is related to a section.
+fn relations_of(
+    alloc: Global,
+    runs: &[Run<'_, '_>],
+    section: &[u8],
+) -> Result<Vec<Relation>, AllocError>
+    ensures { IfOk result (λ v. AreRelations runs.now section.now v.items) }
+{
+    let mut relations = Vec::new(alloc);
+    for run in runs {
+        relations.push(relation_between(alloc, run.section, section)?)?;
+    }
+    Ok(relations)
+}
+
+/// What is known of a section: how those of the runs are related to it. It is kept, since many keys have one
+/// section.
+#[derive(Drop)]
+pub(crate) struct Section {
+    name: Vec<u8>,
+    relations: Vec<Relation>,
+    /// Whether a row has the section.
+    is_known: bool,
+}
+
+/// What is known of a section.
+fn section_of(alloc: Global, runs: &[Run<'_, '_>], name: &[u8]) -> Result<Section, AllocError>
+    ensures { IfOk result (λ section. (section.name.items ≡ name.now) × IsSection runs.now section) }
+{
+    Ok(Section {
+        name: name.to_vec(alloc)?,
+        relations: relations_of(alloc, runs, name)?,
+        is_known: has_section(runs, name),
+    })
+}
+
+/// What is known of the section of this name: that of the last section, if it has this name, or what the rows say.
+pub(crate) fn recalled_section(
+    alloc: Global,
+    runs: &[Run<'_, '_>],
+    name: &[u8],
+    last: Option<Section>,
+) -> Result<Section, AllocError>
+    requires { IfSome last (IsSection runs.now) }
+    ensures { IfOk result (λ section. (section.name.items ≡ name.now) × IsSection runs.now section) }
+{
+    match last {
+        Some(section) if section.name.as_slice() == name => Ok(section),
+        _ => section_of(alloc, runs, name),
+    }
+}
+
+/// This number of edits if the key of a row covers a key but for its section, and otherwise `None`.
+fn edits_if_covered(edits: usize, row: &Key<'_>, key: &Key<'_>) -> Option<usize>
+    ensures { MatchOption result
+        (¬ (CoversSubsection (key_of row.now).subsection (key_of key.now).subsection
+        × CoversName (key_of row.now).name (key_of key.now).name))
+        (λ n. CoversSubsection (key_of row.now).subsection (key_of key.now).subsection
+        × CoversName (key_of row.now).name (key_of key.now).name × (n ≡ edits)) }
+{
+    if covers_name(row, key) && covers_subsection(row, key) {
+        Some(edits)
+    } else {
+        None
+    }
+}
+
 /// How many edits lead from the key of a row to a key. `None` unless the two keys are near, and so differ in
-/// exactly one part. `is_same` says whether the sections are the same.
+/// exactly one part. `relation` is that of their sections.
 fn one_part_edits(
     alloc: Global,
-    is_same: bool,
+    relation: Relation,
     row: &Key<'_>,
     key: &Key<'_>,
 ) -> Result<Option<usize>, AllocError>
-    requires { IsTrue is_same ↔ SameWord (key_of row.now).section (key_of key.now).section }
+    requires { IsRelation (key_of row.now).section (key_of key.now).section relation }
     ensures { IfOk result (λ r. IsFew (OnePartEdits (key_of row.now) (key_of key.now)) r) }
 {
-    if is_same {
-        return edits_after(alloc, row, key);
+    match relation {
+        Relation::Same => edits_after(alloc, row, key),
+        Relation::Near(edits) => Ok(edits_if_covered(edits, row, key)),
+        Relation::Far => Ok(None),
     }
-    if covers_name(row, key) && covers_subsection(row, key) {
-        return few_edits(alloc, LONG_SECTION, row.section(), key.section());
-    }
-    Ok(None)
 }
 
-/// The first of the rows whose keys are nearest to a key, or `None` if no row's key is near.
-// Most runs are skipped at once, since the lengths of the sections differ by too much.
+/// The first of the rows whose keys are nearest to a key, or `None` if no row's key is near. `relations` are
+/// those of the runs to the key's section.
+// Most runs are skipped at once, since their sections are far.
 fn nearest<'r, 't>(
     alloc: Global,
     runs: &[Run<'r, 't>],
+    relations: &[Relation],
     key: &Key<'_>,
 ) -> Result<Option<&'r Row<'t>>, AllocError>
+    requires { AreRelations runs.now (key_of key.now).section relations.now }
     ensures { IfOk result (λ r. MatchOption r (AreFar (RowEdits (key_of key.now)) (rows_of runs.now))
         (λ row. IsNearest (RowEdits (key_of key.now)) (rows_of runs.now) row.now)) }
 {
-    let section = key.section();
     let mut best = None;
     let mut least = MOST_EDITS + 1;
-    'runs: for run in runs {
-        let most = most_edits(LONG_SECTION, run.section, section);
-        if run.section.len().abs_diff(section.len()) > most {
+    'runs: for (place, run) in runs.iter().enumerate() {
+        let relation = relations[place];
+        if matches!(relation, Relation::Far) {
             continue;
         }
-        let is_same = is_same_word(run.section, section);
         'rows: for row in run.rows {
-            if let Some(edits) = one_part_edits(alloc, is_same, &row.key, key)? {
+            if let Some(edits) = one_part_edits(alloc, relation, &row.key, key)? {
                 if edits < least {
                     least = edits;
                     best = Some(row);
@@ -186,15 +279,14 @@ fn moved<'r, 't>(runs: &[Run<'r, 't>], key: &Key<'_>) -> Option<&'r Row<'t>>
     None
 }
 
-/// The first row that has the name of the key in another section. `None` unless a row has the key's section.
-fn elsewhere<'r, 't>(runs: &[Run<'r, 't>], key: &Key<'_>) -> Option<&'r Row<'t>>
+/// The first row that has the name of the key in another section. `None` unless a row has the key's section,
+/// which `is_known` says.
+fn elsewhere<'r, 't>(runs: &[Run<'r, 't>], is_known: bool, key: &Key<'_>) -> Option<&'r Row<'t>>
+    requires { IsTrue is_known ↔ HasSection (rows_of runs.now) (key_of key.now).section }
     ensures { MatchOption result (IsNowhere (rows_of runs.now) (key_of key.now))
         (λ row. IsElsewhere (rows_of runs.now) (key_of key.now) row.now) }
 {
-    if !has_section(runs, key.section()) {
-        return None;
-    }
-    moved(runs, key)
+    if is_known { moved(runs, key) } else { None }
 }
 
 /// The part of the key if the part of the row's key is `*`, and otherwise the row's part.
@@ -256,13 +348,49 @@ fn has_section(runs: &[Run<'_, '_>], section: &[u8]) -> bool
     false
 }
 
-/// Whether a key has no subsection, and a section of the rows that has no settings without a row.
-fn is_own(runs: &[Run<'_, '_>], key: &Key<'_>) -> bool
+/// The section whose subsections have no slots but those of rows.
+const COLOR: &[u8] = b"color";
+
+/// Whether a key has this subsection.
+fn is_within(key: &Key<'_>, subsection: &[u8]) -> bool
+    ensures { IsTrue result ↔ ((key_of key.now).subsection ≡ Some subsection.now) }
+{
+    match key.subsection() {
+        Some(other) => other == subsection,
+        None => false,
+    }
+}
+
+/// The first of these rows that has this subsection, or `None` if none has it.
+fn first_within<'r, 't>(rows: &'r [Row<'t>], subsection: &[u8]) -> Option<&'r Row<'t>>
+    ensures { MatchOption result
+        (HasNone (λ row. (key_of row.key).subsection ≡ Some subsection.now) rows.now)
+        (λ row. IsFirstSuch (λ row. (key_of row.key).subsection ≡ Some subsection.now) rows.now row.now) }
+{
+    rows.iter().find(|row| is_within(&row.key, subsection))
+}
+
+/// Whether a row of the section `color` has this subsection.
+fn has_slots(runs: &[Run<'_, '_>], subsection: &[u8]) -> bool
+    ensures { IsTrue result ↔ HasSlots (rows_of runs.now) subsection.now }
+{
+    for run in runs {
+        if is_same_word(run.section, COLOR) && first_within(run.rows, subsection).is_some() {
+            return true;
+        }
+    }
+    false
+}
+
+/// Whether only rows have settings where a key is: in its section if it has no subsection, and otherwise in
+/// its subsection of `color`. `is_known` says whether a row has its section.
+fn is_own(runs: &[Run<'_, '_>], is_known: bool, key: &Key<'_>) -> bool
+    requires { IsTrue is_known ↔ HasSection (rows_of runs.now) (key_of key.now).section }
     ensures { IsTrue result ↔ IsOwn (rows_of runs.now) (key_of key.now) }
 {
     match key.subsection() {
-        Some(_) => false,
-        None => !is_shared(key.section()) && has_section(runs, key.section()),
+        Some(subsection) => is_same_word(COLOR, key.section()) && has_slots(runs, subsection),
+        None => is_known && !is_shared(key.section()),
     }
 }
 
@@ -281,11 +409,37 @@ pub struct UnknownKey<'k> {
     pub nearest: Option<Key<'k>>,
 }
 
-/// Returns the unknown key if a check should report it: it is near the key of a row, or a row has its name in
-/// another section, or it has no subsection, and only rows have settings in its section. Two keys are near if
-/// they differ in exactly one part: by one edit, by two if the part is long in both or, in the name of a key
-/// without a subsection, by a missing run of bytes. Returns `None` for any other text, and an error if there
-/// is no memory.
+/// Returns what is said of a key that no row covers, if a check should report it: it is near the key of a row,
+/// or a row has its name in another section, or only rows have settings where it is: in its section if it has
+/// no subsection, and in its subsection of `color`. Two keys are near if they differ in exactly one part: by one
+/// edit, by two if the part is long in both or, in the name of a key without a subsection, by a missing
+/// run of bytes. Returns an error if there is no memory. `section` is that of the key.
+pub(crate) fn unknown_in<'k>(
+    alloc: Global,
+    runs: &[Run<'_, 'k>],
+    section: &Section,
+    key: &Key<'k>,
+) -> Result<Option<UnknownKey<'k>>, AllocError>
+    requires known { IsSection runs.now section.now }
+    requires same { section.now.name.items ≡ (key_of key.now).section }
+    ensures { IfOk result (λ r. MatchOption r (IsForeign (rows_of runs.now) (key_of key.now))
+        (λ k. Suggests (rows_of runs.now) (key_of key.now) (nearest_of k))) }
+{
+    if let Some(row) = nearest(alloc, runs, &section.relations, key)? {
+        return Ok(Some(UnknownKey {
+            nearest: Some(filled_key(&row.key, key)),
+        }));
+    }
+    match elsewhere(runs, section.is_known, key) {
+        Some(row) => Ok(Some(UnknownKey {
+            nearest: Some(filled_key(&row.key, key)),
+        })),
+        None if is_own(runs, section.is_known, key) => Ok(Some(UnknownKey { nearest: None })),
+        None => Ok(None),
+    }
+}
+
+/// Returns what is said of a text that no row covers, as a key. Returns `None` for a text without a dot.
 pub(crate) fn unknown_key<'k>(
     alloc: Global,
     runs: &[Run<'_, 'k>],
@@ -298,18 +452,8 @@ pub(crate) fn unknown_key<'k>(
     let Some(key) = Key::split(text) else {
         return Ok(None);
     };
-    if let Some(row) = nearest(alloc, runs, &key)? {
-        return Ok(Some(UnknownKey {
-            nearest: Some(filled_key(&row.key, &key)),
-        }));
-    }
-    match elsewhere(runs, &key) {
-        Some(row) => Ok(Some(UnknownKey {
-            nearest: Some(filled_key(&row.key, &key)),
-        })),
-        None if is_own(runs, &key) => Ok(Some(UnknownKey { nearest: None })),
-        None => Ok(None),
-    }
+    let section = section_of(alloc, runs, key.section())?;
+    unknown_in(alloc, runs, &section, &key)
 }
 
 /// Appends a part of a key and a dot.

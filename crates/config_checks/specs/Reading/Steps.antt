@@ -1,6 +1,9 @@
 -- What the steps of a check count, and what is received.
 use Rattle.std.specs.Prelude.{◌≡◌, ◌≢◌, ⊤, ℕ, ◌+◌, ◌^◌, ◌<◌, ◌≤◌, List, [], ◌∷◌, ◌++◌, Option, None, Some, option_map}
-use Rattle.std.specs.Prelude.{Bool, true, false}
+use Rattle.std.specs.Prelude.{Bool, true, false, IsTrue, ◌↔◌, IfSome, ◌==◌}
+use Rattle.std.specs.List.{AllZip, list_any}
+use Rattle.std.specs.Char.{to_ascii_lowercase}
+use Rattle.config_text.specs.SameWord.{SameWord}
 use Rattle.config_file.specs.declared.errors.FileError as errors
 use Rattle.config_checks.specs.declared.options.Options.{Options}
 use Rattle.config_checks.specs.declared.code.Code.TheVariants as kind
@@ -11,7 +14,12 @@ use Rattle.config_checks.specs.Findings.{Finding}
 use Rattle.config_checks.specs.declared.check.Said.{Said}
 use Rattle.config_checks.specs.declared.reason.Severity.TheVariants.{Warning}
 use Rattle.config_checks.specs.declared.suggestion.UnknownKey.{UnknownKey}
-use Rattle.config_checks.specs.Suggestions.{IsPassed, IsUnknownKey, unknown_text}
+use Rattle.config_checks.specs.declared.suggestion.Relation.{Relation}
+use Rattle.config_checks.specs.declared.suggestion.Relation.TheVariants as relations
+use Rattle.config_checks.specs.declared.suggestion.Section.{Section}
+use Rattle.config_checks.specs.declared.row.Run.{Run}
+use Rattle.config_checks.specs.Rows.{rows_of}
+use Rattle.config_checks.specs.Suggestions.{IsPassed, IsUnknownKey, unknown_text, SectionEdits, HasSection}
 use Rattle.config_checks.specs.Report.{ReportsSetting, Report, EndsReport, HasSettings, Receives, key_meant}
 
 -- the texts do not begin with the same byte
@@ -25,6 +33,14 @@ pub record AreRests (a b x y : List ℕ) : Type 0 where
   pub first : a ≡ front ++ x
   pub second : b ≡ front ++ y
   pub apart : AreApart x y
+
+-- the bytes are the same, ignoring ASCII case
+abbrev pub is_same_byte : ℕ → ℕ → Bool
+is_same_byte a b = to_ascii_lowercase a == to_ascii_lowercase b
+
+-- the text has the byte, ignoring ASCII case
+abbrev pub has_byte : List ℕ → ℕ → Bool
+has_byte text byte = list_any (is_same_byte byte) text
 
 -- no count is greater than that of the entries
 pub record AreWithin (s : Counts) : Type 0 where
@@ -106,3 +122,24 @@ pub record ReportsEntries (rows : List Row) (options : Options) (file text : Lis
 abbrev pub IsFew : (ℕ → Type 0) → Option ℕ → Type 0
 IsFew AreEdits None = (n : ℕ) → AreEdits n → 3 < n
 IsFew AreEdits (Some n) = AreEdits n × (n ≤ 3)
+
+-- ---- what is known of a section
+
+-- how the section of rows is related to a section
+abbrev pub IsRelation : List ℕ → List ℕ → Relation → Type 0
+IsRelation row section relations.Same = SameWord row section
+IsRelation row section (relations.Near n) = ¬ (SameWord row section) × (SectionEdits row section n × (n ≤ 3))
+IsRelation row section relations.Far = ¬ (SameWord row section) × ((n : ℕ) → SectionEdits row section n → 3 < n)
+
+-- each of these is how the section of a run is related to a section
+abbrev pub AreRelations : List Run → List ℕ → List Relation → Type 0
+AreRelations runs section = AllZip (λ run. IsRelation run.section.now section) runs
+
+-- what is known of a section holds for these runs
+pub record IsSection (runs : List Run) (s : Section) : Type 0 where
+  pub relations : AreRelations runs s.name.items s.relations.items
+  pub known : IsTrue s.is_known ↔ HasSection (rows_of runs) s.name.items
+
+-- what is said of a key, and what is known of a section if something is
+abbrev pub IsKept : List Run → Said → Type 0
+IsKept runs said = IsSaid (rows_of runs) said × IfSome said.section (IsSection runs)

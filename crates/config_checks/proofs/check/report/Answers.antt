@@ -15,7 +15,7 @@ returns-in_default-clause-ok g c =
     let text = option_map (λ t. t.items) c.in-Ok.said.reason in
     let meant = option_map (λ t. t.items) c.in-Ok.said.meant in
     let is = subst (IsUnknown rows) c.deref.ensures.value c.in_default.ensures in
-    let said = subst (λ k. IsSaidAs rows k text meant) (c.in-Ok.ensures.0 ∙ c.deref-in_default.ensures.value) c.in-Ok.ensures.1 in
+    let said = subst (λ k. IsSaidAs rows k text meant) (c.in-Ok.ensures.0 ∙ c.deref-in_default.ensures.value) c.in-Ok.ensures.1.0 in
     let reported = c.in_ok-give_said.ensures.reported in
     elim c.if-branch.branch [
       | then-branch w ↦ rw w.counts-is (rw w.with-counts.ensures (

@@ -1,11 +1,18 @@
 use Rattle.std.proofs.Common.{arith}
 use Rattle.std.proofs.lemmas.Int.{clamps}
 use Rattle.config_checks.proofs.NearestLemmas.{lengths_near}
+use Rattle.config_checks.proofs.LackLemmas.{lacking_edits}
+use Rattle.config_checks.proofs.edits.few_edits.Goals.{then-abs_diff-most-via-then-abs_diff-most, then-abs_diff-most-via-else-abs_diff-most+then-count_lacked-most}
 use Rattle.config_checks.proofs.edits.few_edits.Goals as goal
 
 pub returns-then-abs_diff-most : goal.returns-then-abs_diff-most
 returns-then-abs_diff-most c n few =
     let near = lengths_near c.args.from.now c.args.to.now n few.0 in
-    let far = c.if-abs_diff-most.true in
+    let lacking = lacking_edits c.args.from.now c.args.to.now n few.0 in
     let most = few.1 in
-    absurd (omega (arith, clamps, near.0, near.1, far, most, c.abs_diff.ensures, c.most_edits-most.ensures))
+    elim c.then-abs_diff-most.branch [
+      | then-abs_diff-most-via-then-abs_diff-most w ↦
+          absurd (omega (arith, clamps, near.0, near.1, w.if-abs_diff-most.true, most, c.abs_diff.ensures, c.most_edits-most.ensures))
+      | then-abs_diff-most-via-else-abs_diff-most+then-count_lacked-most w ↦
+          absurd (omega (arith, lacking, w.if-count_lacked-most.true, most, w.count_lacked.ensures, c.most_edits-most.ensures))
+    ]

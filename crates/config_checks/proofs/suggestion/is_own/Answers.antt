@@ -1,14 +1,11 @@
-use Rattle.std.proofs.Common.{sym, ◌∙◌}
-use Rattle.std.proofs.lemmas.Bool.{false≢true}
+use Rattle.std.proofs.Common.{sym}
+use Rattle.config_file.specs.KeyView.{key_of}
+use Rattle.config_checks.specs.Rows.{rows_of}
+use Rattle.config_checks.proofs.SuggestionLemmas.{own_slot}
 use Rattle.config_checks.proofs.suggestion.is_own.Goals as goal
 
-pub returns-then-not-is_shared : goal.returns-then-not-is_shared
-returns-then-not-is_shared c =
-    let shared = rw c.section.ensures at c.is_shared.ensures in
-    let has = rw c.section-then-not-is_shared.ensures at c.has_section.ensures in (
-      λ yes. (
-        sym c.in-None.ensures,
-        ((λ is. false≢true (sym c.if-not-is_shared.true ∙ shared.1 is)), has.0 yes),
-      ),
-      λ own. has.1 own.1.1,
-    )
+pub returns-then-is_same_word : goal.returns-then-is_same_word
+returns-then-is_same_word c =
+    let same = rw c.section.ensures at c.is_same_word.ensures in
+    own_slot (rows_of c.args.runs.now) (key_of c.args.key.now) c.in-Some.subsection.now c.has_slots.result
+    (sym c.in-Some.ensures) (same.0 c.if-is_same_word.true) c.has_slots.ensures

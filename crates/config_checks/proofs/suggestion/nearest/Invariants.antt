@@ -6,8 +6,8 @@ use Rattle.config_checks.proofs.NearestLemmas.{IsBest}
 use Rattle.config_checks.proofs.suggestion.nearest.Given as goal
 
 abbrev pub invariant-runs : goal.invariant-runs
-invariant-runs l = IsBest (RowEdits (key_of l.fn.key)) (rows_of (take l.run-index l.runs)) l.best l.least
+invariant-runs l = IsBest (RowEdits (key_of l.fn.key)) (rows_of (take l.place l.runs)) l.best l.least
 
 abbrev pub invariant-rows : goal.invariant-rows
 invariant-rows l =
-    IsBest (RowEdits (key_of l.fn.key)) (rows_of (take l.run-index l.runs) ++ take l.row-index l.row-items) l.best l.least
+    IsBest (RowEdits (key_of l.fn.key)) (rows_of (take l.place l.runs) ++ take l.row-index l.row-items) l.best l.least

@@ -1,0 +1,20 @@
+use Rattle.std.proofs.Common.{sym, subst, arith}
+use Rattle.std.proofs.lemmas.List.{take_all}
+use Rattle.config_checks.specs.Reading.Steps.{AreRelations, IsRelation}
+use Rattle.std.proofs.lemmas.Slice.Zip.{all_zipped_more}
+use Rattle.config_checks.specs.declared.row.Run.{Run}
+use Rattle.config_checks.specs.declared.suggestion.Relation.{Relation}
+use Rattle.config_checks.proofs.NearestLemmas.{take_more}
+use Rattle.config_checks.proofs.suggestion.relations_of.Goals as goal
+
+pub loop-run-preserved : goal.loop-run-preserved
+loop-run-preserved c =
+    let section = c.args.section.now in
+    let run = c.run-item.result in
+    rw (take_more c.args.runs.now c.loop-run.run-index run c.loop-run-test.true (sym c.run-item.is), c.in_ok-push.ensures.items)
+    (all_zipped_more (λ (run : Run) (r : Relation). IsRelation run.section.now section r) _ _ run c.in_ok-relation_between.field-0
+    c.loop-run.invariant c.in_ok-relation_between.ensures)
+
+pub returns : goal.returns
+returns c = subst (λ runs. AreRelations runs c.args.section.now c.loop-run.relations.items)
+    (take_all c.loop-run.run-index c.args.runs.now (omega (arith, c.loop-run-test.false))) c.loop-run.invariant

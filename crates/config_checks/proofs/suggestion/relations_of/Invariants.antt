@@ -1,0 +1,6 @@
+use Rattle.std.proofs.Common.{take}
+use Rattle.config_checks.specs.Reading.Steps.{AreRelations}
+use Rattle.config_checks.proofs.suggestion.relations_of.Given as goal
+
+abbrev pub invariant-loop-run : goal.invariant-loop-run
+invariant-loop-run l = AreRelations (take l.run-index l.runs) l.section l.relations.items
