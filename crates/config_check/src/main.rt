@@ -29,8 +29,8 @@ use config_host::{Disk, Users, arguments};
 use std::process::ExitCode;
 
 /// What a check knows of these users, if the list of them can be read.
-fn known<'u>(users: &'u Users<'_>) -> Option<paths::Users<'u>> {
-    Some(paths::Users {
+fn known<'u>(users: &'u Users<'_>) -> Option<paths::KnownUsers<'u>> {
+    Some(paths::KnownUsers {
         has_home: users.home.is_some(),
         passwd: users.passwd?,
     })

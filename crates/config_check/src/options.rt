@@ -5,7 +5,7 @@ use clap::{Arg, ArgAction, ArgMatches, Command};
 use config_checks::code::Code;
 use config_checks::git::NEWEST;
 use config_checks::options::Options;
-use config_checks::paths::Users;
+use config_checks::paths::KnownUsers;
 use config_checks::reason::Severity;
 use config_checks::version::Version;
 use config_file::key::Key;
@@ -315,7 +315,7 @@ impl<'r, 'm: 'r> Asked<'r, 'm> {
         rt: &HostRuntime,
         matches: &'r ArgMatches<'m>,
         ignored: &'r [Ignored<'m>],
-        users: Option<Users<'r>>,
+        users: Option<KnownUsers<'r>>,
     ) -> Result<Asked<'r, 'm>, Failure<'m>> {
         Ok(Asked {
             options: Options {

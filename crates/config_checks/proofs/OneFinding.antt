@@ -21,7 +21,7 @@ use Rattle.config_checks.specs.declared.kind.WordList.{WordList}
 use Rattle.config_checks.specs.declared.kind.SettingKind.{SettingKind}
 use Rattle.config_checks.specs.declared.kind.SettingKind.TheVariants as kinds
 use Rattle.config_checks.specs.declared.options.Options.{Options}
-use Rattle.config_checks.specs.declared.paths.Users.{Users}
+use Rattle.config_checks.specs.declared.paths.KnownUsers.{KnownUsers}
 use Rattle.config_checks.specs.declared.row.Row.{Row}
 use Rattle.config_checks.specs.declared.reason.Reason.{Reason}
 use Rattle.config_checks.specs.declared.reason.Reason.TheVariants.{NoValue, Refused, OutOfRange, NoWord, NoHome, IsNot, NotCanonical}
@@ -146,7 +146,7 @@ words_once list t (Some _) b p q = absurd p
 
 -- ---- paths
 
-path_once : (users : Option Users) (t : List ℕ) (a b : Option Reason) → IsJudgedPath users t a → IsJudgedPath users t b → a ≡ b
+path_once : (users : Option KnownUsers) (t : List ℕ) (a b : Option Reason) → IsJudgedPath users t a → IsJudgedPath users t b → a ≡ b
 path_once users t None None p q = refl
 path_once users t None (Some NoHome) p q = absurd (p q)
 path_once users t None (Some _) p q = absurd q
@@ -163,7 +163,7 @@ int_once t a b p q = elim (amount_decided t) [
   | inr none ↦ judged_once BooleanText (OnlyFault faults.Boolean) t (always_once faults.Boolean t) a b (p.other none) (q.other none)
 ]
 
-text_judged_once : (users : Option Users) (kind : SettingKind) (t : List ℕ) (a b : Option Reason) → IsJudgedText users kind t a
+text_judged_once : (users : Option KnownUsers) (kind : SettingKind) (t : List ℕ) (a b : Option Reason) → IsJudgedText users kind t a
     → IsJudgedText users kind t b → IsSameFinding a b
 text_judged_once users kinds.Text t a b p q = as_same a b (p ∙ sym q)
 text_judged_once users kinds.Bool t a b p q = as_same a b (int_once t a b p q)
@@ -189,7 +189,7 @@ alone_once : (takes : Bool) (row : Row) (a b : Option Reason) → IsJudgedAlone 
 alone_once true row a b p q = comparison_once row.wanted row.kind (codes "true") a b p q
 alone_once false row a b p q = p ∙ sym q
 
-module _ (users : Option Users) (row : Row) where
+module _ (users : Option KnownUsers) (row : Row) where
   row_judged_once : (t : List ℕ) (a b : Option Reason) → IsJudgedByRow users row t a → IsJudgedByRow users row t b
       → IsSameFinding a b
   row_judged_once t a b (refused r p is) (refused s q also) =

@@ -18,7 +18,7 @@ use Rattle.config_checks.specs.declared.kind.WordList.{WordList}
 use Rattle.config_checks.specs.declared.kind.SettingKind.{SettingKind}
 use Rattle.config_checks.specs.declared.kind.SettingKind.TheVariants as kinds
 use Rattle.config_checks.specs.declared.options.Options.{Options}
-use Rattle.config_checks.specs.declared.paths.Users.{Users}
+use Rattle.config_checks.specs.declared.paths.KnownUsers.{KnownUsers}
 use Rattle.config_checks.specs.declared.row.Row.{Row}
 use Rattle.config_checks.specs.declared.reason.Reason.{Reason}
 use Rattle.config_checks.specs.declared.reason.Reason.TheVariants.{NoValue, Refused, OutOfRange, NoWord, NoHome, IsNot}
@@ -102,14 +102,14 @@ IsJudgedByWords list t (Some (NoWord l meant)) = (l.now ≡ list) × ¬ (IsTaken
 IsJudgedByWords list t (Some _) = ⊥
 
 -- no reason unless these users lack the home directory that the path begins with
-abbrev pub IsJudgedPath : Option Users → List ℕ → Option Reason → Type 0
+abbrev pub IsJudgedPath : Option KnownUsers → List ℕ → Option Reason → Type 0
 IsJudgedPath users t None = ¬ (IsHomeless users t)
 IsJudgedPath users t (Some NoHome) = IsHomeless users t
 IsJudgedPath users t (Some _) = ⊥
 
 -- ---- why a setting is wrong by its row, if it is wrong
 
-abbrev pub IsJudgedText : Option Users → SettingKind → List ℕ → Option Reason → Type 0
+abbrev pub IsJudgedText : Option KnownUsers → SettingKind → List ℕ → Option Reason → Type 0
 IsJudgedText users kinds.Text t r = r ≡ None
 IsJudgedText users kinds.Bool t r = IsJudgedBool t r
 IsJudgedText users (kinds.Int low high) t r = IsJudgedWithin low high t r
@@ -155,7 +155,7 @@ IsComparedTo (Some wanted) kind t (Some (IsNot w)) = (w ≡ wanted) × ¬ (MeanS
 IsComparedTo (Some wanted) kind t (Some _) = ⊥
 
 -- why a value is wrong by its row: its kind does not take it, or the row wants another one
-pub data IsJudgedByRow (users : Option Users) (row : Row) (t : List ℕ) (r : Option Reason) : Type 0 where
+pub data IsJudgedByRow (users : Option KnownUsers) (row : Row) (t : List ℕ) (r : Option Reason) : Type 0 where
   refused : (reason : Reason) → IsJudgedText users row.kind t (Some reason) → r ≡ Some reason → IsJudgedByRow users row t r
   taken : IsJudgedText users row.kind t None → IsComparedTo row.wanted row.kind t r → IsJudgedByRow users row t r
 
@@ -164,7 +164,7 @@ abbrev pub IsJudgedAlone : (takes_no_value : Bool) → Row → Option Reason →
 IsJudgedAlone true row r = IsComparedTo row.wanted row.kind (codes "true") r
 IsJudgedAlone false row r = r ≡ Some NoValue
 
-abbrev pub HasReason : Option Users → Row → Option (List ℕ) → Option Reason → Type 0
+abbrev pub HasReason : Option KnownUsers → Row → Option (List ℕ) → Option Reason → Type 0
 HasReason users row None r = IsJudgedAlone row.takes_no_value row r
 HasReason users row (Some t) r = IsJudgedByRow users row t r
 

@@ -20,7 +20,7 @@ use crate::options::Options;
 use crate::reason::{Reason, Severity, find};
 use crate::row::{Row, Run};
 use crate::setting::Setting;
-use crate::suggestion::{Section, push_unknown, recalled_section, unknown_in};
+use crate::suggestion::{SectionFacts, push_unknown, recalled_section, unknown_in};
 use config_file::errors::FileError;
 use config_file::key::Key;
 use config_file::reader::Entries;
@@ -192,7 +192,7 @@ struct Said {
     /// The key that is suggested, if there is one.
     meant: Option<Vec<u8>>,
     /// What is known of a section, which is mostly that of the key.
-    section: Option<Section>,
+    section: Option<SectionFacts>,
 }
 
 /// What is said of a key that no row covers, with these parts.
@@ -201,7 +201,7 @@ fn said_of_parts(
     runs: &[Run<'_, '_>],
     key: &[u8],
     parts: &Key<'_>,
-    section: Section,
+    section: SectionFacts,
 ) -> Result<Said, AllocError>
     requires unknown { IsUnknown (rows_of runs.now) key.now }
     requires parts { IsCut key.now (key_of parts.now) }
@@ -236,7 +236,7 @@ fn said_of(
     alloc: Global,
     runs: &[Run<'_, '_>],
     key: &[u8],
-    last: Option<Section>,
+    last: Option<SectionFacts>,
 ) -> Result<Said, AllocError>
     requires unknown { IsUnknown (rows_of runs.now) key.now }
     requires last { IfSome last (IsSection runs.now) }

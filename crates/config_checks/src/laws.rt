@@ -4,7 +4,7 @@ ghost use Rattle.std.specs.Prelude.{◌≡◌, ◌++◌, ℕ, List, Option};
 ghost use Rattle.config_checks.specs.declared.reason.Reason.{Reason};
 ghost use Rattle.config_checks.specs.declared.options.Options.{Options};
 ghost use Rattle.config_checks.specs.declared.row.Row.{Row};
-ghost use Rattle.config_checks.specs.declared.paths.Users.{Users};
+ghost use Rattle.config_checks.specs.declared.paths.KnownUsers.{KnownUsers};
 ghost use Rattle.config_checks.specs.declared.check.Counts.{Counts};
 ghost use Rattle.config_checks.specs.Findings.{Finding};
 ghost use Rattle.config_checks.specs.Reasons.{HasReason, HasFinding, IsSameFinding};
@@ -14,7 +14,7 @@ pub mod clones;
 
 /// The definitions give each value of a setting one result: one reason why it is wrong, or no reason.
 pub fn one_reason()
-    ensures { (users : Option Users) (row : Row) (value : Option (List ℕ)) (a b : Option Reason)
+    ensures { (users : Option KnownUsers) (row : Row) (value : Option (List ℕ)) (a b : Option Reason)
         → HasReason users row value a → HasReason users row value b → IsSameFinding a b }
 {}
 

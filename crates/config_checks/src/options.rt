@@ -1,6 +1,6 @@
 //! The options of a check.
 
-use crate::paths::Users;
+use crate::paths::KnownUsers;
 use crate::version::Version;
 
 /// The options of a check.
@@ -19,5 +19,5 @@ pub struct Options<'u> {
     /// Whether valid values are also reported if they should be spelled in another way.
     pub canonical: bool,
     /// The users whose home directories paths may begin with. If none are known, each path is right.
-    pub users: Option<Users<'u>>,
+    pub users: Option<KnownUsers<'u>>,
 }

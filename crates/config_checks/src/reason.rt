@@ -1,6 +1,6 @@
 //! Why the value of a setting is wrong, and how a valid value should be spelled.
 ghost use Rattle.std.specs.Prelude.{◌≡◌, ◌↔◌, IsTrue, IfOk, MatchOption, Option, option_copied, None, Some};
-ghost use Rattle.config_checks.specs.declared.paths.Users as declared;
+ghost use Rattle.config_checks.specs.declared.paths.KnownUsers as declared;
 ghost use Rattle.config_text.specs.declared.errors.Fault.TheVariants as faults;
 ghost use Rattle.gix_config_value.specs.Kinds.{KindGrammar, KindCanonical};
 ghost use Rattle.config_text.specs.Value.{IsAccepted};
@@ -23,7 +23,7 @@ use crate::edits::{LONG, MOST_EDITS, few_edits};
 use crate::key::is_same_word;
 use crate::kind::{Form, SettingKind, WordList, pattern_front};
 use crate::options::Options;
-use crate::paths::{Users, is_homeless};
+use crate::paths::{KnownUsers, is_homeless};
 use crate::row::Row;
 use crate::version::Version;
 use bstr::BStr;
@@ -243,7 +243,7 @@ fn word_reason<'r, 't>(
 }
 
 /// That a path begins with a home directory that is not there, or `None` if it does not.
-fn path_reason<'r, 't>(users: Option<Users<'_>>, path: &[u8]) -> Option<Reason<'r, 't>>
+fn path_reason<'r, 't>(users: Option<KnownUsers<'_>>, path: &[u8]) -> Option<Reason<'r, 't>>
     ensures { IsJudgedPath users.entry path.now result }
 {
     if is_homeless(users, path) {
@@ -255,7 +255,7 @@ fn path_reason<'r, 't>(users: Option<Users<'_>>, path: &[u8]) -> Option<Reason<'
 /// Why a text is wrong as a value of this kind, or `None` if it is right.
 fn text_reason<'r, 't>(
     alloc: Global,
-    users: Option<Users<'_>>,
+    users: Option<KnownUsers<'_>>,
     kind: &'r SettingKind<'t>,
     text: &[u8],
 ) -> Result<Option<Reason<'r, 't>>, AllocError>
@@ -361,7 +361,7 @@ fn no_value_reason<'r, 't>(row: &Row<'t>) -> Option<Reason<'r, 't>>
 /// alone. Returns an error if there is no memory to find the nearest word.
 pub fn judge<'r, 't>(
     alloc: Global,
-    users: Option<Users<'_>>,
+    users: Option<KnownUsers<'_>>,
     row: &'r Row<'t>,
     value: Option<&[u8]>,
 ) -> Result<Option<Reason<'r, 't>>, AllocError>
@@ -445,7 +445,7 @@ fn respelled_word<'r, 't>(list: &WordList<'t>, text: &[u8]) -> Option<Reason<'r,
 
 /// The canonical text of a valid value, or `None` if the value is canonical.
 fn respelled<'r, 't>(kind: &SettingKind<'t>, text: &[u8]) -> Option<Reason<'r, 't>>
-    requires { (users : Option declared.Users) × IsJudgedText users kind.now text.now None }
+    requires { (users : Option declared.KnownUsers) × IsJudgedText users kind.now text.now None }
     ensures { HasSpelling kind.now (Some text.now) result }
 {
     match kind {
@@ -482,7 +482,7 @@ fn remark<'r, 't>(
     value: Option<&[u8]>,
     wants_canonical: bool,
 ) -> Option<Reason<'r, 't>>
-    requires { (users : Option declared.Users) × HasReason users row.now (option_copied value) None }
+    requires { (users : Option declared.KnownUsers) × HasReason users row.now (option_copied value) None }
     ensures { IsRemark wants_canonical row.now (option_copied value.entry) result }
 {
     if let Some(instead) = row.instead {

@@ -135,7 +135,7 @@ fn relations_of(
 /// What is known of a section: how those of the runs are related to it. It is kept, since many keys have one
 /// section.
 #[derive(Drop)]
-pub(crate) struct Section {
+pub(crate) struct SectionFacts {
     name: Vec<u8>,
     relations: Vec<Relation>,
     /// Whether a row has the section.
@@ -143,10 +143,10 @@ pub(crate) struct Section {
 }
 
 /// What is known of a section.
-fn section_of(alloc: Global, runs: &[Run<'_, '_>], name: &[u8]) -> Result<Section, AllocError>
+fn section_of(alloc: Global, runs: &[Run<'_, '_>], name: &[u8]) -> Result<SectionFacts, AllocError>
     ensures { IfOk result (λ section. (section.name.items ≡ name.now) × IsSection runs.now section) }
 {
-    Ok(Section {
+    Ok(SectionFacts {
         name: name.to_vec(alloc)?,
         relations: relations_of(alloc, runs, name)?,
         is_known: has_section(runs, name),
@@ -158,8 +158,8 @@ pub(crate) fn recalled_section(
     alloc: Global,
     runs: &[Run<'_, '_>],
     name: &[u8],
-    last: Option<Section>,
-) -> Result<Section, AllocError>
+    last: Option<SectionFacts>,
+) -> Result<SectionFacts, AllocError>
     requires { IfSome last (IsSection runs.now) }
     ensures { IfOk result (λ section. (section.name.items ≡ name.now) × IsSection runs.now section) }
 {
@@ -417,7 +417,7 @@ pub struct UnknownKey<'k> {
 pub(crate) fn unknown_in<'k>(
     alloc: Global,
     runs: &[Run<'_, 'k>],
-    section: &Section,
+    section: &SectionFacts,
     key: &Key<'k>,
 ) -> Result<Option<UnknownKey<'k>>, AllocError>
     requires known { IsSection runs.now section.now }

@@ -16,7 +16,7 @@ use Rattle.config_checks.specs.declared.reason.Severity.TheVariants.{Warning}
 use Rattle.config_checks.specs.declared.suggestion.UnknownKey.{UnknownKey}
 use Rattle.config_checks.specs.declared.suggestion.Relation.{Relation}
 use Rattle.config_checks.specs.declared.suggestion.Relation.TheVariants as relations
-use Rattle.config_checks.specs.declared.suggestion.Section.{Section}
+use Rattle.config_checks.specs.declared.suggestion.SectionFacts.{SectionFacts}
 use Rattle.config_checks.specs.declared.row.Run.{Run}
 use Rattle.config_checks.specs.Rows.{rows_of}
 use Rattle.config_checks.specs.Suggestions.{IsPassed, IsUnknownKey, unknown_text, SectionEdits, HasSection}
@@ -136,7 +136,7 @@ abbrev pub AreRelations : List Run → List ℕ → List Relation → Type 0
 AreRelations runs section = AllZip (λ run. IsRelation run.section.now section) runs
 
 -- what is known of a section holds for these runs
-pub record IsSection (runs : List Run) (s : Section) : Type 0 where
+pub record IsSection (runs : List Run) (s : SectionFacts) : Type 0 where
   pub relations : AreRelations runs s.name.items s.relations.items
   pub known : IsTrue s.is_known ↔ HasSection (rows_of runs) s.name.items
 

@@ -9,7 +9,7 @@ use crate::fix::Fix;
 use crate::kind::Form;
 use crate::options::Options;
 use crate::outcome::Outcome;
-use crate::paths::Users;
+use crate::paths::KnownUsers;
 use crate::reason::{Reason, Severity};
 use crate::row::Run;
 use crate::suggestion::UnknownKey;
@@ -46,7 +46,7 @@ pub fn findings()
 
 /// A clone of the options, the users or the counts of a check is the same, and never fails.
 pub fn checks()
-    ensures users { IsCopied ⟦<Users<'static> as Clone>⟧.is_clone ⟦<Users<'static> as Clone>⟧.is_infallible }
+    ensures users { IsCopied ⟦<KnownUsers<'static> as Clone>⟧.is_clone ⟦<KnownUsers<'static> as Clone>⟧.is_infallible }
     ensures options { IsCopied ⟦<Options<'static> as Clone>⟧.is_clone
         ⟦<Options<'static> as Clone>⟧.is_infallible }
     ensures counts { IsCopied ⟦<Counts as Clone>⟧.is_clone ⟦<Counts as Clone>⟧.is_infallible }
