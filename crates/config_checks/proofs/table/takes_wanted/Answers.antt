@@ -1,4 +1,4 @@
-use Rattle.std.proofs.Common.{Some, rules}
+use Rattle.std.proofs.Common.{None, Some, rules}
 use Rattle.std.proofs.lemmas.Bool.{false≢true}
 use Rattle.config_checks.proofs.OneFinding.{reason_or_none}
 use Rattle.config_checks.proofs.table.takes_wanted.Goals as goal
