@@ -92,11 +92,12 @@ def included(group, program, home, known):
 
 def stops(group, program, folder, known):
     """Includes at which Git stops are errors, an unknown condition is a warning, and a missing file a note."""
-    text = "[include]\n\tpath = ~no-such-user/x\n\tpath = .\n\tpath = none\n[includeIf \"gitdr:x\"]\n\tpath = none\n"
+    text = ("[include]\n\tpath = ~no-such-user/x\n\tpath = .\n\tpath = none\n\tpath = ~daemon/none\n\tpath = %(prefix)/none\n"
+            "[includeIf \"gitdr:x\"]\n\tpath = none\n")
     (folder / "stops").write_text(text + PATH % "stops")
     came = run([program.path, "stops"], cwd=folder, env=known)
     found = [line.split(": ")[0].split(":")[1] + line.split(": ")[1] for line in came.output.decode().splitlines()]
-    group.expect("stops", ["2error", "3error", "4note", "6warning", "6note", "8error"], found)
+    group.expect("stops", ["2error", "3error", "4note", "5note", "8warning", "8note", "10error"], found)
 
 
 def check(group, program):
