@@ -49,6 +49,9 @@ Exit status:
   1  something is found that counts: by --fail-on
   2  a file cannot be read or written, or an argument or a row of --settings is wrong
 
+With --fix a file keeps its mode, and becomes one of the user who runs this, as with Git: run it as the user \
+whose file it is.
+
 Install it as git-config-check, and call it by that name: by `git config-check` Git stops first at many \
 errors.";
 
