@@ -101,16 +101,23 @@ impl<'t, W: Write + Drop> Reading<'_, '_, '_, '_, 't, W> {
             self.output.clear();
         }
         let value = shown_value(outcome, setting, &self.text);
-        let listed = Listed {
+        let place = Listed {
             scope: setting.scope,
             file: setting.file,
             line: setting.entry.line,
-            key: match key {
-                Some(key) => Name::Text(key),
-                None => Name::Of(&setting.entry),
-            },
         };
-        push_as_git(&mut self.output, self.request, origin, listed, value)?;
+        let (output, request) = (&mut self.output, self.request);
+        match key {
+            Some(key) => push_as_git(output, request, origin, place, Name::Text(key), value)?,
+            None => push_as_git(
+                output,
+                request,
+                origin,
+                place,
+                Name::Of(&setting.entry),
+                value,
+            )?,
+        }
         Ok(outcome)
     }
 
@@ -122,21 +129,21 @@ impl<'t, W: Write + Drop> Reading<'_, '_, '_, '_, 't, W> {
         entry: &Entry<'t>,
         value: Option<&[u8]>,
     ) -> Result<(), AllocError> {
-        let listed = Listed {
+        let place = Listed {
             scope,
             file,
             line: entry.line,
-            key: Name::Of(entry),
         };
-        if matches!(self.request.style, Style::Places) {
-            return push_entry(&mut self.output, self.request, listed, value);
+        let (output, request, name) = (&mut self.output, self.request, Name::Of(entry));
+        if matches!(request.style, Style::Places) {
+            return push_entry(output, request, place, name, value);
         }
-        let origin = if self.request.shows_origin {
+        let origin = if request.shows_origin {
             origin_of(&self.sources, scope, file)
         } else {
             Origin::File
         };
-        push_as_git(&mut self.output, self.request, origin, listed, value)
+        push_as_git(output, request, origin, place, name, value)
     }
 
     /// Lists a setting with its value as one of its type, or keeps it if it is asked for. As in Git, a list

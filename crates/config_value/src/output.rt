@@ -65,20 +65,20 @@ impl Name<'_, '_> {
     }
 }
 
-/// What is listed of an entry besides its value: the scope and the name of its file, its line, and its key.
+/// Where an entry is that is listed: the scope and the name of its file, and its line.
 #[derive(Clone, Copy)]
-pub struct Listed<'s, 't> {
+pub struct Listed<'s> {
     pub scope: Scope,
     pub file: &'s [u8],
     pub line: usize,
-    pub key: Name<'s, 't>,
 }
 
 /// Appends an entry after its file and its line.
 pub fn push_entry(
     line: &mut Vec<u8>,
     request: &Request<'_, '_>,
-    listed: Listed<'_, '_>,
+    listed: Listed<'_>,
+    key: Name<'_, '_>,
     value: Option<&[u8]>,
 ) -> Result<(), AllocError> {
     let (place, equals, end) = if request.null {
@@ -91,7 +91,7 @@ pub fn push_entry(
     line.push(b':')?;
     line.extend_from_slice(Buffer::new().format(listed.line).as_bytes())?;
     line.extend_from_slice(place)?;
-    listed.key.push_to(line)?;
+    key.push_to(line)?;
     if let Some(value) = value {
         line.push(equals)?;
         line.extend_from_slice(value)?;
@@ -186,7 +186,8 @@ pub fn push_as_git(
     line: &mut Vec<u8>,
     request: &Request<'_, '_>,
     origin: Origin,
-    listed: Listed<'_, '_>,
+    listed: Listed<'_>,
+    key: Name<'_, '_>,
     value: Option<&[u8]>,
 ) -> Result<(), AllocError> {
     let null = request.null;
@@ -195,7 +196,7 @@ pub fn push_as_git(
         push_origin(line, null, origin, listed.file)?;
     }
     if request.shows_names {
-        listed.key.push_to(line)?;
+        key.push_to(line)?;
     }
     if let Some(value) = value {
         if request.shows_values {
