@@ -1,4 +1,4 @@
-"""Measures how the program's time grows with its input: python3 growth.py PROGRAM [--runs N].
+"""Measures how the program's time grows with its input: python3 growth.py PROGRAM [--check CHECK] [--runs N].
 
 Each input is measured in turn at its size and at twice that size. The result is the least processor time of all runs,
 minus that of an empty input. A ratio near 2 says that the time grows as the input does. A long line takes less time
@@ -9,6 +9,7 @@ and the number of its keys, or the pattern of a condition and the name of the br
 says that the time grows as their product.
 """
 import argparse
+import functools
 import os
 import pathlib
 import subprocess
@@ -33,6 +34,15 @@ class Lines(Given):
         self.file = tempfile.TemporaryFile()
         self.file.write(data)
         self.file.flush()
+
+
+class Unknown(Lines):
+    """A file with this many keys that no row of `config_check` has, in one section."""
+
+    words = ["-q", "-"]
+
+    def __init__(self, header, size):
+        super().__init__(header + b"".join(b"\tkey%d = 1\n" % number for number in range(size)))
 
 
 class Condition(Given):
@@ -135,6 +145,13 @@ INPUTS = [
     ("`*` and a set of `[:` that is not closed", 2_000, lambda size: Condition("*[" + "[:" * size, "a" * size)),
 ]
 
+# the same for `config_check`
+CHECKED = [
+    ("unknown keys of a section near one of Git", 500_000, functools.partial(Unknown, b"[coer]\n")),
+    ("unknown keys of `core`", 100_000, functools.partial(Unknown, b"[core]\n")),
+    ("unknown slots of `color.status`", 100_000, functools.partial(Unknown, b'[color "status"]\n')),
+]
+
 
 def seconds(program, given):
     """The processor time of one run, user and system."""
@@ -148,22 +165,30 @@ def seconds(program, given):
     return usage.ru_utime + usage.ru_stime
 
 
+def measure(program, empty, inputs, runs):
+    """Prints a row for each input."""
+    nothing = min(seconds(program, empty) for _ in range(50))
+    for what, size, made in inputs:
+        once, twice = made(size), made(2 * size)
+        least = [float("inf"), float("inf")]
+        for _ in range(runs):
+            least[0] = min(least[0], seconds(program, once))
+            least[1] = min(least[1], seconds(program, twice))
+        first, second = (1000 * max(taken - nothing, 1e-6) for taken in least)
+        print(f"| {what} | {size:,} | {first:.2f} | {2 * size:,} | {second:.2f} | {second / first:.2f} |", flush=True)
+
+
 def main():
     arguments = argparse.ArgumentParser()
     arguments.add_argument("program", type=os.path.abspath)
+    arguments.add_argument("--check", type=os.path.abspath)
     arguments.add_argument("--runs", type=int, default=15)
     arguments = arguments.parse_args()
-    nothing = min(seconds(arguments.program, Lines(b"")) for _ in range(50))
     print("| Input | Size | ms | Twice | ms | Ratio |")
     print("|---|---|---|---|---|---|")
-    for what, size, made in INPUTS:
-        once, twice = made(size), made(2 * size)
-        least = [float("inf"), float("inf")]
-        for _ in range(arguments.runs):
-            least[0] = min(least[0], seconds(arguments.program, once))
-            least[1] = min(least[1], seconds(arguments.program, twice))
-        first, second = (1000 * max(taken - nothing, 1e-6) for taken in least)
-        print(f"| {what} | {size:,} | {first:.2f} | {2 * size:,} | {second:.2f} | {second / first:.2f} |", flush=True)
+    measure(arguments.program, Lines(b""), INPUTS, arguments.runs)
+    if arguments.check:
+        measure(arguments.check, Unknown(b"", 0), CHECKED, arguments.runs)
 
 
 if __name__ == "__main__":
