@@ -6,7 +6,7 @@ use Rattle.config_file.specs.File.{Entry}
 use Rattle.config_file.specs.Include.{SpellsCondition, IsRemoteUrl}
 use Rattle.config_file.specs.Subsection.{SpellsSubsection}
 use Rattle.config_file.specs.declared.include.Condition.{Condition}
-use Rattle.gix_config_value_c.specs.Roles.{SpellsCondition, HasRole, asks_urls}
+use Rattle.gix_config_value_c.specs.Roles.{HasCondition, HasRole, asks_urls}
 use Rattle.gix_config_value_c.specs.Roles.HasRole.{plain}
 use Rattle.gix_config_value_c.specs.declared.roles.Role.TheVariants.{Plain}
 
@@ -33,6 +33,6 @@ other_section entry name subsection no_url is differs = plain no_url
 -- the condition that the text of a subsection names is the one that its bytes spell
 pub spells_condition : (raw text : List ℕ) (c : Condition) (asks : Bool)
     → ((spelled : List ℕ) → SpellsSubsection raw spelled → text ≡ spelled) → SpellsCondition text c → asks_urls c ≡ asks
-    → SpellsCondition raw asks
+    → HasCondition raw asks
 spells_condition raw text c asks same names is =
     λ spelled spells. (c, subst (λ t. SpellsCondition t c) (same spelled spells) names, is)

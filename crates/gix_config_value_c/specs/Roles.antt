@@ -20,13 +20,13 @@ asks_urls (HasRemoteUrl pattern) = true
 asks_urls condition = false
 
 -- these bytes spell a condition that asks about the URLs of remotes, or that does not, by the flag
-abbrev pub SpellsCondition : List ℕ → Bool → Type 0
-SpellsCondition raw asks = (text : List ℕ) → SpellsSubsection raw text
+abbrev pub HasCondition : List ℕ → Bool → Type 0
+HasCondition raw asks = (text : List ℕ) → SpellsSubsection raw text
     → (condition : Condition) × SpellsCondition text condition × (asks_urls condition ≡ asks)
 
 -- the role of an entry: the URL of a remote, or an entry of a section with a condition, whatever its key
 pub data HasRole (entry : Entry) : Role → Type 0 where
   remote_url : IsRemoteUrl entry → HasRole entry roles.RemoteUrl
-  condition : (raw : List ℕ) → IsInIncludeIf raw entry → SpellsCondition raw false → HasRole entry roles.Condition
-  url_condition : (raw : List ℕ) → IsInIncludeIf raw entry → SpellsCondition raw true → HasRole entry roles.UrlCondition
+  condition : (raw : List ℕ) → IsInIncludeIf raw entry → HasCondition raw false → HasRole entry roles.Condition
+  url_condition : (raw : List ℕ) → IsInIncludeIf raw entry → HasCondition raw true → HasRole entry roles.UrlCondition
   plain : ¬ (IsRemoteUrl entry) → ((raw : List ℕ) → ¬ (IsInIncludeIf raw entry)) → HasRole entry roles.Plain
