@@ -22,7 +22,7 @@ pub(crate) struct Mended {
 #[derive(Drop)]
 pub(crate) struct Mender<'c, 't> {
     pub(crate) judge: &'c Judge<'c, 'c>,
-    pub(crate) options: Options<'c>,
+    pub(crate) options: Options<'t>,
     pub(crate) file: &'t str,
     entries: Entries<'t>,
     passed: u64,
@@ -35,7 +35,7 @@ impl<'c, 't> Mender<'c, 't> {
     pub(crate) fn new(
         alloc: Global,
         judge: &'c Judge<'c, 'c>,
-        options: Options<'c>,
+        options: Options<'t>,
         file: &'t str,
         text: &'t [u8],
     ) -> Mender<'c, 't> {

@@ -16,15 +16,16 @@ use config_checks::code::Code;
 use config_checks::finding::{Finding, key_text};
 use config_checks::fix::Judge;
 use config_checks::key::covers;
+use config_checks::options::Options;
 use config_checks::outcome::Outcome;
-use config_checks::paths::is_homeless;
+use config_checks::paths::{self, is_homeless};
 use config_checks::reason::Severity;
 use config_checks::row::Row;
 use config_checks::setting::Setting;
 use config_file::key::Key;
 use config_file::{Condition, Content, Entries, Entry, FilePlace, Files, Include, Step, Walk};
 use config_host::surroundings::Followed;
-use config_host::{Disk, Surroundings, files_here};
+use config_host::{Disk, Surroundings, Users, files_here};
 use gix_config_value::path::parts::joint_of;
 use std::alloc::{AllocError, Global};
 use std::collections::BTreeSet;
@@ -98,6 +99,7 @@ struct Checking<'c, 't> {
     /// The settings that rows ask for.
     musts: Vec<Must<'c, 'c>>,
     asked: &'c Asked<'c, 'c>,
+    options: Options<'t>,
     report: Report<'c>,
     disk: Disk<'t, HostRuntime>,
     surroundings: Surroundings<'t>,
@@ -293,6 +295,7 @@ impl<'c, 't> Checking<'c, 't> {
         mender: Option<Mender<'c, 't>>,
     ) -> Result<(Counts, Option<Mender<'c, 't>>), Failure<'static>> {
         let alloc = self.rt.alloc();
+        let options = self.options;
         let writer = written(BufWriter::new(alloc, self.rt.stdout()))?;
         let mut source = Source::new(file.as_bytes(), text);
         let mut lines = Lines {
@@ -302,14 +305,7 @@ impl<'c, 't> Checking<'c, 't> {
             mender,
             writer,
         };
-        let checked = check_file(
-            alloc,
-            self.rows,
-            &self.asked.options,
-            file,
-            text,
-            &mut lines,
-        );
+        let checked = check_file(alloc, self.rows, &options, file, text, &mut lines);
         written(lines.flush())?;
         let mender = lines.mender.take();
         Ok((failed(checked)?, mender))
@@ -317,7 +313,7 @@ impl<'c, 't> Checking<'c, 't> {
 
     /// What looks for the changes of a file.
     fn mender(&self, file: &'t str, text: &'t [u8]) -> Mender<'c, 't> {
-        Mender::new(self.rt.alloc(), self.judge, self.asked.options, file, text)
+        Mender::new(self.rt.alloc(), self.judge, self.options, file, text)
     }
 
     /// Makes the changes in a file, and returns its text, which is the old one if it has none or is not
@@ -480,7 +476,7 @@ impl<'c, 't> Checking<'c, 't> {
     /// The name of the file that a path names in the home directory of a user. `None` if the path does not begin
     /// with one.
     fn name_at_user(&self, path: &[u8]) -> Result<Option<Vec<u8>>, AllocError> {
-        let Some(users) = self.asked.options.users else {
+        let Some(users) = self.options.users else {
             return Ok(None);
         };
         let Ok(joint) = joint_of::<&[u8], &[u8]>(path, None, None, Some(users.passwd)) else {
@@ -504,7 +500,7 @@ impl<'c, 't> Checking<'c, 't> {
             return Ok(());
         };
         let path = value.text(self.rt.alloc())?;
-        if is_homeless(self.asked.options.users, &path) {
+        if is_homeless(self.options.users, &path) {
             return self.report(place, entry, UNKNOWN_DIRECTORY);
         }
         match self.name_at_user(&path)? {
@@ -668,6 +664,24 @@ impl<'c, 't> Checking<'c, 't> {
     }
 }
 
+/// The options of a check, with the users of this system or, with `--root`, of the one in that folder.
+fn options_of<'t>(
+    disk: &Disk<'t, HostRuntime>,
+    asked: &Asked<'_, '_>,
+) -> Result<Options<'t>, AllocError> {
+    let found = Users::new(disk, asked.root.unwrap_or("").as_bytes())?;
+    let has_home = found.home.is_some();
+    let users = match found.passwd {
+        Some(passwd) => Some(paths::Users { has_home, passwd }),
+        None => None,
+    };
+    Ok(Options {
+        git: asked.git,
+        canonical: asked.canonical,
+        users,
+    })
+}
+
 /// Checks the files by these rows, and keeps their texts in `texts`. Returns the exit status.
 pub(crate) fn check<'m, 't>(
     rt: &'t HostRuntime,
@@ -681,6 +695,8 @@ pub(crate) fn check<'m, 't>(
         Some(file) => Some(fingerprints(rt, file)?),
         None => None,
     };
+    let disk = Disk::new(rt, texts);
+    let options = options_of(&disk, asked)?;
     let judge = Judge::new(alloc, &rows)?;
     let report = Report::new(alloc, asked, &rows, baseline)?;
     let mut checking = Checking {
@@ -689,8 +705,9 @@ pub(crate) fn check<'m, 't>(
         judge: &judge,
         musts,
         asked,
+        options,
         report,
-        disk: Disk::new(rt, texts),
+        disk,
         surroundings: Surroundings::new(rt, Followed::Everything)?,
         seen: BTreeSet::new(alloc),
         open: Vec::new(alloc),

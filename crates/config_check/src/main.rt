@@ -24,17 +24,8 @@ use crate::options::{Asked, code_of, command, ignored_by};
 use crate::rows::all_rows;
 use bumpalo::Bump;
 use clap::ArgMatches;
-use config_checks::paths;
-use config_host::{Disk, Users, arguments};
+use config_host::arguments;
 use std::process::ExitCode;
-
-/// What a check knows of these users, if the list of them can be read.
-fn known<'u>(users: &'u Users<'_>) -> Option<paths::KnownUsers<'u>> {
-    Some(paths::KnownUsers {
-        has_home: users.home.is_some(),
-        passwd: users.passwd?,
-    })
-}
 
 /// Does what the arguments ask for, and keeps what it reads in `texts`. Returns the exit status.
 fn run_in<'m, 't>(
@@ -49,13 +40,11 @@ fn run_in<'m, 't>(
         };
     }
     let ignored = ignored_by(rt.alloc(), matches.get_strs("ignore").unwrap_or(&[]))?;
-    let root = matches.get_str("root").unwrap_or("");
-    let users = Users::new(&Disk::new(rt, texts), root.as_bytes())?;
-    let asked = Asked::of(rt, matches, &ignored, known(&users))?;
+    let asked = Asked::of(rt, matches, &ignored)?;
     let rows = all_rows(
         rt,
         texts,
-        asked.options.git,
+        asked.git,
         matches.get_strs("settings").unwrap_or(&[]),
     )?;
     check(rt, texts, rows, &asked)

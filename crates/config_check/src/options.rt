@@ -4,8 +4,6 @@ use crate::failure::Failure;
 use clap::{Arg, ArgAction, ArgMatches, Command};
 use config_checks::code::Code;
 use config_checks::git::NEWEST;
-use config_checks::options::Options;
-use config_checks::paths::KnownUsers;
 use config_checks::reason::Severity;
 use config_checks::version::Version;
 use config_file::key::Key;
@@ -214,7 +212,8 @@ pub(crate) enum Ignored<'m> {
 /// What a run is asked for.
 #[derive(Drop)]
 pub(crate) struct Asked<'r, 'm> {
-    pub(crate) options: Options<'r>,
+    pub(crate) git: Version,
+    pub(crate) canonical: bool,
     pub(crate) style: Style,
     pub(crate) output: Output,
     pub(crate) fails_on: Severity,
@@ -313,19 +312,15 @@ fn output_of<'m>(matches: &ArgMatches<'m>) -> Result<Output, Failure<'m>> {
 }
 
 impl<'r, 'm: 'r> Asked<'r, 'm> {
-    /// What these arguments ask for, of which `--ignore` is read already, on a system with these users.
+    /// What these arguments ask for, of which `--ignore` is read already.
     pub(crate) fn of(
         rt: &HostRuntime,
         matches: &'r ArgMatches<'m>,
         ignored: &'r [Ignored<'m>],
-        users: Option<KnownUsers<'r>>,
     ) -> Result<Asked<'r, 'm>, Failure<'m>> {
         Ok(Asked {
-            options: Options {
-                git: git_of(matches)?,
-                canonical: matches.get_flag("canonical"),
-                users,
-            },
+            git: git_of(matches)?,
+            canonical: matches.get_flag("canonical"),
             style: style_of(rt, matches)?,
             output: output_of(matches)?,
             fails_on: fails_on(matches),
