@@ -1,4 +1,5 @@
-//! What to write in place of a value that the reader of a boolean, an integer or a color refuses, or of a slot.
+//! What to write in place of a value that the reader of a boolean, an integer or a color refuses, and which
+//! slots there are in place of an unknown one.
 
 use crate::text::{push, push_number};
 use config_checks::code::Code;
