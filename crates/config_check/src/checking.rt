@@ -672,7 +672,7 @@ fn options_of<'t>(
     let found = Users::new(disk, asked.root.unwrap_or("").as_bytes())?;
     let has_home = found.home.is_some();
     let users = match found.passwd {
-        Some(passwd) => Some(paths::Users { has_home, passwd }),
+        Some(passwd) => Some(paths::KnownUsers { has_home, passwd }),
         None => None,
     };
     Ok(Options {

@@ -81,8 +81,7 @@ fn has_byte(text: &[u8], byte: u8) -> bool
     text.iter().any(|other| byte.eq_ignore_ascii_case(other))
 }
 
-/// How many bytes of one text the other lacks, ignoring ASCII case. As many edits, or more, lead from one to
-/// the other.
+/// How many bytes of one text the other lacks, ignoring ASCII case. No fewer edits lead from one to the other.
 fn count_lacked(from: &[u8], to: &[u8]) -> usize
     ensures { result ≡ length (filter (λ byte. not (has_byte to.now byte)) from.now) }
 {
@@ -90,7 +89,7 @@ fn count_lacked(from: &[u8], to: &[u8]) -> usize
 }
 
 /// How many edits lead from one text to the other, or `None` if the texts are not near.
-// Most texts are not compared, since their lengths or bytes differ by more edits than near texts may have.
+// Most texts are not compared, since their lengths or their bytes differ by more edits than near texts may have.
 pub(crate) fn few_edits(
     alloc: Global,
     long: usize,

@@ -409,11 +409,11 @@ pub struct UnknownKey<'k> {
     pub nearest: Option<Key<'k>>,
 }
 
-/// Returns what is said of a key that no row covers, if a check should report it: it is near the key of a
-/// row, or a row has its name in another section, or only rows have settings where it is: in its section if
-/// it has no subsection, and in its subsection of `color`. Two keys are near if they differ in exactly one
-/// part: by one edit, by two if the part is long in both or, in the name of a key without a subsection, by a
-/// missing run of bytes. Returns an error if there is no memory. `section` is that of the key.
+/// Returns what is said of a key that no row covers, if a check should report it: it is near the key of a row,
+/// or a row has its name in another section, or only rows have settings where it is: in its section if it has
+/// no subsection, and in its subsection of `color`. Two keys are near if they differ in exactly one part: by one
+/// edit, by two if the part is long in both or, in the name of a key without a subsection, by a missing
+/// run of bytes. Returns an error if there is no memory. `section` is that of the key.
 pub(crate) fn unknown_in<'k>(
     alloc: Global,
     runs: &[Run<'_, 'k>],
