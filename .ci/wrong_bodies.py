@@ -35,6 +35,11 @@ def edit_of(file):
     return Edit(f"{file.parts[-3]}/{file.stem}", pairs, expected)
 
 
+def function_of(place):
+    """The function of an expected goal: its name, or that of the folder of proofs that has the refused answer."""
+    return place if "::" in place else place.rpartition("/")[0].replace("/", "::")
+
+
 def is_own(function, goal, why):
     """Whether an open goal is that of the function, or of its cycle. A caller names refused answers of what it calls."""
     return "." not in goal or f".{function.replace('::', '.')}.Answers." in goal or "it calls" not in why
@@ -66,8 +71,8 @@ class Crate:
             if not old or text.count(old) != 1:
                 raise ValueError(f"{path} has the old text {text.count(old)} times, and not once: {old}")
             (self.room / path).write_text(text.replace(old, new), encoding="utf-8")
-        functions = sorted({function for edit in edits for function, _ in edit.expected})
-        only = [f"--only={it}" for it in functions] if all("::" in it for it in functions) else []
+        functions = sorted({function_of(place) for edit in edits for place, _ in edit.expected})
+        only = [f"--only={it}" for it in functions] if all(functions) else []
         said = subprocess.run([*self.words, *only], cwd=self.room, stdin=subprocess.DEVNULL, stdout=subprocess.PIPE,
                               stderr=subprocess.STDOUT, text=True, errors="replace", check=False).stdout
         if not re.search(r"^(only=\d+ )?holes=\d+\n\Z", said, re.MULTILINE):
@@ -80,7 +85,7 @@ class Crate:
     def faults(self, edits):
         """What is wrong with each of these edits, by its name."""
         wanted = set().union(*(edit.expected for edit in edits))
-        functions = [function for edit in edits for function in {function for function, _ in edit.expected}]
+        functions = [function for edit in edits for function in {function_of(place) for place, _ in edit.expected}]
         try:
             if len(functions) > len(set(functions)):
                 raise ValueError("two are of one function")
@@ -102,7 +107,7 @@ def tried(name):
         edits = [edit_of(file) for file in sorted((crate.folder / "wrong_bodies").glob("*.edit"))]
         # what cites a changed definition is checked anew: such an edit is tried later, if functions alone refuse it
         later = [edit for edit in edits if any(path.startswith("specs/") for path, *_ in edit.pairs)
-                 and all("::" in function for function, _ in edit.expected)]
+                 and all(function_of(place) for place, _ in edit.expected)]
         parts = [edit for edit in edits if edit not in later], later
         return {name: why for part in parts if part for name, why in crate.faults(part).items()}
 
