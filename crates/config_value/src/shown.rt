@@ -83,8 +83,8 @@ impl<'t> Homes<'t> {
                 passwd: None,
             });
         }
-        let users = Users::new(disk, b"")?;
-        let home = match users.home {
+        let mut users = Users::new(disk, b"")?;
+        let home = match users.home.take() {
             Some(home) => match String::from_utf8(home) {
                 Ok(home) => Some(home),
                 Err(_) => return Err(HostError::Variable("HOME")),
