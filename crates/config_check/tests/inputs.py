@@ -12,7 +12,6 @@ ENTRIES_OF_A_FILE = 1000
 TINY_FILES = 300
 SECONDS_FOR_A_LARGE_FILE = 10
 SECONDS_BETWEEN_PIECES = 0.0005
-LARGE_VALUE = 3_000_000
 SHORT = (b"\xef\xbb\xbfint\n[test]\r\n\tbool = maybe # yes\n\tint;\n int = 2g\n"
          b"[middle \"a.\\\"b\\\\\"] last = 1\\\n 2 \\t\\\"\n"
          b"[ \"x\"]y\n[test]bool=\"a # \\\n\xe2\x82\"  b \n\tword = \xf0\x9f\x98\x80\x1b\\")
@@ -33,7 +32,7 @@ def cut(group, program):
 
 
 def large(group, program, draw, count):
-    """Checks a file with this many entries in a few seconds, and then files with very long entries."""
+    """Checks a file with this many entries in a few seconds, and then files with entries of 30 times as many bytes."""
     how = arguments(program.settings(rows.SETTINGS), canonical=True)
     data = made.whole(draw, count)
     wanted = by_plain_reader(made.ROWS, data, canonical=True)
@@ -44,7 +43,8 @@ def large(group, program, draw, count):
     took = f"{seconds:.1f} s for {count:,} entries"
     group.expect(took, True, seconds < SECONDS_FOR_A_LARGE_FILE)
     group.notes.append(took)
-    long = [b"x" * LARGE_VALUE, b"\xe2\x82\xac\xff\\" * (LARGE_VALUE // 5)]
+    size = 30 * count
+    long = [b"x" * size, b"\xe2\x82\xac\xff\\" * (size // 5)]
     for text in [b"", *long]:
         for key, value in ((b"test.word", text), (b"middle." + text + b".last", b"x"), (b"x.y", text)):
             data = made.line_of(key, value) + made.line_of(b"test.bool", b"maybe")

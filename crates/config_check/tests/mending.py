@@ -12,7 +12,6 @@ import time
 from checking import Ended, run
 from planted import LINES
 
-FILES = 500
 # how often a run over all files is killed
 KILLS = 6
 COUNTS = re.compile(rb"config_check: .* (\d+) findings?(?:, (\d+) fixed)?\n")
@@ -54,13 +53,13 @@ FIXED = [
 ]
 
 
-def planted_files(draw, folder):
+def planted_files(draw, folder, count):
     """Writes files with planted mistakes, right entries, comments and line ends of all kinds; returns their names."""
     lines = [line.split("\t")[0].replace("\\n", "\n") for line in LINES.read_text(encoding="utf-8").splitlines()
              if not line.startswith("#")]
     others = ["# a comment", "", "[user]\n\tname = A B ; c", "[alias]\n\tst = \"status -s\"", "\t", "[core]\n\teditor = vi \\\n  -n"]
     names = []
-    for number in range(FILES):
+    for number in range(count):
         parts = [draw.choice(lines if draw.random() < 0.6 else others) for _ in range(draw.randint(1, 12))]
         end = draw.choice(("\n", "\n", "\r\n"))
         text = end.join(parts).replace("\r\n", "\n").replace("\n", end) + draw.choice(("", end))
@@ -141,11 +140,11 @@ def patched(group, folder, diff, wanted):
     return group.expect(("patch", diff), (0, wanted), (came.status, found))
 
 
-def many(group, program, draw, git):
+def many(group, program, draw, git, count):
     """Planted files: --fix, the check afterwards, Git's entries and the lines that differ, and patch."""
     with tempfile.TemporaryDirectory() as name:
         folder = pathlib.Path(name)
-        names = planted_files(draw, folder)
+        names = planted_files(draw, folder, count)
         old = {name: (folder / name).read_bytes() for name in names}
         before = {name: listed(git, folder, name) for name in names}
         first = objects(program.run(["--format", "json", "--no-includes", *names], cwd=folder).output)
@@ -155,7 +154,7 @@ def many(group, program, draw, git):
         took = time.monotonic() - began
         left, fixed = (int(count or 0) for count in COUNTS.fullmatch(came.errors).groups())
         group.expect("the counts", (len(first), len(objects(came.output))), (left + fixed, left))
-        group.expect("some are fixed", True, fixed > FILES)
+        group.expect("some are fixed", True, fixed > count)
         new = {name: (folder / name).read_bytes() for name in names}
         again = objects(program.run(["--format", "json", "--no-includes", *names], cwd=folder).output)
         group.expect("the check afterwards", [without_place(one) for one in objects(came.output)],
@@ -215,7 +214,7 @@ def baseline(group, program, draw):
     finding goes."""
     with tempfile.TemporaryDirectory() as name:
         folder = pathlib.Path(name)
-        names = planted_files(draw, folder)[:40]
+        names = planted_files(draw, folder, 40)
         known = program.run(["--format", "json", "--no-includes", *names], cwd=folder)
         (folder / "known").write_bytes(known.output)
         how = ["--format", "json", "--no-includes", "--baseline", "known", *names]
@@ -243,11 +242,11 @@ def baseline(group, program, draw):
         group.expect("no baseline", Ended(2, b"", b"config_check: wrong:2: not a finding of --format json\n"), came)
 
 
-def check(group, program, draw):
+def check(group, program, draw, count):
     one_by_one(group, program)
     baseline(group, program, draw)
     git = shutil.which("git")
     if git is None:
         group.skip("planted files", "no git is installed")
         return
-    many(group, program, draw, git)
+    many(group, program, draw, git, count)

@@ -3,8 +3,9 @@
 
 The groups run at the same time. The program prints what failed, a line for each group when it ends,
 the classes of differences from Git, and at the end 'N passed, M failed'. Runs with the same seed,
-number of mutated entries (inputs) and number of entries of a large file (large) are the same. Tests
-that need Git or its manual say so if it is missing, and count nothing.
+number of mutated entries (inputs) and number of entries of a large file (large) are the same. At most
+500 files are mended, one for 10 inputs. Tests that need Git or its manual say so if it is missing, and
+count nothing.
 """
 import argparse
 import concurrent.futures
@@ -37,7 +38,7 @@ def groups(program, seed, count, large):
         ("files that are cut off", lambda group: inputs.cut(group, program)),
         ("files that arrive in pieces", lambda group: inputs.pieces(group, program, draw())),
         ("codes, formats and hooks", lambda group: formats.check(group, program)),
-        ("files that are mended, and a baseline", lambda group: mending.check(group, program, draw())),
+        ("files that are mended, and a baseline", lambda group: mending.check(group, program, draw(), min(500, count // 10))),
         ("the files that Git reads here", lambda group: here.check(group, program)),
         ("the types of Git", lambda group: git_types.check(group, program, draw())),
         ("large files", lambda group: inputs.large(group, program, draw(), large)),
