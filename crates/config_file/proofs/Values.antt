@@ -5,11 +5,13 @@ use Rattle.std.specs.List.{list_all}
 use Rattle.std.proofs.lemmas.Bool.{cases_Bool, and_parts}
 use Rattle.std.proofs.lemmas.Bool.Decides.{nat_tests}
 use Rattle.config_file.specs.declared.errors.FileFault.TheVariants.{BadLine, Nul}
-use Rattle.config_file.specs.Bytes.{is_plain, is_blank, is_comment_sign, EndsText}
+use Rattle.config_file.specs.Bytes.{is_plain, is_blank, is_comment_sign, is_comment_byte, EndsText}
 use Rattle.config_file.specs.Header.{fault_at}
 use Rattle.config_file.specs.Value.{Ending, outside, inside, at_backslash, Spells, itself, ends_outside, ends_inside, ends_at_backslash, quote, escaped, continued, continued_after_return, blank, plain, SpellsValue, IsPart, EndsValue, IsNoEscape, line_feeds, kept, escape}
 use Rattle.config_file.specs.Value.{TakesValue, closed, open_end, ValueStops, nul, unclosed, unclosed_open_end, no_escape}
-use Rattle.config_file.specs.Reading.Scans.{PassedValue, EndsScan, Escapes, letter, line, line_after_return, goes_on, is_plain_byte}
+use Rattle.config_file.specs.Reading.Scans.{PassedValue, OnOneLine, EndsScan, Escapes, letter, line, line_after_return}
+use Rattle.config_file.specs.Reading.Scans.{goes_on, is_plain_byte}
+use Rattle.config_file.proofs.LineEnds.{line_feeds_append, line_feeds_none, all_more}
 
 pub passed_none : (text : List ℕ) → PassedValue text false text
 passed_none text = record { raw = []; value = []; held = []; joined = refl; extends = λ more spelled o h. h }
@@ -80,6 +82,41 @@ passed_run {text = text} q at [] passed e all = subst (λ x. PassedValue text q 
 passed_run {after = after} q at (b ∷ bytes) passed e all =
     let (here, more) = and_parts (is_plain_byte b) (list_all is_plain_byte bytes) all in
     passed_run q (bytes ++ after) bytes (passed_byte q at passed e (plain_goes_on q b here) (plain_no_quote b here) (plain_no_backslash b here)) refl more
+
+pub one_line_none : (text : List ℕ) → OnOneLine text text
+one_line_none text = ([], refl, refl)
+
+one_line_more : {text at rest : List ℕ} (piece : List ℕ) → OnOneLine text at → at ≡ piece ++ rest
+    → list_all is_comment_byte piece ≡ true → OnOneLine text rest
+one_line_more {rest = rest} piece (raw, joined, none) e others =
+    let sum = line_feeds_append raw piece in
+    let no = line_feeds_none piece others in
+    (raw ++ piece, joined ∙ rw e (sym (append_assoc raw piece rest)), omega arith)
+
+pub one_line_byte : {text at rest : List ℕ} (b : ℕ) → OnOneLine text at → at ≡ b ∷ rest → b ≢ 10
+    → OnOneLine text rest
+one_line_byte b passed e other = one_line_more (b ∷ []) passed e (grind (arith, nat_tests))
+
+plain_along : (b : ℕ) → is_plain_byte b ≡ true → is_comment_byte b ≡ true
+plain_along b is = grind (arith, nat_tests)
+
+pub one_line_run : {text at rest : List ℕ} (bytes : List ℕ) → OnOneLine text at → at ≡ bytes ++ rest
+    → list_all is_plain_byte bytes ≡ true → OnOneLine text rest
+one_line_run bytes passed e all =
+    one_line_more bytes passed e (all_more is_plain_byte is_comment_byte plain_along bytes all)
+
+-- the bytes that `before` returns are on that line
+pub one_line_part : {text at : List ℕ} (raw : List ℕ) → OnOneLine text at → text ≡ raw ++ at
+    → line_feeds raw ≡ 0
+one_line_part {at = at} raw (front, joined, none) same =
+    subst (λ x. line_feeds x ≡ 0) (append_cancel_right front raw at (sym joined ∙ same)) none
+
+pub quote_along : (b : ℕ) → b ≡ 34 → b ≢ 10
+quote_along b is e = grind (arith, nat_tests)
+
+pub goes_on_along : (q : Bool) (b : ℕ) → goes_on q b ≡ true → b ≢ 10
+goes_on_along true b on = grind (arith, nat_tests)
+goes_on_along false b on = grind (arith, nat_tests)
 
 passed_part : {text at : List ℕ} (q : Bool) → (passed : PassedValue text q at) → IsPart q passed.raw
 passed_part true passed = (passed.value, rw (append-nil passed.raw) at (passed.extends [] _ inside ends_inside))

@@ -1,5 +1,7 @@
 //! The entries that include a file: their conditions.
 ghost use Rattle.std.specs.Prelude.{◌↔◌, ◌≡◌, ◌++◌, ℕ, List, IsTrue, IfOk, OnOk, option_map, option_copied};
+ghost use Rattle.std.specs.Prelude.{map, codes};
+ghost use Rattle.std.specs.Char.{to_ascii_lowercase};
 ghost use Rattle.config_file.specs.Include as spec;
 ghost use Rattle.config_file.specs.Include.{SpellsCondition, IsGitDir, IsOnBranch, HasUrl, Holds, EntryFollows};
 ghost use Rattle.config_file.specs.Include.{IsSameName, MatchesBelow, MatchesDir, IsRemoteUrl};
@@ -325,21 +327,20 @@ impl Includes<'_> {
         }
     }
 
-    /// Whether an entry of a file in the directory `real_dir` includes a file, and is followed.
+    /// Whether an entry with the key `path`, of a file in the directory `real_dir`, includes a file and is
+    /// followed.
     pub(crate) fn follow(
         self,
         alloc: Global,
         real_dir: &[u8],
         entry: &Entry<'_>,
     ) -> Result<bool, AllocError>
+        requires path { map to_ascii_lowercase entry.now.key.now ≡ codes "path" }
         ensures { IfOk result (EntryFollows self.entry real_dir.now (entry_of entry.now)) }
     {
         let Some(section) = &entry.section else {
             return Ok(false);
         };
-        if !entry.key.eq_ignore_ascii_case(b"path") {
-            return Ok(false);
-        }
         let Some(subsection) = &section.subsection else {
             if !section.name.eq_ignore_ascii_case(b"include") {
                 return Ok(false);

@@ -1,11 +1,12 @@
 //! The value of an entry.
 ghost use Rattle.std.specs.Prelude.{◌≡◌, ◌≢◌, ℕ, List, [], ◌∷◌, ◌≤◌, length, IfOk, IfSome, OnOk, MatchOption};
-ghost use Rattle.std.specs.Prelude.{MatchResult};
+ghost use Rattle.std.specs.Prelude.{MatchResult, false};
 ghost use Rattle.std.specs.Cow.{cow_slice_items};
 ghost use Rattle.config_file.specs.Value as spec;
 ghost use Rattle.config_file.specs.Value.{TakesValue, ValueStops, IsNoEscape, SpellsValue, kept, Ending};
-ghost use Rattle.config_file.specs.Reading.Scans.{PassedValue, EndsScan, Escapes, goes_on, is_held_back};
-ghost use Rattle.config_file.specs.Reading.Scans.{unescape};
+ghost use Rattle.config_file.specs.Value.{line_feeds};
+ghost use Rattle.config_file.specs.Reading.Scans.{PassedValue, OnOneLine, EndsScan, Escapes, goes_on};
+ghost use Rattle.config_file.specs.Reading.Scans.{is_held_back, unescape};
 
 use crate::bytes::{
     Class, after_byte, before, is_blank, is_comment_sign, is_text_byte, line_feeds, run, split,
@@ -196,11 +197,13 @@ pub(crate) fn read_value(text: &[u8]) -> Result<Taken<'_>, Stop>
 {
     let mut at = text;
     let mut quoted = false;
+    let mut escaped = false;
     'pieces: while let Some((byte, rest)) = split(at) {
         if byte == b'"' {
             quoted = !quoted;
             at = rest;
         } else if byte == b'\\' {
+            escaped = true;
             match after_escape(rest) {
                 Some(after) => at = after,
                 None => return end_after_backslash(text, at, rest, quoted),
@@ -208,21 +211,30 @@ pub(crate) fn read_value(text: &[u8]) -> Result<Taken<'_>, Stop>
         } else if goes_on(quoted, byte) {
             at = run(rest, Class::Plain).1;
         } else {
-            return end(text, at, quoted);
+            return end(text, at, quoted, escaped);
         }
     }
-    end(text, at, quoted)
+    end(text, at, quoted, escaped)
+}
+
+/// How many line ends these bytes of a value have. Without a backslash they have none, and are not counted.
+fn line_ends(raw: &[u8], escaped: bool) -> usize
+    requires one_line { escaped ≡ false → line_feeds raw.now ≡ 0 }
+    ensures { result ≡ line_feeds raw.now }
+{
+    if escaped { line_feeds(raw) } else { 0 }
 }
 
 /// Ends a value before LF, a comment, a NUL or the end of the text. In quotes or before a NUL it is refused.
-fn end<'a>(text: &'a [u8], at: &'a [u8], quoted: bool) -> Result<Taken<'a>, Stop>
+fn end<'a>(text: &'a [u8], at: &'a [u8], quoted: bool, escaped: bool) -> Result<Taken<'a>, Stop>
     requires passed { PassedValue text.now quoted at.now }
+    requires one_line { escaped ≡ false → OnOneLine text.now at.now }
     requires ends { EndsScan quoted at.now }
     ensures { MatchResult result (λ taken. TakesValue text.now taken.value.raw.now taken.lines taken.rest.now)
         (λ stop. ValueStops text.now stop.lines stop.fault) }
 {
     let raw = before(text, at);
-    let lines = line_feeds(raw);
+    let lines = line_ends(raw, escaped);
     if quoted {
         return Err(Stop {
             lines,

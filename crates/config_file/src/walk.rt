@@ -1,6 +1,8 @@
 //! The walk over the entries of a file and of the files that it includes, in Git's order. Its caller pulls it,
 //! and opens the files.
 ghost use Rattle.std.specs.Prelude.{◌≡◌, ◌≤◌, ◌++◌, ◌∷◌, ℕ, List, [], IfOk, MatchOption, length, true, false, option_copied};
+ghost use Rattle.std.specs.Prelude.{map, codes};
+ghost use Rattle.std.specs.Char.{to_ascii_lowercase};
 ghost use Rattle.config_file.specs.Path.{BeginsUnknown};
 ghost use Rattle.config_file.specs.Views.{entry_of};
 ghost use Rattle.config_file.specs.Walk.{Content, IsNameOf, IsInclude};
@@ -106,13 +108,14 @@ fn name_of(
     Ok(Some(included_name(alloc, file, &path)?))
 }
 
-/// What an entry of a file includes. It fails only if memory is refused.
-pub fn include_of(
+/// What an entry of a file with the key `path` includes.
+fn include_by_path(
     alloc: Global,
     known: &Known<'_>,
     place: FilePlace<'_>,
     entry: &Entry<'_>,
 ) -> Result<Include, AllocError>
+    requires path { map to_ascii_lowercase entry.now.key.now ≡ codes "path" }
     ensures { IfOk result (λ include. IsInclude known.now place.entry (entry_of entry.now) include) }
 {
     if !known.includes.follow(alloc, place.real_dir, entry)? {
@@ -125,6 +128,23 @@ pub fn include_of(
     match name_of(alloc, known.directories, place.name, &text)? {
         Some(name) => Ok(Include::Named(name)),
         None => Ok(Include::UnknownDirectory),
+    }
+}
+
+/// What an entry of a file includes. It fails only if memory is refused.
+#[inline]
+pub fn include_of(
+    alloc: Global,
+    known: &Known<'_>,
+    place: FilePlace<'_>,
+    entry: &Entry<'_>,
+) -> Result<Include, AllocError>
+    ensures { IfOk result (λ include. IsInclude known.now place.entry (entry_of entry.now) include) }
+{
+    if entry.key.eq_ignore_ascii_case(b"path") {
+        include_by_path(alloc, known, place, entry)
+    } else {
+        Ok(Include::NotFollowed)
     }
 }
 
@@ -291,13 +311,11 @@ impl<'t> Walk<'t> {
         ensures no_more { length self.new.frames.items ≤ length self.old.frames.items }
     {
         'frames: while let Some(mut frame) = self.frames.pop() {
-            let Some(entry) = frame.entries.next() else {
-                continue 'frames;
-            };
             let place = frame.place;
-            let entry = match entry {
-                Ok(entry) => entry,
-                Err(error) => return Ok(Step::Line(place, error)),
+            let entry = match frame.entries.next() {
+                Some(Ok(entry)) => entry,
+                Some(Err(error)) => return Ok(Step::Line(place, error)),
+                None => continue 'frames,
             };
             let _ = self.frames.try_push(frame);
             let include = include_of(alloc, known, place, &entry)?;

@@ -6,7 +6,7 @@ use Rattle.config_file.specs.declared.bytes.Class.TheVariants.{Name, Key, Blank,
 use Rattle.config_file.specs.Bytes.{line_feed, carriage_return, double_quote, backslash, is_name_byte, is_key_byte, is_blank, is_space, is_comment_byte, is_comment_sign, is_text_byte}
 use Rattle.config_file.specs.Runs.{StopsRun}
 use Rattle.config_file.specs.Subsection.{SpellsSubsection, IsSubsection}
-use Rattle.config_file.specs.Value.{Ending, Spells, SpellsValue, itself, escape}
+use Rattle.config_file.specs.Value.{Ending, Spells, SpellsValue, itself, escape, line_feeds}
 
 -- the scan of a subsection has come to this rest of the text
 pub record PassedSubsection (text at : List ℕ) : Type 0 where
@@ -22,6 +22,10 @@ pub record PassedValue (text : List ℕ) (quoted : Bool) (at : List ℕ) : Type 
   pub joined : text ≡ raw ++ at
   pub extends : (more spelled : List ℕ) (ending : Ending)
       → Spells itself quoted value held more spelled ending → SpellsValue (raw ++ more) spelled ending
+
+-- no LF precedes this rest of the text
+abbrev pub OnOneLine : List ℕ → List ℕ → Type 0
+OnOneLine text at = (raw : List ℕ) × (text ≡ raw ++ at) × (line_feeds raw ≡ 0)
 
 -- whether the scan of a value goes on after this byte, unless it is a quote or a backslash
 abbrev pub goes_on : Bool → ℕ → Bool
