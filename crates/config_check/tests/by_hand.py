@@ -68,8 +68,8 @@ def hint(reason, value):
 
 def entries_of(key, values, reason):
     """Entries with values that are shown as they are, and that all have this reason."""
-    return [(made.line_of(key, value), key, None if value is None else cut(value), reason and reason + hint(reason, value))
-            for value in values]
+    return [(made.line_of(key, value), key, None if value is None else cut(value),
+             reason and reason + hint(reason, value)) for value in values]
 
 
 def values(group, program):
@@ -219,10 +219,12 @@ def settings_files(group, program):
         came = program.run(arguments(program.settings(text)), b"[other]x")
         group.expect(text, ended(b"", (1, 0, 1, 0)), came)
     text = b"".join(b"filler.key-%d bool\n" % number for number in range(ROWS)) + b"test.x int\n"
-    expect_entries(group, program, arguments(program.settings(text)), entries_of(b"test.x", [b"yes"], rows.INTEGER_FAULT))
+    wrong = entries_of(b"test.x", [b"yes"], rows.INTEGER_FAULT)
+    expect_entries(group, program, arguments(program.settings(text)), wrong)
     first, second = program.settings(b"\xef\xbb\xbftest.x bool\n"), program.settings(b"test.x int\ntest.y int\n")
-    expect_entries(group, program, ["--settings", first, "--settings", second, "-"], entries_of(b"test.x", [b"red"], rows.BOOLEAN_FAULT))
-    expect_entries(group, program, ["--settings", first, "--settings", second, "-"], entries_of(b"test.y", [b"red"], rows.INTEGER_FAULT))
+    for key, reason in ((b"test.x", rows.BOOLEAN_FAULT), (b"test.y", rows.INTEGER_FAULT)):
+        how = ["--settings", first, "--settings", second, "-"]
+        expect_entries(group, program, how, entries_of(key, [b"red"], reason))
     for file in (str(program.folder / "missing"), str(program.folder)):
         came = program.run(["--settings", file, "-"], b"[test]x=1\n")
         group.expect(["--settings", file], Ended(2, b"", CANNOT), with_errors_cut(came, CANNOT))

@@ -12,6 +12,7 @@ from plain_reader import finding
 
 FULL = pathlib.Path("/dev/full")
 FINDING = b"[test] bool = maybe\n"
+# so many findings that no buffer holds them
 MANY = 20_000
 # a file that is larger than the address space of a process, and that address space, in bytes
 LONG, ADDRESSES = 20_000_000, 16_000_000

@@ -97,5 +97,6 @@ def mutated(group, program, draw, count):
     for canonical in (False, True):
         how, texts = arguments(settings, canonical), [text for one, text in tiny if one == canonical]
         expect_texts(group, program, how, texts, [plain_reader.findings(made.ROWS, text, canonical) for text in texts])
-        expect_json_of_texts(group, program, how, texts, [plain_reader.told(made.ROWS, text, canonical)[0] for text in texts])
+        lines = [plain_reader.told(made.ROWS, text, canonical)[0] for text in texts]
+        expect_json_of_texts(group, program, how, texts, lines)
     group.notes.append(f"{count:,} entries")

@@ -85,7 +85,7 @@ def without_place(one):
 
 
 def one_by_one(group, program):
-    """The files of FIXED: what --fix makes of them, and --diff and patch. Those with the same arguments are in one run."""
+    """The files of FIXED, in one run for the same arguments: what --fix makes of them, and --diff and patch."""
     for how in {" ".join(more): more for _, more, _ in FIXED}.values():
         with tempfile.TemporaryDirectory() as name:
             folder = pathlib.Path(name)
