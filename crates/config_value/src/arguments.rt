@@ -55,16 +55,15 @@ const KINDS: &[&str] = &[
     "expiry-date",
 ];
 
-/// The files that are read.
-pub fn file_argument<'a>(alloc: Global) -> Arg<'a> {
-    valued(
-        alloc,
-        "file",
-        "FILE",
-        "A configuration file, or - for standard input; it decides over the files before it",
-    )
-    .short('f')
-    .action(ArgAction::Append)
+/// What --file is for a word that reads.
+pub const READ: &str =
+    "A configuration file, or - for standard input; it decides over the files before it";
+
+/// The files that are read or changed, with what the help says of them.
+pub fn file_argument<'a>(alloc: Global, help: &'static str) -> Arg<'a> {
+    valued(alloc, "file", "FILE", help)
+        .short('f')
+        .action(ArgAction::Append)
 }
 
 /// The kind of a key's value.
@@ -130,7 +129,7 @@ pub fn command<'a>(alloc: Global) -> Result<Command<'a>, AllocError> {
             here; without any, reads lines of standard input: a kind, a space and a text",
         )
         .after_help(AFTER)
-        .arg(file_argument(alloc))?
+        .arg(file_argument(alloc, READ))?
         .arg(kind_argument(alloc)?)?
         .arg(flag(
             alloc,

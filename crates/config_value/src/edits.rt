@@ -82,8 +82,8 @@ a scope they change the file of the repository. All bytes but those of the chang
 Statuses: 0 if the file is as asked, 1 for a key with a wrong byte, 2 for a key without a section or a \
 name, 3 for a file that is no configuration file, 4 if the new file is not written, 5 if several entries \
 have the key or none, 6 for an invalid pattern, 128 if the value is none of its type, the comment has a \
-line end or no section has the name, 129 for a wrong usage, and 255 if the file is locked or no section can \
-have the name.
+line end, no section has the name or the file is -, 129 for a wrong usage, and 255 if the file cannot be \
+locked or no section can have the name.
 
 Examples:
   config_value set core.editor 'vim -n'
@@ -98,7 +98,10 @@ pub fn change_command<'a>(alloc: Global) -> Result<Command<'a>, AllocError> {
         .args_override_self(true)
         .infer_long_args(true)
         .after_help(AFTER)
-        .arg(file_argument(alloc))?
+        .arg(file_argument(
+            alloc,
+            "The configuration file that is changed: of several the last one",
+        ))?
         .arg(type_argument(alloc))?
         .arg(pattern_argument(alloc))?
         .arg(fixed_argument(alloc))?
@@ -496,7 +499,7 @@ fn refuse_lock(rt: &HostRuntime, name: &[u8], error: &LockError) -> Result<u8, H
     })
 }
 
-/// Changes the file of this name. Nothing is written if nothing changes.
+/// Changes the file of this name. Nothing is written if nothing changes. As in Git, `-` is no file.
 fn change_file<'t>(
     rt: &'t HostRuntime,
     disk: &Disk<'t, HostRuntime>,
@@ -504,6 +507,13 @@ fn change_file<'t>(
     asked: &Asked<'_>,
     value: &[u8],
 ) -> Result<u8, HostError> {
+    if name == b"-".as_slice() {
+        tell(
+            rt,
+            format_args!("config_value: standard input cannot be changed"),
+        )?;
+        return Ok(DIED);
+    }
     let locked = match Locked::of(disk, name) {
         Ok(locked) => locked,
         Err(error) => return refuse_lock(rt, name, &error),

@@ -1,6 +1,6 @@
 //! The options of the words, and of Git's older flags.
 
-use crate::arguments::{file_argument, flag, valued};
+use crate::arguments::{READ, file_argument, flag, valued};
 use crate::words::Word;
 use clap::{Arg, ArgAction, Command};
 use std::alloc::{AllocError, Global};
@@ -147,7 +147,7 @@ fn with_options<'a>(alloc: Global, command: Command<'a>) -> Result<Command<'a>, 
         .args_override_self(true)
         .infer_long_args(true)
         .after_help(AFTER)
-        .arg(file_argument(alloc))?
+        .arg(file_argument(alloc, READ))?
         .arg(type_argument(alloc))?
         .arg(flag(alloc, "null", "End each entry with a NUL").short('z'))?;
     for (name, help) in FLAGS {

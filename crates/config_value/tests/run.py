@@ -409,6 +409,8 @@ def changes(tests):
         change(["-f", "edit", word, *words] if word == "--" else [word, "-f", "edit", *words], 0, new)
     change(["set", "-f", "new", "a.k", "v"], 0, b"[a]\n\tk = v\n", name=b"new")
     change(["unset", "-f", "absent", "a.k"], 5, None, name=b"absent")
+    for words in (["set", "-f", "-", "a.k", "v"], ["unset", "-f", "-", "a.k"], ["--file", "-", "a.k", "v"]):
+        change(words, 128, None, b"config_value: standard input cannot be changed\n", name=b"-")
     change(["remove-section", "-f", "absent", "a"], 128, None, b"config_value: no such section: a\n", name=b"absent")
     tests.write(b"edit", b"[a]\n\tk = v\n")
     for words, status, told in ((["rename-section", "-f", "edit", "z", "y"], 128, b"no such section: z"),
