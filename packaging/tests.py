@@ -193,7 +193,9 @@ def packages(work, archive):
         print(f"skipped: packages for Debian, without {' and '.join(missing)}")
         return
     known = {"PROGRAMS": work / "programs", "GCV_ARCHIVE": archive, "DEBFULLNAME": "Some One",
-             "DEBEMAIL": "someone@example.org", "SOURCE_DATE_EPOCH": 1_700_000_000}
+             "DEBEMAIL": "someone@example.org", "SOURCE_DATE_EPOCH": 1_700_000_000,
+             # a build with checks is large, and to press it well takes half a minute
+             "DPKG_DEB_COMPRESSOR_LEVEL": 0}
     wanted = ["gix-config-value-tools"]
     if archive.exists():
         number = VERSION.rpartition(".")[0]

@@ -2,12 +2,14 @@
 
 An example is a fenced block of Rust. If a line of it begins with `# `, these two bytes are removed. Each public type or
 trait in the crates of CALLS and MORE, and each item that they name, has to have an example. If a comment cites a
-section of docs/GRAMMAR.md, it has to exist. `rt try` runs the examples and proves nothing. pages.py calls this module.
+section of docs/GRAMMAR.md, it has to exist. `rt try` runs the examples and proves nothing. pages.py calls this module,
+which can put the tests of the crate `tests` into the same build, since most of it is that of the library.
 """
 import pathlib
 import re
 import shutil
 import subprocess
+import sys
 import tempfile
 
 import reference
@@ -47,29 +49,40 @@ def test(name, block):
     return f"\n#[test]\nfn {name}(rt: HostRuntime) -> Result<(), Fail> {{\n{body}Ok(())\n}}\n"
 
 
-def run(tests):
-    """For each test, a fault in words and whether it passes. If not all tests ran, prints the end of the output."""
+def line_of(crate):
+    return re.search(f"^{crate}:.*\n", (ROOT / "crates.txt").read_text(encoding="utf-8"), re.MULTILINE)[0]
+
+
+def run(tests, others):
+    """For each test, a fault in words and whether it passes, and with `others` also for those of the crate `tests`. If
+    one does not, or did not run, prints the end of the output."""
     with tempfile.TemporaryDirectory() as folder:
         root = pathlib.Path(folder)
         subprocess.run(["sh", ROOT / "vendor.sh", root], check=True)
-        shutil.copytree(ROOT / "crates/config_checks", root / "crates/config_checks",
-                        ignore=shutil.ignore_patterns("out", "wrong_bodies"))
-        line = re.search("^config_checks:.*\n", (ROOT / "crates.txt").read_text(encoding="utf-8"), re.MULTILINE)[0]
+        for crate in ("config_checks", "uses", "tests") if others else ("config_checks",):
+            shutil.copytree(ROOT / "crates" / crate, root / "crates" / crate,
+                            ignore=shutil.ignore_patterns("out", "wrong_bodies"))
+        used = dict.fromkeys(["bstr", "bumpalo", *CALLS, *MORE, *(line_of("tests").split()[1:] if others else [])])
         with open(root / "crates.txt", "a", encoding="utf-8") as listed:
-            listed.write(line + "examples: bstr bumpalo " + " ".join(CALLS | MORE) + "\n")
-        (root / "crates/examples/src").mkdir(parents=True)
-        text = "#![tactic(auto)]\nuse std::test::Fail;\n" + "".join(test(*named) for named in tests.items())
-        (root / "crates/examples/src/lib.rt").write_text(text, encoding="utf-8")
-        said = subprocess.run(["rt", "try", "--test"], cwd=root / "crates/examples", stdout=subprocess.PIPE,
-                              stderr=subprocess.STDOUT, text=True, check=False).stdout
-    found = dict(re.findall(r"^test (\S+) \.\.\. (\w+)$", said, re.MULTILINE))
-    if found.keys() != tests.keys():
-        print(said[-2000:])
-    return [(f"the example {name} does not pass", found.get(name) == "ok") for name in tests]
+            listed.write(line_of("config_checks") + line_of("uses") * others + f"tests: {' '.join(used)}\n")
+        (root / "crates/tests/src").mkdir(parents=True, exist_ok=True)
+        with open(root / "crates/tests/src/lib.rt", "a", encoding="utf-8") as listed:
+            listed.write(("" if others else "#![tactic(auto)]\n") + "#[cfg(test)]\nmod examples;\n")
+        text = "use std::test::Fail;\n" + "".join(test(*named) for named in tests.items())
+        (root / "crates/tests/src/examples.rt").write_text(text, encoding="utf-8")
+        done = subprocess.run([sys.executable, ROOT / ".ci/try.py", "--test"], cwd=root / "crates/tests",
+                              stdout=subprocess.PIPE, stderr=subprocess.STDOUT, text=True, check=False)
+    found = dict(re.findall(r"^test (\S+) \.\.\. (\w+)$", done.stdout, re.MULTILINE))
+    ended = [(f"the example {name} does not pass", found.pop(f"examples::{name}", "") == "ok") for name in tests]
+    ended += [(f"the test {name} does not pass", end == "ok") for name, end in found.items()]
+    if done.returncode == 0 and all(is_right for _, is_right in ended):
+        return ended
+    print(done.stdout[-2000:])
+    return [*ended, ("the run of all tests failed", False)]
 
 
-def results():
-    """Each possible fault in words, and whether its check passes."""
+def results(others):
+    """Each possible fault in words, and whether its check passes; with `others` also the tests of the crate `tests`."""
     checked = []
     sections = re.findall(r"^## ([^(\n]*\w)", (ROOT / "docs/GRAMMAR.md").read_text(encoding="utf-8"), re.MULTILINE)
     tests = {"readme": blocks((ROOT / "README.md").read_text(encoding="utf-8"))[0]}
@@ -91,4 +104,4 @@ def results():
                 is_there = any(cited.startswith(section) for section in sections)
                 checked.append((f"{file}: docs/GRAMMAR.md has no section {cited}", is_there))
         checked.append((f"{crate} has calls without an example: {missing}", not missing))
-    return checked + run(tests)
+    return checked + run(tests, others)

@@ -1,5 +1,5 @@
 #!/usr/bin/env python3
-"""Compares the pages with the definitions, and runs the examples in comments (examples.py).
+"""Compares the pages with the definitions, and runs the examples in comments (examples.py): pages.py [--with-tests]
 
 A word, a bit, a number or a row fails if it is in a table of docs/GRAMMAR.md and not in `specs/`, or the other way
 round. So does a claim with other counts than docs/READING.md tells, and a sign or a word of the toolchain
@@ -222,7 +222,7 @@ def signs():
 
 
 def main():
-    results = examples.results()
+    results = examples.results(sys.argv[1:] == ["--with-tests"])
     for compared in (suffixes, integers, booleans, names, attributes, colors, spaces, paths, answers, lengths, places,
                      bodies, reading, signs):
         try:

@@ -26,26 +26,33 @@ def listed(key):
     return b".".join(part for part in key_of(key) if part is not None)
 
 
-def expect_entries(group, program, how, entries):
+def expect_entries(group, program, how, entries, known=True):
     """Expects entries, each with its key and its value as they are shown, and its reason or None.
 
-    All entries are in one file, a line each; if that fails, each entry is tested on its own.
+    All entries are in one file, a line each; if that fails, each half of them is tested on its own. The keys are all
+    known or all unknown.
     """
     data = b"".join(entry for entry, _, _, _ in entries)
     places = [place for place, _, _ in plain_reader.entries(data)[0]]
-    output = b"".join(finding(place, (key, b""), None if value is None else value if isinstance(value, tuple) else (value, b""), reason)
+    output = b"".join(finding(place, as_cut(key), as_cut(value), reason)
                       for place, (_, key, value, reason) in zip(places, entries) if reason is not None)
     count = len(entries)
-    wanted = ended(output, (count, count, 0, output.count(b"\n")))
+    wanted = ended(output, (count, count if known else 0, 0 if known else count, output.count(b"\n")))
     came = program.run(how, data)
-    if came == wanted:
-        group.passed += count
-        return
-    before = group.failed
-    for entry, key, value, reason in entries if count > 1 else []:
-        expect_entries(group, program, how, [(entry, key, value, reason)])
-    if group.failed == before:
+    if count == 1:
         group.expect((how, data), wanted, came)
+        return
+
+    def alone():
+        for half in (entries[:count // 2], entries[count // 2:]):
+            expect_entries(group, program, how, half, known)
+
+    group.expect_all(count, wanted, came, alone)
+
+
+def as_cut(shown):
+    """A key or value that is shown, with what follows it if it is cut."""
+    return (shown, b"") if isinstance(shown, bytes) else shown
 
 
 HINTS = [(rows.BOOLEAN_FAULT, plain_reader.boolean_hint), (rows.INTEGER_FAULT, plain_reader.number_hint),
@@ -59,31 +66,32 @@ def hint(reason, value):
                  .startswith(front.removeprefix(b"error: "))), b"")
 
 
-def expect_values(group, program, how, key, values, reason):
-    """Expects values that are shown as they are, and that all have this reason."""
-    expect_entries(group, program, how, [
-        (made.line_of(key, value), key, None if value is None else cut(value), reason and reason + hint(reason, value))
-        for value in values])
+def entries_of(key, values, reason):
+    """Entries with values that are shown as they are, and that all have this reason."""
+    return [(made.line_of(key, value), key, None if value is None else cut(value),
+             reason and reason + hint(reason, value)) for value in values]
 
 
 def values(group, program):
     """Each kind and each reason, with and without --canonical."""
     settings = program.settings(rows.SETTINGS)
-    how, canonical = arguments(settings), arguments(settings, canonical=True)
+    entries, canonical = [], []
     for key, accepted in rows.ACCEPTED:
-        expect_values(group, program, how, key, accepted, None)
+        entries += entries_of(key, accepted, None)
     for key, reason, refused in rows.REPORTED:
-        expect_values(group, program, how, key, refused, reason)
-        expect_values(group, program, canonical, key, refused, reason)
+        entries += entries_of(key, refused, reason)
+        canonical += entries_of(key, refused, reason)
     for key, reason, near in rows.MEANT:
-        expect_entries(group, program, how, [
-            (made.line_of(key, value), key, shown(value), reason + b"; did you mean %s?" % word) for value, word in near.items()])
+        entries += [(made.line_of(key, value), key, shown(value), reason + b"; did you mean %s?" % word)
+                    for value, word in near.items()]
     for key, spellings in rows.SPELLINGS:
-        expect_values(group, program, how, key, spellings, None)
-        expect_entries(group, program, canonical, [
-            (made.line_of(key, value), key, cut(value), b"note: should be " + text) for value, text in spellings.items()])
+        entries += entries_of(key, spellings, None)
+        canonical += [(made.line_of(key, value), key, cut(value), b"note: should be " + text)
+                      for value, text in spellings.items()]
     for key, accepted in rows.CANONICAL:
-        expect_values(group, program, canonical, key, accepted, None)
+        canonical += entries_of(key, accepted, None)
+    expect_entries(group, program, arguments(settings), entries)
+    expect_entries(group, program, arguments(settings, canonical=True), canonical)
 
 
 def escapes(group, program):
@@ -98,25 +106,22 @@ def escapes(group, program):
         (made.line_of(key, value), key, value, None) for key, value in rows.UNSHOWN_ACCEPTED])
 
 
-def expect_said(group, program, how, key, said):
-    """Expects a key that is reported as unknown, and what is said after that."""
-    entry = made.line_of(key, b"x")
-    place = plain_reader.entries(entry)[0][0][0]
-    output = finding(place, cut(listed(key)), None, b"warning: unknown key" + said)
-    group.expect(entry, ended(output, (1, 0, 1, 1)), program.run(how, entry))
-
-
 def expect_unknown(group, program, how, keys):
-    """Expects keys that are reported as unknown, each with the key that is suggested, or None."""
-    for key, meant in keys:
-        expect_said(group, program, how, key, b"" if meant is None else b"; did you mean %s?" % meant)
+    """Expects unknown keys, each with what is said after that, or None if it is not reported."""
+    expect_entries(group, program, how, [
+        (made.line_of(key, b"x"), cut(listed(key)), None, None if said is None else b"warning: unknown key" + said)
+        for key, said in keys], known=False)
+
+
+def meant(keys):
+    """Keys that are reported as unknown, with what is said if each is meant to be another key, or None."""
+    return [(key, b"" if other is None else b"; did you mean %s?" % other) for key, other in keys]
 
 
 def slots(group, program):
     """Slots of colors that no row has: the finding has those that rows have, and Git says nothing of a wrong color."""
     for how, found in ((arguments(program.settings(rows.SETTINGS)), rows.OTHER_SLOTS), (["-"], rows.OTHER_SLOTS_BUILT_IN)):
-        for key, said in found:
-            expect_said(group, program, how, key, said)
+        expect_unknown(group, program, how, found)
     git = shutil.which("git")
     if git is None:
         group.skip("slots in Git", "no git on PATH")
@@ -133,11 +138,9 @@ def keys(group, program):
     how = arguments(program.settings(rows.SETTINGS))
     expect_entries(group, program, how, [
         (made.line_of(key, b"x"), shown or named(made.ROWS, listed(key)), b"x", rows.INTEGER_FAULT) for key, shown in rows.KNOWN_KEYS])
-    expect_unknown(group, program, how, rows.MISSPELLED_KEYS + [(key, None) for key in rows.OWN_KEYS])
-    expect_unknown(group, program, ["-"], rows.MISSPELLED_BUILT_IN)
-    for key in rows.UNKNOWN_KEYS + rows.UNKNOWN_BUILT_IN:
-        entry = made.line_of(key, b"x")
-        group.expect(entry, ended(b"", (1, 0, 1, 0)), program.run(how, entry))
+    expect_unknown(group, program, how, meant(rows.MISSPELLED_KEYS + [(key, None) for key in rows.OWN_KEYS])
+                   + [(key, None) for key in rows.UNKNOWN_KEYS + rows.UNKNOWN_BUILT_IN])
+    expect_unknown(group, program, ["-"], meant(rows.MISSPELLED_BUILT_IN))
     expect_entries(group, program, how, [
         (made.line_of(key, value), named(made.ROWS, listed(key)), value, reason and reason + hint(reason, value))
         for key, value, reason in rows.FIRST_ROWS])
@@ -189,15 +192,17 @@ def fail_on(group, program):
 
 def built_in(group, program):
     """Built-in rows, and other rows that come before them."""
-    for key, value, reason in rows.BUILT_IN:
-        entry = made.line_of(key, value)
+    data = b"".join(made.line_of(key, value) for key, value, _ in rows.BUILT_IN)
+    count, wrong = len(rows.BUILT_IN), sum(reason is not None for *_, reason in rows.BUILT_IN)
+    told, came = ended(b"wrong", (count, count, 0, wrong)), program.run(["-"], data)
+    lines = {int(line.split(b":")[1]): line for line in came.output.splitlines(True)}
+    for (place, _, _), (key, value, reason) in zip(plain_reader.entries(data)[0], rows.BUILT_IN):
         wanted = b"" if reason is None else beginning(
-            plain_reader.entries(entry)[0][0][0], cut(named(BUILT_IN, listed(key))), None if value is None else cut(value), reason)
+            place, cut(named(BUILT_IN, listed(key))), None if value is None else cut(value), reason)
         code = b"" if reason is None else b" [%s]\n" % plain_reader.code_of(reason).encode()
-        came = program.run(["-"], entry)
-        is_line = came.output.count(b"\n") == 1 and came.output.endswith(code)
-        group.expect(entry, ended(wanted, (1, 1, 0, 1 if wanted else 0)),
-                     came._replace(output=came.output[:len(wanted)]) if is_line else came)
+        line = lines.get(place[0], b"")
+        group.expect((key, value), (wanted, code, told.status, told.errors),
+                     (line[:len(wanted)], line[-len(code):] if code else line, came.status, came.errors))
     how = arguments(program.settings(rows.OWN_SETTINGS))
     expect_entries(group, program, how, [
         (made.line_of(key, value), named(BUILT_IN, listed(key)), value, reason and reason + hint(reason, value))
@@ -214,10 +219,12 @@ def settings_files(group, program):
         came = program.run(arguments(program.settings(text)), b"[other]x")
         group.expect(text, ended(b"", (1, 0, 1, 0)), came)
     text = b"".join(b"filler.key-%d bool\n" % number for number in range(ROWS)) + b"test.x int\n"
-    expect_values(group, program, arguments(program.settings(text)), b"test.x", [b"yes"], rows.INTEGER_FAULT)
+    wrong = entries_of(b"test.x", [b"yes"], rows.INTEGER_FAULT)
+    expect_entries(group, program, arguments(program.settings(text)), wrong)
     first, second = program.settings(b"\xef\xbb\xbftest.x bool\n"), program.settings(b"test.x int\ntest.y int\n")
-    expect_values(group, program, ["--settings", first, "--settings", second, "-"], b"test.x", [b"red"], rows.BOOLEAN_FAULT)
-    expect_values(group, program, ["--settings", first, "--settings", second, "-"], b"test.y", [b"red"], rows.INTEGER_FAULT)
+    for key, reason in ((b"test.x", rows.BOOLEAN_FAULT), (b"test.y", rows.INTEGER_FAULT)):
+        how = ["--settings", first, "--settings", second, "-"]
+        expect_entries(group, program, how, entries_of(key, [b"red"], reason))
     for file in (str(program.folder / "missing"), str(program.folder)):
         came = program.run(["--settings", file, "-"], b"[test]x=1\n")
         group.expect(["--settings", file], Ended(2, b"", CANNOT), with_errors_cut(came, CANNOT))

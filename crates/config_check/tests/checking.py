@@ -88,9 +88,40 @@ def read_json(output):
         return None
 
 
+def expect_texts(group, program, how, texts, found):
+    """Expects these findings and counts of each text, as for standard input, from one run that has a file for each."""
+    names = [program.settings(text) for text in texts]
+    output = b"".join(re.sub(rb"(?m)^-:", name.encode() + b":", lines) for name, (lines, _) in zip(names, found))
+    wanted = ended(output, tuple(map(sum, zip(*(counts for _, counts in found)))))
+
+    def alone():
+        for text, one in zip(texts, found):
+            group.expect((how[2:-1], text), ended(*one), without_cause(program.run(how, text)))
+
+    group.expect_all(len(texts), wanted, without_cause(program.run([*how[:-1], *names])), alone)
+
+
+def expect_json_of_texts(group, program, how, texts, lines):
+    """Expects these findings of each text as JSON, from one run that has a file for each."""
+    names = [program.settings(text) for text in texts]
+    came = program.run(["--format", "json", *how[:-1], *names])
+    objects = [one for name, found in zip(names, lines) for one in plain_reader.as_json(found, name)]
+
+    def alone():
+        for text, found in zip(texts, lines):
+            expect_json(group, program, how, text, plain_reader.as_json(found))
+
+    group.expect_all(len(texts), *as_json(objects, came), alone)
+
+
 def expect_json(group, program, how, data, objects):
     """Expects these objects as lines of JSON, with their members in the order of the names."""
     came = program.run(["--format", "json", *how], data)
+    group.expect((how, data, "json"), *as_json(objects, came))
+
+
+def as_json(objects, came):
+    """The status and the objects that are wanted, and those that came, with the members in the order of their names."""
     found = read_json(came.output)
     for one, wanted in zip(found or [], objects):
         if wanted["key"] is None:
@@ -98,7 +129,7 @@ def expect_json(group, program, how, data, objects):
             at = dict(one)
             wanted["column"] = at["column"]
             wanted["reason"] += at["reason"].removeprefix(wanted["reason"])
-    group.expect((how, data, "json"), (int(bool(objects)), [sorted(one.items()) for one in objects]), (came.status, found))
+    return (int(bool(objects)), [sorted(one.items()) for one in objects]), (came.status, found)
 
 
 def arguments(settings, canonical=False):
@@ -154,6 +185,16 @@ class Group:
         if self.failed <= FAULTS_SHOWN:
             print(f"{self.name}: {brief(given)}\n{described(wanted, came)}")
         return False
+
+    def expect_all(self, count, wanted, came, alone):
+        """Counts this many tests that one run has made. If it ended otherwise, `alone` makes each of them by itself."""
+        before = self.failed
+        if wanted == came:
+            self.passed += count
+            return
+        alone()
+        if self.failed == before:
+            self.expect(f"{count} in one run", wanted, came)
 
     def skip(self, what, why):
         print(f"skipped: {what} of {self.name}, since {why}")

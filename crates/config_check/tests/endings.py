@@ -12,7 +12,8 @@ from plain_reader import finding
 
 FULL = pathlib.Path("/dev/full")
 FINDING = b"[test] bool = maybe\n"
-MANY = 200_000
+# so many findings that no buffer holds them
+MANY = 20_000
 # a file that is larger than the address space of a process, and that address space, in bytes
 LONG, ADDRESSES = 20_000_000, 16_000_000
 # the length of a value that fits into it, and whose JSON does not, since each byte is shown as six

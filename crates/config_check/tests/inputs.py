@@ -6,10 +6,12 @@ import time
 import made
 import plain_reader
 import rows
-from checking import arguments, by_plain_reader, expect_json, without_cause
+from checking import arguments, by_plain_reader, expect_json_of_texts, expect_texts, without_cause
 
 ENTRIES_OF_A_FILE = 1000
 TINY_FILES = 300
+# of the texts that are cut off, one of so many is read from standard input, and all others from files
+ON_INPUT = 50
 SECONDS_FOR_A_LARGE_FILE = 10
 SECONDS_BETWEEN_PIECES = 0.0005
 SHORT = (b"\xef\xbb\xbfint\n[test]\r\n\tbool = maybe # yes\n\tint;\n int = 2g\n"
@@ -26,9 +28,12 @@ def compare(group, program, how, data, **chosen):
 def cut(group, program):
     """A short file, cut at every byte, and with each byte left out or replaced by a NUL."""
     how = arguments(program.settings(rows.SETTINGS))
-    for end in range(len(SHORT) + 1):
-        for more in (SHORT[:end], SHORT[:end] + SHORT[end + 1:], SHORT[:end] + b"\0" + SHORT[end + 1:]):
-            compare(group, program, how, more)
+    texts = [more for end in range(len(SHORT) + 1) for more in (
+        SHORT[:end], SHORT[:end] + SHORT[end + 1:], SHORT[:end] + b"\0" + SHORT[end + 1:])]
+    for text in texts[::ON_INPUT]:
+        compare(group, program, how, text)
+    others = [text for number, text in enumerate(texts) if number % ON_INPUT]
+    expect_texts(group, program, how, others, [plain_reader.findings(made.ROWS, text) for text in others])
 
 
 def large(group, program, draw, count):
@@ -84,13 +89,14 @@ def pieces(group, program, draw):
 def mutated(group, program, draw, count):
     """This many mutated entries, in a few large files, and tiny files whose text is mutated as well."""
     settings = program.settings(rows.SETTINGS)
-    sizes = [min(ENTRIES_OF_A_FILE, count - at) for at in range(0, count, ENTRIES_OF_A_FILE)]
-    for size in sizes + [None] * TINY_FILES:
+    for at in range(0, count, ENTRIES_OF_A_FILE):
         canonical = draw.choice((False, True))
-        data = made.tiny(draw) if size is None else made.many(draw, size)
-        how = arguments(settings, canonical)
-        compare(group, program, how, data, canonical=canonical)
-        if size is None:
-            lines, _ = plain_reader.told(made.ROWS, data, canonical)
-            expect_json(group, program, how, data, plain_reader.as_json(lines))
+        data = made.many(draw, min(ENTRIES_OF_A_FILE, count - at))
+        compare(group, program, arguments(settings, canonical), data, canonical=canonical)
+    tiny = [(draw.choice((False, True)), made.tiny(draw)) for _ in range(TINY_FILES)]
+    for canonical in (False, True):
+        how, texts = arguments(settings, canonical), [text for one, text in tiny if one == canonical]
+        expect_texts(group, program, how, texts, [plain_reader.findings(made.ROWS, text, canonical) for text in texts])
+        lines = [plain_reader.told(made.ROWS, text, canonical)[0] for text in texts]
+        expect_json_of_texts(group, program, how, texts, lines)
     group.notes.append(f"{count:,} entries")

@@ -14,6 +14,8 @@ from planted import LINES
 
 # how often a run over all files is killed
 KILLS = 6
+# where a run over all files takes longer, those that are killed have fewer files: a kill tears one file at most
+SECONDS_UNTIL_KILLED = 2
 COUNTS = re.compile(rb"config_check: .* (\d+) findings?(?:, (\d+) fixed)?\n")
 # files, the arguments, and what --fix makes of them
 FIXED = [
@@ -83,18 +85,30 @@ def without_place(one):
 
 
 def one_by_one(group, program):
-    """The files of FIXED: what --fix makes of them, and --diff and patch."""
+    """The files of FIXED, in one run for the same arguments: what --fix makes of them, and --diff and patch."""
+    for how in {" ".join(more): more for _, more, _ in FIXED}.values():
+        with tempfile.TemporaryDirectory() as name:
+            folder = pathlib.Path(name)
+            cases = {f"{number} b": (text, wanted) for number, (text, more, wanted) in enumerate(FIXED) if more == how}
+            write(folder, {file: text for file, (text, _) in cases.items()})
+            diff = program.run(["--diff", *how, *cases], cwd=folder)
+            for file, (text, wanted) in cases.items():
+                group.expect(("--diff", text, how), (text, wanted != text),
+                             ((folder / file).read_bytes(), f"--- a/{file}".encode() in diff.output))
+            program.run(["--fix", *how, *cases], cwd=folder)
+            for file, (text, wanted) in cases.items():
+                group.expect(("--fix", text, how), wanted, (folder / file).read_bytes())
+                group.expect(("no lock", text), [file], [it for it in os.listdir(folder) if it.startswith(file)])
+            write(folder, {file: text for file, (text, _) in cases.items()})
+            if has_patched(group, folder, diff.output):
+                for file, (text, wanted) in cases.items():
+                    group.expect(("patch", text, how), wanted, (folder / file).read_bytes())
+
+
+def single(group, program):
+    """Files that need more than a text: a lock, rows, a baseline, includes."""
     with tempfile.TemporaryDirectory() as name:
         folder = pathlib.Path(name)
-        for text, more, wanted in FIXED:
-            (folder / "a b").write_bytes(text)
-            diff = program.run(["--diff", *more, "a b"], cwd=folder)
-            group.expect(("--diff", text, more), (text, wanted != text), ((folder / "a b").read_bytes(), diff.output != b""))
-            came = program.run(["--fix", *more, "a b"], cwd=folder)
-            group.expect(("--fix", text, more), (wanted, came.status), ((folder / "a b").read_bytes(), came.status))
-            group.expect(("no lock", text), ["a b"], os.listdir(folder))
-            (folder / "a b").write_bytes(text)
-            patched(group, folder, diff.output, {"a b": wanted})
         (folder / "c").write_bytes(b"[core]\n\tbare = ture\n")
         (folder / "c.lock").write_bytes(b"")
         came = program.run(["--fix", "c"], cwd=folder)
@@ -131,13 +145,18 @@ def one_by_one(group, program):
         group.expect("standard input", b"--- a/-\n+++ b/-\n@@ -1,2 +1,2 @@\n [core]\n-\tbare = ture\n+\tbare = true\n", came.output)
 
 
-def patched(group, folder, diff, wanted):
-    """patch makes of the files what --fix writes."""
+def write(folder, texts):
+    for file, text in texts.items():
+        (folder / file).write_bytes(text)
+
+
+def has_patched(group, folder, diff):
+    """Whether patch is installed, and has changed the files."""
     if shutil.which("patch") is None:
-        return group.skip("patch", "it is not installed")
-    came = run(["patch", "-p1", "--binary", "-s"], diff, cwd=folder) if diff else Ended(0, b"", b"")
-    found = {name: (folder / name).read_bytes() for name in wanted}
-    return group.expect(("patch", diff), (0, wanted), (came.status, found))
+        group.skip("patch", "it is not installed")
+        return False
+    came = run(["patch", "-p1", "--binary", "-s"], diff, cwd=folder)
+    return came.status == 0 or not group.expect(("patch", diff), 0, came.status)
 
 
 def many(group, program, draw, git, count):
@@ -166,9 +185,9 @@ def many(group, program, draw, git, count):
             mended = [one for one in gone if one["file"] == name]
             entries(group, name, mended, before[name], listed(git, folder, name))
             lines(group, name, mended, old[name], new[name])
-        for name in names:
-            (folder / name).write_bytes(old[name])
-        patched(group, folder, diff, new)
+        write(folder, old)
+        if has_patched(group, folder, diff):
+            group.expect("patch", new, {name: (folder / name).read_bytes() for name in names})
         killed(group, program, draw, folder, old, new, took)
 
 
@@ -190,13 +209,13 @@ def lines(group, name, mended, old, new):
 
 def killed(group, program, draw, folder, old, new, seconds):
     """A run that is killed leaves each file as it was or as it has to be. A whole run takes about these seconds."""
-    torn, cut = 0, 0
+    torn, cut, part = 0, 0, min(1, SECONDS_UNTIL_KILLED / seconds)
+    old = dict(list(old.items())[:int(len(old) * part)])
     for _ in range(KILLS):
-        for name, text in old.items():
-            (folder / name).write_bytes(text)
+        write(folder, old)
         process = subprocess.Popen([program.path, "--fix", "--no-includes", *old], cwd=folder,
                                    stdout=subprocess.DEVNULL, stderr=subprocess.DEVNULL)
-        time.sleep(draw.uniform(0.2, 0.9) * seconds)
+        time.sleep(draw.uniform(0.2, 0.9) * seconds * part)
         process.send_signal(signal.SIGKILL)
         process.wait()
         found = {name: (folder / name).read_bytes() for name in old}
@@ -244,6 +263,7 @@ def baseline(group, program, draw):
 
 def check(group, program, draw, count):
     one_by_one(group, program)
+    single(group, program)
     baseline(group, program, draw)
     git = shutil.which("git")
     if git is None:

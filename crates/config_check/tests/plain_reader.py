@@ -843,6 +843,6 @@ def member_texts(place, key, value, why):
     return {"code": code, "file": "-", "line": place[0], "column": place[1]} | texts | coded
 
 
-def as_json(lines):
-    """The JSON objects of findings in standard input."""
-    return with_fingerprints([(member_texts(*line), line[1], line[2]) for line in lines])
+def as_json(lines, name="-"):
+    """The JSON objects of findings in standard input, or in the file with this name."""
+    return with_fingerprints([(member_texts(*line) | {"file": name}, line[1], line[2]) for line in lines])
