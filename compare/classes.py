@@ -236,8 +236,7 @@ CLASSES = [
 # the classes of whole files, by whose names config_file.py has the rules
 NUL = "a NUL outside a comment"
 BLANK = "a blank inside a value"
-REFTABLE = "a branch in a reftable"
-OF_FILES = {NUL: When(), BLANK: When(before=(2, 45)), REFTABLE: When(since=(2, 45))}
+OF_FILES = {NUL: When(), BLANK: When(before=(2, 45))}
 # the classes of what is read in a folder, by whose names here.py has the rules
 NO_URL = "a remote whose URL is a key alone"
 PARTIAL = "a partial clone without a name"

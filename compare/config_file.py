@@ -39,7 +39,7 @@ import sys
 import tempfile
 
 import readers
-from classes import BLANK, NUL, OF_FILES, REFTABLE, is_expected
+from classes import BLANK, NUL, OF_FILES, is_expected
 from programs import Wrong, counted
 
 ROWS = pathlib.Path(__file__).with_name("config_files.txt")
@@ -392,7 +392,7 @@ class Comparison:
     def __init__(self, program, reader, git, folder):
         self.program, self.git, self.folder = program, git, folder
         self.words = [program.path, "--includes", "--null", "--file"] if program else reader
-        of_reader = OF_FILES if program else {name: OF_FILES[name] for name in (NUL, REFTABLE)}
+        of_reader = OF_FILES if program else {NUL: OF_FILES[NUL]}
         self.expected = [name for name, when in of_reader.items() if is_expected(when, git.running)]
         self.counts = collections.Counter()
         self.faults = []
@@ -450,9 +450,9 @@ class Comparison:
     def follow_trees(self, folder):
         """Compares the folders of includes.txt."""
         for number, line in enumerate(lines_of_trees()):
-            known = ((NUL, r"\x00"), (REFTABLE, "@reftable"))
-            difference = next((name for name, word in known if word in line), None)
-            if difference is None or difference in self.expected:
+            difference = NUL if r"\x00" in line else None
+            # a reader need not know tables, since it finds the repository itself
+            if self.program or "@reftable" not in line:
                 self.follow("folders", Folder(folder / f"f{number}" / "R", line, self.git), difference)
 
     def follow_files(self, arguments, folder):

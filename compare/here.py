@@ -380,7 +380,11 @@ git -c protocol.file.allow=always -C work submodule --quiet add ../detached sub 
 git init -q -b main hooked; printf '#!/bin/sh\nexec sh "$SCRIPT" > "$OUTPUT"\n' > hooked/.git/hooks/pre-commit
 chmod +x hooked/.git/hooks/pre-commit; git init -q above; mkdir above/mounted; mkdir home
 printf '[includeIf "onbranch:main"]\n\tpath = more\n[includeIf "gitdir:**/work/"]\n\tpath = more\n' > home/.gitconfig
-printf '[a]\n\tmore = 1\n' > home/more
+printf '[includeIf "onbranch:in/"]\n\tpath = more\n' >> home/.gitconfig; printf '[a]\n\tmore = 1\n' > home/more
+export GIT_DEFAULT_REF_FORMAT=reftable GIT_TEST_REFTABLE_AUTOCOMPACTION=false
+git init -q -b main table; git -C table commit -q --allow-empty -m x; git -C table worktree add -q -b in/tree ../tables
+git init -q -b main --object-format=sha256 moved; git -C moved commit -q --allow-empty -m x
+git clone -q moved loose; git -C moved checkout -q -b in/deep; git -C loose checkout -q --detach
 """
 SAFE = {"GIT_CONFIG_COUNT": "1", "GIT_CONFIG_KEY_0": "safe.directory", "GIT_CONFIG_VALUE_0": "*"}
 COUNTED = {"GIT_CONFIG_COUNT": "2", "GIT_CONFIG_KEY_0": "a.b", "GIT_CONFIG_VALUE_0": "c",
@@ -397,6 +401,9 @@ LAYOUTS = [
     Layout("files of work trees", "work/deep"),
     Layout("two counted settings", "work", COUNTED), Layout("no variables", "work", None),
     Layout("an alias", "work/deep", {}, ALIAS), Layout("a hook", "hooked", {}, HOOK),
+    # in Git since 2.45 with a reftable
+    Layout("a table", "table"), Layout("a table of a linked work tree", "tables"),
+    Layout("a branch after another", "moved"), Layout("a detached HEAD after a branch", "loose"),
 ]
 # those that need root
 OF_ROOT = [Layout("another owner", "owned"), Layout("another owner that is safe", "owned", SAFE),

@@ -2,7 +2,7 @@
 import os
 from collections import namedtuple
 
-from . import _walk
+from . import _reftable, _walk
 from ._core import boolean, integer, line, link, variable
 from ._core import real as _real
 from ._errors import InvalidFile, Refused
@@ -58,10 +58,12 @@ def _head(directory):
 
 
 def _branch(directory):
-    """The name of the branch, or `None` if HEAD is detached, or a stub, as in a repository with a reftable."""
+    """The name of the branch, or `None` if HEAD names none. With a reftable its file names `.invalid`."""
     reference, _ = _head(directory)
-    is_branch = reference is not None and reference.startswith("refs/heads/") and reference != "refs/heads/.invalid"
-    return reference[11:] if is_branch else None
+    if reference == "refs/heads/.invalid":
+        folder = _join(directory, "reftable")
+        reference = _reftable.reference(folder, (line(_join(folder, "tables.list")) or "").split("\n"))
+    return reference[11:] if reference is not None and reference.startswith("refs/heads/") else None
 
 
 def _shared(directory):

@@ -3,6 +3,7 @@
 use crate::environment::Host;
 use crate::lines::line_of;
 use crate::names::{answer, copied, inside, text_of};
+use crate::reftable::branch_in;
 use std::{fs, io};
 
 /// What the symbolic link of this name leads to, or `None` if this is no link.
@@ -47,15 +48,11 @@ impl Head {
         }
     }
 
-    /// The branch that it names, without `refs/heads/`, or `None` if it names no branch. If references are in
-    /// a reftable, its text names `.invalid`, which no branch is called.
+    /// The branch that it names, without `refs/heads/`, or `None` if it names no branch.
     fn branch(&self) -> Option<&[u8]> {
         match self {
             Head::Link(target) => target.strip_prefix(b"refs/heads/"),
-            Head::Text(text) => match reference_in(text)?.strip_prefix(b"refs/heads/") {
-                Some(b".invalid") => None,
-                branch => branch,
-            },
+            Head::Text(text) => reference_in(text)?.strip_prefix(b"refs/heads/"),
         }
     }
 }
@@ -80,12 +77,14 @@ pub fn has_head<R: Host>(host: &R, git_dir: &[u8]) -> io::Result<bool> {
     }
 }
 
-/// The branch that HEAD of a git directory names, or `None` if it names no branch.
+/// The branch that HEAD of a git directory names, or `None` if it names no branch. If references are in a
+/// reftable, the file names `.invalid`, which no branch is called.
 pub fn branch_of<R: Host>(host: &R, git_dir: &[u8]) -> io::Result<Option<Vec<u8>>> {
     let Some(head) = head_of(host, git_dir)? else {
         return Ok(None);
     };
     match head.branch() {
+        Some(b".invalid") => branch_in(host, git_dir),
         Some(branch) => Ok(Some(copied(host, branch)?)),
         None => Ok(None),
     }

@@ -24,6 +24,7 @@ pub mod locked;
 pub mod names;
 mod owner;
 pub mod reading;
+mod reftable;
 pub mod repository;
 mod search;
 pub mod shown;

@@ -8,24 +8,29 @@ use std::alloc::AllocError;
 use std::fs::File;
 use std::io::{self, Read};
 
-/// The number of bytes of the longest line that is read.
-const LONGEST_LINE: u64 = 1 << 16;
+/// The number of bytes that are read of a file.
+const LONGEST: u64 = 1 << 16;
 
 /// The first bytes of a file.
-fn read_line<R: Host>(host: &R, file: &str) -> io::Result<Vec<u8>> {
+fn first_bytes<R: Host>(host: &R, file: &str) -> io::Result<Vec<u8>> {
     let mut text = Vec::new(host.alloc());
     File::open(host, file)?
-        .take(LONGEST_LINE)
+        .take(LONGEST)
         .read_to_end(&mut text)?;
     Ok(text)
 }
 
-/// The text of a regular file without the line ends at its end, or `None` if there is no such text.
-pub fn line_of<R: Host>(host: &R, file: &[u8]) -> io::Result<Option<Vec<u8>>> {
+/// The first bytes of a regular file, or `None` if there is no such file.
+pub(crate) fn bytes_of<R: Host>(host: &R, file: &[u8]) -> io::Result<Option<Vec<u8>>> {
     if !is_file(host, file)? {
         return Ok(None);
     }
-    let Some(mut text) = answer(read_line(host, text_of(file)?))? else {
+    answer(first_bytes(host, text_of(file)?))
+}
+
+/// The text of a regular file without the line ends at its end, or `None` if there is no such text.
+pub fn line_of<R: Host>(host: &R, file: &[u8]) -> io::Result<Option<Vec<u8>>> {
+    let Some(mut text) = bytes_of(host, file)? else {
         return Ok(None);
     };
     let length = without_line_ends(&text).len();

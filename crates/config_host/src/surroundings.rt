@@ -80,8 +80,7 @@ pub struct RepositoryBuf {
     pub real_git_dir: Vec<u8>,
     /// The absolute path of the git directory, with its links kept.
     pub git_dir: Vec<u8>,
-    /// The name of the branch without `refs/heads/`, or `None` if HEAD names no branch, as in a repository
-    /// whose references are in a reftable.
+    /// The name of the branch without `refs/heads/`, or `None` if HEAD names no branch.
     pub branch: Option<Vec<u8>>,
     /// The name of the git directory, as Git shows it: from the folder in which Git works.
     pub named_dir: Vec<u8>,

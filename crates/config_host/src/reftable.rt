@@ -1,0 +1,135 @@
+//! HEAD of a git directory whose references are in a reftable, which is a stack of tables in the folder `reftable`.
+//! Git's technical/reftable has the format of a table: the names of its first block come in order, HEAD among the
+//! first of them.
+
+use crate::environment::Host;
+use crate::lines::{bytes_of, line_in};
+use crate::names::{copied, inside};
+use std::alloc::{AllocError, Global};
+use std::io;
+
+/// The number at the start of these bytes, which ends with a byte whose highest bit is not set, and what follows.
+fn number(bytes: &[u8]) -> Option<(usize, &[u8])> {
+    let mut value = 0usize;
+    let mut rest = bytes;
+    for byte in bytes {
+        rest = rest.split_first()?.1;
+        let digit = usize::from(*byte & 0x7f);
+        value = value.checked_mul(128)?.checked_add(digit)?;
+        if *byte & 0x80 == 0 {
+            return Some((value, rest));
+        }
+        value = value.checked_add(1)?;
+    }
+    None
+}
+
+/// A reference of a table.
+#[derive(Clone, Copy)]
+struct Record<'t> {
+    /// How many bytes its name has in common with the name before it.
+    kept: usize,
+    /// The other bytes of its name.
+    more: &'t [u8],
+    /// The reference that it names, if it is a symbolic one.
+    target: Option<&'t [u8]>,
+}
+
+/// The first of these records, and those after it. An object id has this many bytes.
+fn first_record(records: &[u8], id: usize) -> Option<(Record<'_>, &[u8])> {
+    let (kept, rest) = number(records)?;
+    let (length, rest) = number(rest)?;
+    let (more, rest) = rest.split_at_checked(length / 8)?;
+    let (_, rest) = number(rest)?;
+    let (target, rest) = match length % 8 {
+        0 => (None, rest),
+        1 => (None, rest.split_at_checked(id)?.1),
+        2 => (None, rest.split_at_checked(id.checked_mul(2)?)?.1),
+        3 => {
+            let (length, rest) = number(rest)?;
+            let (target, rest) = rest.split_at_checked(length)?;
+            (Some(target), rest)
+        }
+        _ => return None,
+    };
+    Some((Record { kept, more, target }, rest))
+}
+
+/// How many bytes the header of a table has, and an object id in it. `None` if this is no table.
+fn sizes_of(table: &[u8]) -> Option<(usize, usize)> {
+    match table {
+        [b'R', b'E', b'F', b'T', 1, ..] => Some((24, 20)),
+        [b'R', b'E', b'F', b'T', 2, ..] => {
+            let (_, hash) = table.split_at_checked(24)?;
+            Some((28, if hash.starts_with(b"s256") { 32 } else { 20 }))
+        }
+        _ => None,
+    }
+}
+
+/// The records of the first block of a table whose header has this many bytes. Places of names follow them, and
+/// how many these are.
+fn records_of(table: &[u8], header: usize) -> Option<&[u8]> {
+    let (_, [b'r', high, middle, low, ..]) = table.split_at_checked(header)? else {
+        return None;
+    };
+    let length = usize::from(*high) * 65536 + usize::from(*middle) * 256 + usize::from(*low);
+    let (block, _) = table.split_at_checked(length)?;
+    let (block, [high, low]) = block.split_at_checked(length.checked_sub(2)?)? else {
+        return None;
+    };
+    let places = 3 * (usize::from(*high) * 256 + usize::from(*low));
+    let (block, _) = block.split_at_checked(block.len().checked_sub(places)?)?;
+    let (_, records) = block.split_at_checked(header + 4)?;
+    Some(records)
+}
+
+/// The record of HEAD in a table, if it has one.
+fn head_of(alloc: Global, table: &[u8]) -> Result<Option<Record<'_>>, AllocError> {
+    let Some((header, id)) = sizes_of(table) else {
+        return Ok(None);
+    };
+    let mut rest = records_of(table, header).unwrap_or(b"");
+    let mut name = Vec::new(alloc);
+    for _ in 0..table.len() {
+        let Some((record, after)) = first_record(rest, id) else {
+            break;
+        };
+        name.truncate(record.kept);
+        name.extend_from_slice(record.more)?;
+        if name.as_slice() == b"HEAD".as_slice() {
+            return Ok(Some(record));
+        }
+        rest = after;
+    }
+    Ok(None)
+}
+
+/// The branch that this record of HEAD names, without `refs/heads/`, or `None` if it names no branch.
+fn branch_of<R: Host>(host: &R, head: Record<'_>) -> io::Result<Option<Vec<u8>>> {
+    let Some(target) = head.target else {
+        return Ok(None);
+    };
+    match target.strip_prefix(b"refs/heads/") {
+        Some(branch) => Ok(Some(copied(host, branch)?)),
+        None => Ok(None),
+    }
+}
+
+/// The branch that HEAD names in the tables of a git directory, without `refs/heads/`, or `None` if it names no
+/// branch. A later table decides over those before it.
+pub(crate) fn branch_in<R: Host>(host: &R, git_dir: &[u8]) -> io::Result<Option<Vec<u8>>> {
+    let folder = inside(host, git_dir, b"reftable")?;
+    let Some(names) = line_in(host, &folder, b"tables.list")? else {
+        return Ok(None);
+    };
+    let mut branch = None;
+    for name in names.split(|byte| *byte == b'\n') {
+        if let Some(table) = bytes_of(host, &inside(host, &folder, name)?)? {
+            if let Some(head) = head_of(host.alloc(), &table)? {
+                branch = branch_of(host, head)?;
+            }
+        }
+    }
+    Ok(branch)
+}
