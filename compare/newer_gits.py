@@ -16,7 +16,8 @@ from programs import Missing, counted
 SUITES = ["trixie", "sid"]
 PACKAGES = ["git", "libc6", "libpcre2-8-0", "zlib1g"]
 SOURCE = "deb [signed-by=/usr/share/keyrings/debian-archive-keyring.gpg] http://deb.debian.org/debian {} main\n"
-SECONDS = 60
+# a busy host takes long over the lists of packages
+SECONDS = 180
 
 
 def run(until, folder, *words):
