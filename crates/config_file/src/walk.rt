@@ -109,6 +109,7 @@ fn name_of(
 }
 
 /// What an entry of a file with the key `path` includes.
+#[inline(never)]
 fn include_by_path(
     alloc: Global,
     known: &Known<'_>,
@@ -132,7 +133,7 @@ fn include_by_path(
 }
 
 /// What an entry of a file includes. It fails only if memory is refused.
-#[inline]
+#[inline(always)]
 pub fn include_of(
     alloc: Global,
     known: &Known<'_>,

@@ -208,7 +208,16 @@ impl<'k, 'p> Wanted<'k, 'p> {
     }
 
     /// Whether an entry has a wanted key.
+    #[inline]
     pub fn has_key(&mut self, entry: &Entry<'_>) -> Result<bool, AllocError> {
+        if self.pattern.is_none() && matches!(self.keys, Keys::All) {
+            return Ok(true);
+        }
+        self.has_named_key(entry)
+    }
+
+    /// Whether an entry has a wanted key, if not all keys are wanted.
+    fn has_named_key(&mut self, entry: &Entry<'_>) -> Result<bool, AllocError> {
         self.listed.clear();
         if self.pattern.is_some() || self.keys.needs_listed() {
             entry.push_key(&mut self.listed)?;
@@ -220,6 +229,7 @@ impl<'k, 'p> Wanted<'k, 'p> {
     }
 
     /// Whether an entry with this value is wanted. That of a key alone is the empty text.
+    #[inline]
     pub fn has_value(&mut self, value: Option<&[u8]>) -> bool {
         let value = value.unwrap_or(b"");
         if let Some(fixed) = self.fixed {
