@@ -34,6 +34,7 @@ pub fn tell<M: fmt::Display + Drop>(rt: &HostRuntime, message: M) -> io::Result<
 }
 
 /// Appends the word for a scope, if it is to be shown.
+#[inline]
 fn push_scope(
     line: &mut Vec<u8>,
     request: &Request<'_, '_>,
@@ -57,6 +58,7 @@ pub enum Name<'s, 't> {
 
 impl Name<'_, '_> {
     /// Appends the key.
+    #[inline]
     fn push_to(self, line: &mut Vec<u8>) -> Result<(), AllocError> {
         match self {
             Name::Text(text) => line.extend_from_slice(text),
@@ -182,6 +184,7 @@ fn push_origin(
 
 /// Appends an entry as Git writes it: its scope, its origin, its key and its value, as far as they are shown.
 /// Without a value the key stands alone.
+#[inline(always)]
 pub fn push_as_git(
     line: &mut Vec<u8>,
     request: &Request<'_, '_>,
