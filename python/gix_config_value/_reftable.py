@@ -35,6 +35,9 @@ def _references(table):
 
 def _targets(file):
     """What HEAD names in the table of a file: one reference or `None`, and nothing if the table does not have it."""
+    if not os.path.isfile(file):
+        # a pipe would never end
+        return []
     try:
         with open(file, "rb") as opened:
             table = opened.read(LONGEST)
