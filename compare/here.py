@@ -385,6 +385,9 @@ export GIT_DEFAULT_REF_FORMAT=reftable GIT_TEST_REFTABLE_AUTOCOMPACTION=false
 git init -q -b main table; git -C table commit -q --allow-empty -m x; git -C table worktree add -q -b in/tree ../tables
 git init -q -b main --object-format=sha256 moved; git -C moved commit -q --allow-empty -m x
 git clone -q moved loose; git -C moved checkout -q -b in/deep; git -C loose checkout -q --detach
+git init -q -b main long; git -C long commit -q --allow-empty -m x; git -C long config reftable.blockSize 1048576
+seq -f "create refs/heads/b%g $(git -C long rev-parse HEAD)" 3000 | git -C long update-ref --stdin
+git -C long pack-refs
 """
 SAFE = {"GIT_CONFIG_COUNT": "1", "GIT_CONFIG_KEY_0": "safe.directory", "GIT_CONFIG_VALUE_0": "*"}
 COUNTED = {"GIT_CONFIG_COUNT": "2", "GIT_CONFIG_KEY_0": "a.b", "GIT_CONFIG_VALUE_0": "c",
@@ -404,6 +407,7 @@ LAYOUTS = [
     # in Git since 2.45 with a reftable
     Layout("a table", "table"), Layout("a table of a linked work tree", "tables"),
     Layout("a branch after another", "moved"), Layout("a detached HEAD after a branch", "loose"),
+    Layout("a table whose first block is long", "long"),
 ]
 # those that need root
 OF_ROOT = [Layout("another owner", "owned"), Layout("another owner that is safe", "owned", SAFE),

@@ -3,8 +3,8 @@ import os
 
 # of each version of a table how many bytes its header has
 HEADERS = {b"REFT\1": 24, b"REFT\2": 28}
-# how many bytes are read of a table: HEAD is among the first names of its first block
-LONGEST = 1 << 16
+# how many bytes are read of a table, which its first block cannot exceed: HEAD is among the first names of it
+LONGEST = 1 << 24
 
 
 def _number(table, at):

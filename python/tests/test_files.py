@@ -615,6 +615,14 @@ class Configurations(Files):
         held = self.repository_of("r", "ref: refs/heads/.invalid\n", conditions)
         self.assertEqual(held, [False, False, True])
 
+    def test_pipe_as_table(self):
+        self.write({"r/.git/reftable/tables.list": "pipe\n"})
+        os.mkfifo(os.path.join(self.root, "r/.git/reftable/pipe"))
+        # who opens the pipe waits, and is ended
+        self.addCleanup(signal.alarm, 0)
+        signal.alarm(60)
+        self.assertEqual(self.repository_of("r", "ref: refs/heads/.invalid\n", ["onbranch:**"]), [False])
+
     def stars(self):
         for letters, condition, holds in STARS:
             began = time.thread_time()

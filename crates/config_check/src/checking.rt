@@ -74,18 +74,22 @@ const MISSING: Wrong<'static> = Wrong {
 const STDIN: &[u8] = b"-";
 
 /// Adds the name of a file.
-fn add(names: &mut Vec<Vec<u8>>, name: Vec<u8>) -> Result<(), AllocError> {
+fn add<'t>(names: &mut Vec<&'t [u8]>, name: &'t [u8]) -> Result<(), AllocError> {
     match names.push(name) {
         Ok(()) => Ok(()),
         Err(_) => Err(AllocError),
     }
 }
 
-/// The names of files.
-fn named(alloc: Global, names: &[&str]) -> Result<Vec<Vec<u8>>, AllocError> {
+/// The names of files, which are kept.
+fn named<'t>(
+    alloc: Global,
+    disk: &Disk<'t, HostRuntime>,
+    names: &[&str],
+) -> Result<Vec<&'t [u8]>, AllocError> {
     let mut found = Vec::new(alloc);
     for name in names {
-        add(&mut found, name.as_bytes().to_vec(alloc)?)?;
+        add(&mut found, disk.kept(name.as_bytes())?)?;
     }
     Ok(found)
 }
@@ -104,7 +108,7 @@ struct Checking<'c, 't> {
     disk: Disk<'t, HostRuntime>,
     surroundings: Surroundings<'t>,
     /// The real names of the files that are checked, or named and checked later.
-    seen: BTreeSet<Vec<u8>>,
+    seen: BTreeSet<&'t [u8]>,
     /// The files that are open: each is included by the one before.
     open: Vec<Source<'t>>,
     outcome: Outcome,
@@ -423,7 +427,7 @@ impl<'c, 't> Checking<'c, 't> {
     /// Whether one of the files that the walk is in has this real name.
     fn is_within(&self, walk: &Walk<'t>, real: &[u8]) -> Result<bool, Failure<'static>> {
         for frame in walk.frames() {
-            if self.disk.real_name(frame.place.name)?.as_slice() == real {
+            if self.disk.real_name(frame.place.name)? == real {
                 return Ok(true);
             }
         }
@@ -446,10 +450,10 @@ impl<'c, 't> Checking<'c, 't> {
         }
         let name = self.rooted(entry, name)?;
         let real = self.disk.real_name(&name)?;
-        if self.is_within(walk, &real)? {
+        if self.is_within(walk, real)? {
             return self.report(place, entry, LOOP);
         }
-        if self.seen.contains(&real) {
+        if self.seen.contains(real) {
             return Ok(());
         }
         match self.disk.read(self.rt.alloc(), &name)? {
@@ -525,7 +529,7 @@ impl<'c, 't> Checking<'c, 't> {
     }
 
     /// Remembers the real name of a file, and returns whether it is new.
-    fn remember(&mut self, real: Vec<u8>) -> Result<bool, Failure<'static>> {
+    fn remember(&mut self, real: &'t [u8]) -> Result<bool, Failure<'static>> {
         match self.seen.insert(real) {
             Ok(is_new) => Ok(is_new),
             Err(_) => Err(Failure::Memory(AllocError)),
@@ -561,16 +565,16 @@ impl<'c, 't> Checking<'c, 't> {
     }
 
     /// The files that are named, or those that Git reads in the current folder, each once.
-    fn first_files(&mut self) -> Result<Vec<Vec<u8>>, Failure<'static>> {
+    fn first_files(&mut self) -> Result<Vec<&'t [u8]>, Failure<'static>> {
         let alloc = self.rt.alloc();
         let found = match self.asked.files {
-            Some(names) => named(alloc, names)?,
+            Some(names) => named(alloc, &self.disk, names)?,
             None if self.asked.output == Output::Fixed => return Err(Failure::NoneNamed),
             None => files_here(&self.disk)?,
         };
         let mut files = Vec::new(alloc);
         for name in found {
-            let real = self.disk.real_name(&name)?;
+            let real = self.disk.real_name(name)?;
             if self.remember(real)? {
                 add(&mut files, name)?;
             }
@@ -647,7 +651,7 @@ impl<'c, 't> Checking<'c, 't> {
         if files.is_empty() {
             return Err(Failure::NoFile);
         }
-        let has_stdin = files.iter().any(|name| name.as_slice() == STDIN);
+        let has_stdin = files.iter().any(|name| *name == STDIN);
         if has_stdin && self.asked.output == Output::Fixed {
             return Err(Failure::Unchangeable);
         }
@@ -697,6 +701,7 @@ pub(crate) fn check<'m, 't>(
     };
     let disk = Disk::new(rt, texts);
     let options = options_of(&disk, asked)?;
+    let surroundings = Surroundings::new(&disk, Followed::Everything)?;
     let judge = Judge::new(alloc, &rows)?;
     let report = Report::new(alloc, asked, &rows, baseline)?;
     let mut checking = Checking {
@@ -708,7 +713,7 @@ pub(crate) fn check<'m, 't>(
         options,
         report,
         disk,
-        surroundings: Surroundings::new(rt, Followed::Everything)?,
+        surroundings,
         seen: BTreeSet::new(alloc),
         open: Vec::new(alloc),
         outcome: Outcome::default(),

@@ -161,7 +161,7 @@ fn shared_text<'t>(
     if location.repository.is_none() && location.stop.is_none() {
         return Ok(None);
     }
-    match disk.within(&location.folder)?.first(SHARED.as_bytes()) {
+    match disk.within(location.folder)?.first(SHARED.as_bytes()) {
         Ok((_, text)) => Ok(Some(text)),
         Err(ReadError::System(error)) if error.kind() == ErrorKind::NotFound => Ok(None),
         Err(error) => Err(Failure::Shared(error)),

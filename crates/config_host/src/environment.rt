@@ -3,6 +3,7 @@ ghost use Rattle.std.specs.Prelude.{◌≡◌};
 ghost use Rattle.config_host.specs.declared.environment.HostError.TheVariants.{System};
 ghost use Rattle.config_host.specs.declared.environment.ArgumentError.TheVariants.{Memory};
 
+use crate::disk::Disk;
 use bstr::BStr;
 use std::alloc::{AllocError, AllocGlobal};
 use std::env::{Env, FillError};
@@ -144,17 +145,25 @@ pub fn variable<R: Host>(host: &R, name: &str) -> Result<Option<Vec<u8>>, AllocE
     bytes_of(host, Asked::Variable(name))
 }
 
+/// The value of an environment variable, which is kept, or `None` if it is not set.
+pub(crate) fn kept_variable<'t, R: Host>(
+    disk: &Disk<'t, R>,
+    name: &str,
+) -> Result<Option<&'t [u8]>, AllocError> {
+    match variable(disk.host, name)? {
+        Some(value) => Ok(Some(disk.kept(&value)?)),
+        None => Ok(None),
+    }
+}
+
 /// The value of an environment variable that has to be UTF-8.
-pub(crate) fn text_variable<R: Host>(
-    host: &R,
+pub(crate) fn text_variable<'t, R: Host>(
+    disk: &Disk<'t, R>,
     name: &'static str,
-) -> Result<Option<String>, HostError> {
-    let Some(value) = variable(host, name)? else {
-        return Ok(None);
-    };
-    match String::from_utf8(value) {
-        Ok(text) => Ok(Some(text)),
-        Err(_) => Err(HostError::Variable(name)),
+) -> Result<Option<&'t [u8]>, HostError> {
+    match kept_variable(disk, name)? {
+        Some(value) if str::from_utf8(value).is_err() => Err(HostError::Variable(name)),
+        value => Ok(value),
     }
 }
 
@@ -178,12 +187,12 @@ pub fn arguments<R: Host>(host: &R) -> Result<Vec<String>, ArgumentError> {
 }
 
 /// The name of the current folder from the root, without links.
-pub(crate) fn current_folder<R: Host>(host: &R) -> io::Result<Vec<u8>> {
-    let mut bytes = Vec::new(host.alloc());
+pub(crate) fn current_folder<'t, R: Host>(disk: &Disk<'t, R>) -> io::Result<&'t [u8]> {
+    let mut bytes = Vec::new(disk.host.alloc());
     if bytes.resize(LONGEST_FOLDER, 0).is_err() {
         return Err(io::Error::from(ErrorKind::OutOfMemory));
     }
-    let length = host.current_dir(&mut bytes)?;
+    let length = disk.host.current_dir(&mut bytes)?;
     bytes.truncate(length);
-    Ok(bytes)
+    Ok(disk.kept(&bytes)?)
 }

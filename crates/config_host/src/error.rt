@@ -80,26 +80,26 @@ impl From<AllocError> for HereError<'_> {
 /// let is_unsafe = matches!(here.refusal, Some(Refusal::Owner(_) | Refusal::Bare(_)));
 /// assert!(rt; !is_unsafe);
 /// ```
-#[derive(Debug, Drop, Error)]
+#[derive(Clone, Copy, Debug, Error)]
 #[non_exhaustive]
-pub enum Refusal {
+pub enum Refusal<'t> {
     /// GIT_DIR has this text, which names no git directory.
     #[error("not a git repository: '{}'", BStr::new(.0))]
-    GitDir(Vec<u8>),
+    GitDir(&'t [u8]),
     /// Its format has this version, and Git knows 0 and 1.
     #[error("Expected git repo version <= 1, found {0}")]
     Version(i32),
     /// Git does not know this extension of version 1. If there are more, this is the first.
     #[error("unknown repository extension found: {}", BStr::new(.0))]
-    Extension(Vec<u8>),
+    Extension(&'t [u8]),
     /// Its format has version 0, and this extension needs version 1. If there are more, this is the first.
     #[error("repo version is 0, but v1-only extension found: {}", BStr::new(.0))]
-    ExtensionOfLater(Vec<u8>),
+    ExtensionOfLater(&'t [u8]),
     /// This folder, its git directory or the file `.git` belongs to another user, and `safe.directory` does
     /// not name the folder.
     #[error("detected dubious ownership in repository at '{}'", BStr::new(.0))]
-    Owner(Vec<u8>),
+    Owner(&'t [u8]),
     /// This is a bare repository, and `safe.bareRepository` says that those have to be named by GIT_DIR.
     #[error("cannot use bare repository '{}' (safe.bareRepository is 'explicit')", BStr::new(.0))]
-    Bare(Vec<u8>),
+    Bare(&'t [u8]),
 }

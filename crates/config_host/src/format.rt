@@ -9,17 +9,17 @@ use std::alloc::AllocError;
 use std::fmt;
 
 /// What the file of a repository says of its format.
-#[derive(Drop)]
-pub struct Format {
+#[derive(Clone, Copy)]
+pub(crate) struct Format<'t> {
     /// Whether `core.bare` says that it is bare.
     pub is_bare: bool,
     /// The folder of `core.worktree`.
-    pub work_tree: Option<Vec<u8>>,
+    pub work_tree: Option<&'t [u8]>,
     /// Whether each work tree has a file of its own.
     pub has_worktree_files: bool,
     version: Option<i32>,
-    unknown: Option<Vec<u8>>,
-    of_later: Option<Vec<u8>>,
+    unknown: Option<&'t [u8]>,
+    of_later: Option<&'t [u8]>,
 }
 
 /// What Git knows of an extension.
@@ -147,15 +147,15 @@ fn is_extension<'t, R: Host>(
 }
 
 /// Takes the name of an extension, if it is the first.
-fn take_first(first: &mut Option<Vec<u8>>, name: Vec<u8>) {
+fn take_first<'t>(first: &mut Option<&'t [u8]>, name: &'t [u8]) {
     if first.is_none() {
         *first = Some(name);
     }
 }
 
-impl Format {
+impl<'t> Format<'t> {
     /// A format of which nothing is said.
-    fn new() -> Format {
+    fn new() -> Format<'t> {
         Format {
             is_bare: false,
             work_tree: None,
@@ -167,7 +167,7 @@ impl Format {
     }
 
     /// Takes an extension of this name, in lower case.
-    fn extend<'t, R: Host>(
+    fn extend<R: Host>(
         &mut self,
         disk: &Disk<'t, R>,
         setting: &Setting<'_>,
@@ -177,7 +177,7 @@ impl Format {
             return Ok(());
         }
         let is_known = is_extension(disk, setting, later(name))?;
-        let name = name.to_vec(disk.host.alloc())?;
+        let name = disk.kept(name)?;
         if is_known {
             take_first(&mut self.of_later, name);
         } else {
@@ -187,7 +187,7 @@ impl Format {
     }
 
     /// Takes what a setting of this key says of the work tree.
-    fn take_work_tree<'t, R: Host>(
+    fn take_work_tree<R: Host>(
         &mut self,
         disk: &Disk<'t, R>,
         setting: &Setting<'_>,
@@ -196,7 +196,7 @@ impl Format {
         match str::from_utf8(key) {
             Ok("core.bare") => self.is_bare = boolean(disk, setting)?,
             Ok("core.worktree") => {
-                self.work_tree = Some(text(disk, setting)?.to_vec(disk.host.alloc())?);
+                self.work_tree = Some(disk.kept(text(disk, setting)?)?);
             }
             _ => {}
         }
@@ -204,7 +204,7 @@ impl Format {
     }
 
     /// Takes what a setting of this key says.
-    fn take_named<'t, R: Host>(
+    fn take_named<R: Host>(
         &mut self,
         disk: &Disk<'t, R>,
         setting: &Setting<'_>,
@@ -222,7 +222,7 @@ impl Format {
     }
 
     /// Takes what a setting of the repository says.
-    fn take<'t, R: Host>(
+    fn take<R: Host>(
         &mut self,
         disk: &Disk<'t, R>,
         setting: &Setting<'_>,
@@ -232,7 +232,7 @@ impl Format {
     }
 
     /// Takes what the settings of the repository say.
-    fn take_all<'t, R: Host>(
+    fn take_all<R: Host>(
         &mut self,
         disk: &Disk<'t, R>,
         settings: &Settings<'_>,
@@ -244,7 +244,7 @@ impl Format {
     }
 
     /// Takes what a setting of a work tree of its own says.
-    fn take_own<'t, R: Host>(
+    fn take_own<R: Host>(
         &mut self,
         disk: &Disk<'t, R>,
         setting: &Setting<'_>,
@@ -254,7 +254,7 @@ impl Format {
     }
 
     /// Takes what the settings of a work tree of its own say.
-    fn take_all_own<'t, R: Host>(
+    fn take_all_own<R: Host>(
         &mut self,
         disk: &Disk<'t, R>,
         settings: &Settings<'_>,
@@ -266,11 +266,11 @@ impl Format {
     }
 
     /// Why Git uses no repository of this format, if it does not.
-    pub fn refusal(&mut self) -> Option<Refusal> {
+    pub fn refusal(&self) -> Option<Refusal<'t>> {
         match self.version {
             Some(version) if 1 < version => Some(Refusal::Version(version)),
-            Some(1) => Some(Refusal::Extension(self.unknown.take()?)),
-            _ => Some(Refusal::ExtensionOfLater(self.of_later.take()?)),
+            Some(1) => Some(Refusal::Extension(self.unknown?)),
+            _ => Some(Refusal::ExtensionOfLater(self.of_later?)),
         }
     }
 }
@@ -295,7 +295,10 @@ fn settings_in<'t, R: Host>(
 
 /// The format that the file of a repository states. Git looks at no include here. A file that states no
 /// version states nothing.
-pub fn format_in<'t, R: Host>(disk: &Disk<'t, R>, file: &[u8]) -> Result<Format, HereError<'t>> {
+pub(crate) fn format_in<'t, R: Host>(
+    disk: &Disk<'t, R>,
+    file: &[u8],
+) -> Result<Format<'t>, HereError<'t>> {
     let settings = settings_in(disk, file)?;
     let mut format = Format::new();
     format.take_all(disk, &settings)?;
@@ -306,9 +309,9 @@ pub fn format_in<'t, R: Host>(disk: &Disk<'t, R>, file: &[u8]) -> Result<Format,
 }
 
 /// Takes what the file of a work tree says of it.
-pub fn take_own_file<'t, R: Host>(
+pub(crate) fn take_own_file<'t, R: Host>(
     disk: &Disk<'t, R>,
-    format: &mut Format,
+    format: &mut Format<'t>,
     file: &[u8],
 ) -> Result<(), HereError<'t>> {
     let settings = settings_in(disk, file)?;

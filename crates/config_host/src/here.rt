@@ -3,11 +3,10 @@
 use crate::disk::Disk;
 use crate::environment::{Host, HostError};
 use crate::error::{HereError, Refusal};
-use crate::names::copied;
 use crate::reading::{seek_urls, settings_at};
 use crate::repository::{Location, find};
 use crate::sources::{Named, Source, is_there, names};
-use crate::surroundings::{RepositoryBuf, Surroundings};
+use crate::surroundings::{FoundRepository, Surroundings};
 use bumpalo::Bump;
 use config_file::Settings;
 use std::io::{self, ErrorKind};
@@ -21,7 +20,7 @@ use std::io::{self, ErrorKind};
 /// let texts = Bump::new(rt.alloc());
 /// let here = read_here(&rt, &texts, b".").expect(&rt, "settings that Git can read");
 /// assert!(rt; here.refusal.is_none());
-/// let disk = Disk::new(&rt, &texts).within(&here.folder)?; // opens the files of `here.settings`
+/// let disk = Disk::new(&rt, &texts).within(here.folder)?; // opens the files of `here.settings`
 /// ```
 #[derive(Drop)]
 pub struct Here<'t> {
@@ -29,20 +28,19 @@ pub struct Here<'t> {
     /// not begin at the root begins in `folder`.
     pub settings: Settings<'t>,
     /// The folder in which Git works: the top of the work tree, or the folder that was asked about.
-    pub folder: Vec<u8>,
+    pub folder: &'t [u8],
     /// Why Git uses no repository although one is there. It then reads none of its settings.
-    pub refusal: Option<Refusal>,
+    pub refusal: Option<Refusal<'t>>,
 }
 
 /// The settings that Git reads if it works in this folder, and uses this repository.
 fn settings_in<'t, R: Host>(
     disk: &Disk<'t, R>,
     folder: &[u8],
-    repository: Option<RepositoryBuf>,
+    repository: Option<FoundRepository<'t>>,
 ) -> Result<Settings<'t>, HereError<'t>> {
     let inner = disk.within(folder)?;
-    let names = names(disk.host, repository.as_ref())?;
-    settings_at(&inner, &names, repository)
+    settings_at(&inner, &names(disk, repository)?, repository)
 }
 
 /// What Git reads where it works.
@@ -50,19 +48,13 @@ fn read_at<'t, R: Host>(
     disk: &Disk<'t, R>,
     location: Location<'t>,
 ) -> Result<Here<'t>, HereError<'t>> {
-    let Location {
-        folder,
-        repository,
-        refusal,
-        stop,
-    } = location;
-    if let Some(stop) = stop {
+    if let Some(stop) = location.stop {
         return Err(stop);
     }
     Ok(Here {
-        settings: settings_in(disk, &folder, repository)?,
-        folder,
-        refusal,
+        settings: settings_in(disk, location.folder, location.repository)?,
+        folder: location.folder,
+        refusal: location.refusal,
     })
 }
 
@@ -102,10 +94,12 @@ pub fn settings_here<'t, R: Host>(
     Ok(read_here(host, texts, folder)?.settings)
 }
 
-/// Where Git works in the current folder. A line at which Git stops is kept there, and is no error.
-fn found_here<'t, R: Host>(disk: &Disk<'t, R>) -> Result<Location<'t>, HostError> {
+/// Where Git works in the current folder, and its repository. A line at which Git stops is no error.
+fn found_here<'t, R: Host>(
+    disk: &Disk<'t, R>,
+) -> Result<(&'t [u8], Option<FoundRepository<'t>>), HostError> {
     match find(disk, b"") {
-        Ok(location) => Ok(location),
+        Ok(location) => Ok((location.folder, location.repository)),
         Err(HereError::Host(error)) => Err(error),
         // the current folder is there, and whatever else stops Git is kept in the location
         Err(_) => Err(HostError::System(io::Error::from(ErrorKind::NotFound))),
@@ -113,21 +107,21 @@ fn found_here<'t, R: Host>(disk: &Disk<'t, R>) -> Result<Location<'t>, HostError
 }
 
 /// The name by which the system opens a file, or `None` if it is not there.
-fn opened_if_there<R: Host>(disk: &Disk<'_, R>, name: &[u8]) -> io::Result<Option<Vec<u8>>> {
+fn opened_if_there<'t, R: Host>(
+    disk: &Disk<'t, R>,
+    name: &'t [u8],
+) -> io::Result<Option<&'t [u8]>> {
     if !is_there(disk, name)? {
         return Ok(None);
     }
-    match disk.opened_name(name) {
-        Ok(name) => Ok(Some(name)),
-        Err(_) => Ok(Some(copied(disk.host, name)?)),
-    }
+    Ok(Some(disk.opened_name(name).unwrap_or(name)))
 }
 
 /// The names by which the system opens those of these files that are there.
-fn those_there<R: Host>(disk: &Disk<'_, R>, names: &[Named]) -> io::Result<Vec<Vec<u8>>> {
+fn those_there<'t, R: Host>(disk: &Disk<'t, R>, names: &[Named<'t>]) -> io::Result<Vec<&'t [u8]>> {
     let mut files = Vec::new(disk.host.alloc());
     for named in names {
-        if let Some(name) = opened_if_there(disk, &named.name)? {
+        if let Some(name) = opened_if_there(disk, named.name)? {
             files.push(name)?;
         }
     }
@@ -135,16 +129,19 @@ fn those_there<R: Host>(disk: &Disk<'_, R>, names: &[Named]) -> io::Result<Vec<V
 }
 
 /// The names by which the system opens the files that Git reads where it works.
-fn files_at<R: Host>(disk: &Disk<'_, R>, location: &Location<'_>) -> io::Result<Vec<Vec<u8>>> {
-    let names = names(disk.host, location.repository.as_ref())?;
-    those_there(&disk.within(&location.folder)?, &names)
+fn files_at<'t, R: Host>(
+    disk: &Disk<'t, R>,
+    folder: &[u8],
+    repository: Option<FoundRepository<'t>>,
+) -> io::Result<Vec<&'t [u8]>> {
+    those_there(&disk.within(folder)?, &names(disk, repository)?)
 }
 
 /// The names of the files that Git reads in the current folder, by which the system opens them, in the order
 /// in which Git reads them. A line at which Git stops is no error here.
-pub fn files_here<R: Host>(disk: &Disk<'_, R>) -> Result<Vec<Vec<u8>>, HostError> {
-    let location = found_here(disk)?;
-    Ok(files_at(disk, &location)?)
+pub fn files_here<'t, R: Host>(disk: &Disk<'t, R>) -> Result<Vec<&'t [u8]>, HostError> {
+    let (folder, repository) = found_here(disk)?;
+    Ok(files_at(disk, folder, repository)?)
 }
 
 /// Finds the repository of the current folder, if this text has a condition and it is not known yet.
@@ -157,7 +154,7 @@ fn prepare_repository<'t, R: Host>(
         return Ok(());
     }
     let repository = find(disk, b"")?.used()?;
-    Ok(surroundings.set_repository(disk.host, repository)?)
+    Ok(surroundings.set_repository(disk, repository)?)
 }
 
 /// Finds what conditions ask about, if this text has one and it is not known yet: the repository of the

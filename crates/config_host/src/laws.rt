@@ -2,8 +2,10 @@
 ghost use Rattle.std.specs.Prelude.{◌≡◌};
 ghost use Rattle.config_text.specs.Orders.{Equates, IsCopied};
 
-use crate::sources::Source;
-use crate::surroundings::Followed;
+use crate::error::Refusal;
+use crate::sources::{Named, Source};
+use crate::surroundings::{Followed, FoundRepository};
+use crate::users::Users;
 
 /// Choices of includes are equal exactly if they are the same.
 pub fn followed()
@@ -11,7 +13,11 @@ pub fn followed()
     ensures clones { IsCopied ⟦<Followed as Clone>⟧.is_clone ⟦<Followed as Clone>⟧.is_infallible }
 {}
 
-/// A clone of a source is the same, and never fails.
-pub fn sources()
-    ensures { IsCopied ⟦<Source<'static> as Clone>⟧.is_clone ⟦<Source<'static> as Clone>⟧.is_infallible }
+/// A clone is the same, and never fails.
+pub fn copies()
+    ensures sources { IsCopied ⟦<Source<'static> as Clone>⟧.is_clone ⟦<Source<'static> as Clone>⟧.is_infallible }
+    ensures names { IsCopied ⟦<Named<'static> as Clone>⟧.is_clone ⟦<Named<'static> as Clone>⟧.is_infallible }
+    ensures refusals { IsCopied ⟦<Refusal<'static> as Clone>⟧.is_clone ⟦<Refusal<'static> as Clone>⟧.is_infallible }
+    ensures repositories { IsCopied ⟦<FoundRepository<'static> as Clone>⟧.is_clone ⟦<FoundRepository<'static> as Clone>⟧.is_infallible }
+    ensures users { IsCopied ⟦<Users<'static> as Clone>⟧.is_clone ⟦<Users<'static> as Clone>⟧.is_infallible }
 {}

@@ -8,8 +8,9 @@ ghost use Rattle.config_host.specs.declared.locked.LockError.TheVariants.{Held, 
 
 use crate::disk::{Disk, ReadError, known_length, opened};
 use crate::environment::Host;
-use crate::names::{copied, folder_of, inside, text_of};
+use crate::names::{folder_of, inside, joined, text_of};
 use bstr::BStr;
+use std::alloc::AllocError;
 use std::fs::{self, Files, OpenFile, OpenOptions, Permissions};
 use std::io::{self, ErrorKind, Write};
 use std::os::unix::fs::{MetadataExt, PermissionsExt};
@@ -56,6 +57,14 @@ impl From<ReadError> for LockError {
     }
 }
 
+impl From<AllocError> for LockError {
+    ghost from_gives = { λ error refused. (read : _) × (refused ≡ Read read) };
+
+    fn from(error: AllocError) -> LockError {
+        LockError::Read(ReadError::from(error))
+    }
+}
+
 impl From<io::Error> for LockError {
     ghost from_gives = { λ _ refused. (error : _) × (refused ≡ Read error) };
 
@@ -76,9 +85,9 @@ fn refusal(lock: Vec<u8>, error: io::Error) -> LockError
 }
 
 /// What the link of this name leads to, or `None` if this is no link.
-fn target_of<R: Host>(host: &R, name: &[u8]) -> io::Result<Option<Vec<u8>>> {
-    match fs::read_link(host, text_of(name)?) {
-        Ok(target) => Ok(Some(copied(host, target.as_path().as_str().as_bytes())?)),
+fn target_of<'t, R: Host>(disk: &Disk<'t, R>, name: &[u8]) -> io::Result<Option<&'t [u8]>> {
+    match fs::read_link(disk.host, text_of(name)?) {
+        Ok(target) => Ok(Some(disk.kept(target.as_path().as_str().as_bytes())?)),
         Err(error) if matches!(error.kind(), ErrorKind::InvalidInput | ErrorKind::NotFound) => Ok(
             None,
         ),
@@ -87,11 +96,11 @@ fn target_of<R: Host>(host: &R, name: &[u8]) -> io::Result<Option<Vec<u8>>> {
 }
 
 /// The name of the file to which the links from this name lead. There need not be such a file.
-fn behind_links<R: Host>(host: &R, name: &[u8]) -> io::Result<Vec<u8>> {
-    let mut name = copied(host, name)?;
+fn behind_links<'t, R: Host>(disk: &Disk<'t, R>, name: &'t [u8]) -> io::Result<&'t [u8]> {
+    let mut name = name;
     for _ in 0..LINKS {
-        match target_of(host, &name)? {
-            Some(target) => name = inside(host, folder_of(&name), &target)?,
+        match target_of(disk, name)? {
+            Some(target) => name = inside(disk, folder_of(name), target)?,
             None => return Ok(name),
         }
     }
@@ -101,7 +110,7 @@ fn behind_links<R: Host>(host: &R, name: &[u8]) -> io::Result<Vec<u8>> {
 /// A lock: a file that is open to be written, and is removed with this value while it is held.
 struct LockFile<'t, R: Files> {
     host: &'t R,
-    name: Vec<u8>,
+    name: &'t [u8],
     file: R::File,
     is_held: bool,
 }
@@ -109,7 +118,7 @@ struct LockFile<'t, R: Files> {
 impl<R: Files> Drop for LockFile<'_, R> {
     fn drop(self) {
         if self.is_held {
-            if let Ok(name) = text_of(&self.name) {
+            if let Ok(name) = text_of(self.name) {
                 let _ = fs::remove_file(self.host, name);
             }
         }
@@ -122,20 +131,14 @@ impl<R: Files> Drop for LockFile<'_, R> {
     }
 }
 
-/// The name of the lock of a file.
-fn lock_name<R: Host>(host: &R, name: &[u8]) -> io::Result<Vec<u8>> {
-    let mut lock = copied(host, name)?;
-    lock.extend_from_slice(b".lock")?;
-    Ok(lock)
-}
-
 /// Makes the lock of the file of this name, which nobody else may hold.
-fn lock_beside<'t, R: Host>(host: &'t R, name: &[u8]) -> Result<LockFile<'t, R>, LockError> {
-    let name = lock_name(host, name)?;
+fn lock_beside<'t, R: Host>(disk: &Disk<'t, R>, name: &[u8]) -> Result<LockFile<'t, R>, LockError> {
+    let host = disk.host;
+    let name = joined(disk, &[name, b".lock"])?;
     let made = OpenOptions::new()
         .write(true)
         .create_new(true)
-        .open(host, text_of(&name)?);
+        .open(host, text_of(name)?);
     match made {
         Ok(file) => Ok(LockFile {
             host,
@@ -143,7 +146,7 @@ fn lock_beside<'t, R: Host>(host: &'t R, name: &[u8]) -> Result<LockFile<'t, R>,
             file,
             is_held: true,
         }),
-        Err(error) => Err(refusal(name, error)),
+        Err(error) => Err(refusal(name.to_vec(host.alloc())?, error)),
     }
 }
 
@@ -192,7 +195,7 @@ fn old_of<'t, R: Host>(
 #[derive(Drop)]
 pub struct Locked<'t, R: Files> {
     lock: LockFile<'t, R>,
-    name: Vec<u8>,
+    name: &'t [u8],
     text: &'t [u8],
     mode: Option<u32>,
 }
@@ -202,9 +205,9 @@ impl<'t, R: Host> Locked<'t, R> {
     /// which it leads, and the lock is beside that. The file has to be a regular one of at most 1 GiB, or not
     /// there. It fails if the lock is held, and if the system does not make it or does not read the file.
     pub fn of(disk: &Disk<'t, R>, name: &[u8]) -> Result<Locked<'t, R>, LockError> {
-        let name = behind_links(disk.host, &disk.opened_name(name)?)?;
-        let lock = lock_beside(disk.host, &name)?;
-        let (text, mode) = old_of(disk, text_of(&name)?)?;
+        let name = behind_links(disk, disk.opened_name(name)?)?;
+        let lock = lock_beside(disk, name)?;
+        let (text, mode) = old_of(disk, text_of(name)?)?;
         Ok(Locked {
             lock,
             name,
@@ -239,8 +242,8 @@ impl<'t, R: Host> Locked<'t, R> {
         self.lock.file.sync_all()?;
         fs::rename(
             self.lock.host,
-            text_of(&self.lock.name)?,
-            text_of(&self.name)?,
+            text_of(self.lock.name)?,
+            text_of(self.name)?,
         )?;
         self.lock.is_held = false;
         Ok(())

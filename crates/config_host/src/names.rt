@@ -1,7 +1,11 @@
-//! The names of files and folders: bytes, of which the system opens those that are UTF-8.
+//! The names of files and folders: bytes, of which the system opens those that are UTF-8. Those that are made
+//! here are kept with the texts of files.
 
+use crate::disk::Disk;
 use crate::environment::Host;
 use bstr::ByteSlice;
+use bumpalo::collections::into_bump_slice;
+use std::alloc::AllocError;
 use std::fs::{self, Metadata};
 use std::io::{self, ErrorKind};
 
@@ -48,30 +52,42 @@ pub(crate) fn parent(folder: &[u8]) -> Option<&[u8]> {
     }
 }
 
-/// A copy of a name.
-pub(crate) fn copied<R: Host>(host: &R, name: &[u8]) -> io::Result<Vec<u8>> {
-    Ok(name.to_vec(host.alloc())?)
-}
-
-/// The name of a file in a folder. A name that begins with `/` is kept. An empty folder is the current one.
-pub(crate) fn inside<R: Host>(host: &R, folder: &[u8], name: &[u8]) -> io::Result<Vec<u8>> {
-    let mut whole = Vec::new(host.alloc());
-    if !folder.is_empty() && !name.starts_with(b"/") {
-        whole.extend_from_slice(folder)?;
-        if !folder.ends_with(b"/") {
-            whole.push(b'/')?;
+/// These parts, one after the other.
+pub(crate) fn joined<'t, R: Host>(
+    disk: &Disk<'t, R>,
+    parts: &[&[u8]],
+) -> Result<&'t [u8], AllocError> {
+    let mut whole = Vec::new(disk.texts);
+    for part in parts {
+        if whole.extend_from_slice(part).is_err() {
+            return Err(AllocError);
         }
     }
-    whole.extend_from_slice(name)?;
-    Ok(whole)
+    Ok(into_bump_slice(whole))
+}
+
+/// The name of a file in a folder. A name that begins with `/` stays. An empty folder is the current one.
+pub(crate) fn inside<'t, R: Host>(
+    disk: &Disk<'t, R>,
+    folder: &[u8],
+    name: &[u8],
+) -> Result<&'t [u8], AllocError> {
+    if folder.is_empty() || name.starts_with(b"/") {
+        disk.kept(name)
+    } else if folder.ends_with(b"/") {
+        joined(disk, &[folder, name])
+    } else {
+        below(disk, folder, name)
+    }
 }
 
 /// The name of a file below a folder, with a `/` between them whatever the folder is, as Git joins them.
-pub(crate) fn below<R: Host>(host: &R, folder: &[u8], name: &[u8]) -> io::Result<Vec<u8>> {
-    let mut whole = copied(host, folder)?;
-    whole.push(b'/')?;
-    whole.extend_from_slice(name)?;
-    Ok(whole)
+pub(crate) fn below<'t, R: Host>(
+    disk: &Disk<'t, R>,
+    folder: &[u8],
+    name: &[u8],
+) -> Result<&'t [u8], AllocError> {
+    joined(disk, &[folder, b"/", name])
 }
 
 /// What the system knows of the file of this name, which may be a link, or `None`.
@@ -112,23 +128,27 @@ pub(crate) fn is_file<R: Host>(host: &R, name: &[u8]) -> io::Result<bool> {
 }
 
 /// The name from the root without links, or `None` if the system does not know it.
-pub(crate) fn real_name<R: Host>(host: &R, name: &[u8]) -> io::Result<Option<Vec<u8>>> {
+pub(crate) fn real_name<'t, R: Host>(
+    disk: &Disk<'t, R>,
+    name: &[u8],
+) -> io::Result<Option<&'t [u8]>> {
     let real = answer(match text_of(name) {
-        Ok(name) => fs::canonicalize(host, name),
+        Ok(name) => fs::canonicalize(disk.host, name),
         Err(error) => Err(error),
     })?;
     match real {
-        Some(real) => Ok(Some(copied(host, real.as_path().as_str().as_bytes())?)),
+        Some(real) => Ok(Some(disk.kept(real.as_path().as_str().as_bytes())?)),
         None => Ok(None),
     }
 }
 
 /// The name from the root without links, or the other name if the system does not know it.
-pub(crate) fn resolved<R: Host>(host: &R, name: &[u8], other: &[u8]) -> io::Result<Vec<u8>> {
-    match real_name(host, name)? {
-        Some(real) => Ok(real),
-        None => copied(host, other),
-    }
+pub(crate) fn resolved<'t, R: Host>(
+    disk: &Disk<'t, R>,
+    name: &[u8],
+    other: &'t [u8],
+) -> io::Result<&'t [u8]> {
+    Ok(real_name(disk, name)?.unwrap_or(other))
 }
 
 /// A line without the line ends at its end.

@@ -5,7 +5,7 @@ use crate::disk::Disk;
 use crate::environment::Host;
 use crate::error::HereError;
 use crate::sources::{Named, Source, sources};
-use crate::surroundings::{Followed, RepositoryBuf, Surroundings, has_includes};
+use crate::surroundings::{Followed, FoundRepository, Surroundings, has_includes};
 use config_file::{
     AddError, Condition, Entry, FilePlace, Include, IncludeFault, Known, Next, Settings, Step,
     Walk, is_remote_url, next_of,
@@ -26,7 +26,7 @@ use std::io;
 /// fs::write(&rt, "taken", b"[core]\n\tbare\n")?;
 /// let texts = Bump::new(rt.alloc());
 /// let disk = Disk::new(&rt, &texts);
-/// let surroundings = Surroundings::new(&rt, Followed::AsGit)?;
+/// let surroundings = Surroundings::new(&disk, Followed::AsGit)?;
 /// let (place, text) = disk.first(b"taken").expect(&rt, "a text");
 /// let mut walk = Walk::new(place, text);
 /// let first = next_entry(&disk, &surroundings.known(), &mut walk).expect(&rt, "an entry");
@@ -334,11 +334,11 @@ fn add<'t, R: Host>(
 
 /// What includes ask about where this is the repository.
 fn around<'t, R: Host>(
-    host: &R,
-    repository: Option<RepositoryBuf>,
+    disk: &Disk<'t, R>,
+    repository: Option<FoundRepository<'t>>,
 ) -> io::Result<Surroundings<'t>> {
-    let mut surroundings = Surroundings::new(host, Followed::AsGit)?;
-    surroundings.set_repository(host, repository)?;
+    let mut surroundings = Surroundings::new(disk, Followed::AsGit)?;
+    surroundings.set_repository(disk, repository)?;
     Ok(surroundings)
 }
 
@@ -346,10 +346,10 @@ fn around<'t, R: Host>(
 /// this repository.
 pub(crate) fn settings_at<'t, R: Host>(
     disk: &Disk<'t, R>,
-    names: &[Named],
-    repository: Option<RepositoryBuf>,
+    names: &[Named<'t>],
+    repository: Option<FoundRepository<'t>>,
 ) -> Result<Settings<'t>, HereError<'t>> {
-    let mut surroundings = around(disk.host, repository)?;
+    let mut surroundings = around(disk, repository)?;
     settings_of(disk, &mut surroundings, &sources(disk, names)?)
 }
 

@@ -2,11 +2,15 @@
 //! Git's technical/reftable has the format of a table: the names of its first block come in order, HEAD among the
 //! first of them.
 
+use crate::disk::Disk;
 use crate::environment::Host;
 use crate::lines::{bytes_of, line_in};
-use crate::names::{copied, inside};
+use crate::names::inside;
 use std::alloc::{AllocError, Global};
 use std::io;
+
+/// The number of bytes that are read of a table, which its first block cannot exceed.
+const LONGEST: u64 = 1 << 24;
 
 /// The number at the start of these bytes, which ends with a byte whose highest bit is not set, and what follows.
 fn number(bytes: &[u8]) -> Option<(usize, &[u8])> {
@@ -106,30 +110,41 @@ fn head_of(alloc: Global, table: &[u8]) -> Result<Option<Record<'_>>, AllocError
 }
 
 /// The branch that this record of HEAD names, without `refs/heads/`, or `None` if it names no branch.
-fn branch_of<R: Host>(host: &R, head: Record<'_>) -> io::Result<Option<Vec<u8>>> {
-    let Some(target) = head.target else {
-        return Ok(None);
+fn branch_of<'t>(head: Record<'t>) -> Option<&'t [u8]> {
+    head.target?.strip_prefix(b"refs/heads/")
+}
+
+/// The branch that HEAD names in the table of this name, or the one before if the table has no HEAD.
+fn branch_after<'t, R: Host>(
+    disk: &Disk<'t, R>,
+    file: &[u8],
+    before: Option<&'t [u8]>,
+) -> io::Result<Option<&'t [u8]>> {
+    let Some(table) = bytes_of(disk.host, file, LONGEST)? else {
+        return Ok(before);
     };
-    match target.strip_prefix(b"refs/heads/") {
-        Some(branch) => Ok(Some(copied(host, branch)?)),
-        None => Ok(None),
+    match head_of(disk.host.alloc(), &table)? {
+        Some(head) => match branch_of(head) {
+            Some(branch) => Ok(Some(disk.kept(branch)?)),
+            None => Ok(None),
+        },
+        None => Ok(before),
     }
 }
 
 /// The branch that HEAD names in the tables of a git directory, without `refs/heads/`, or `None` if it names no
 /// branch. A later table decides over those before it.
-pub(crate) fn branch_in<R: Host>(host: &R, git_dir: &[u8]) -> io::Result<Option<Vec<u8>>> {
-    let folder = inside(host, git_dir, b"reftable")?;
-    let Some(names) = line_in(host, &folder, b"tables.list")? else {
+pub(crate) fn branch_in<'t, R: Host>(
+    disk: &Disk<'t, R>,
+    git_dir: &[u8],
+) -> io::Result<Option<&'t [u8]>> {
+    let folder = inside(disk, git_dir, b"reftable")?;
+    let Some(names) = line_in(disk, folder, b"tables.list")? else {
         return Ok(None);
     };
     let mut branch = None;
     for name in names.split(|byte| *byte == b'\n') {
-        if let Some(table) = bytes_of(host, &inside(host, &folder, name)?)? {
-            if let Some(head) = head_of(host.alloc(), &table)? {
-                branch = branch_of(host, head)?;
-            }
-        }
+        branch = branch_after(disk, inside(disk, folder, name)?, branch)?;
     }
     Ok(branch)
 }

@@ -1,13 +1,14 @@
 //! Finds the repository of a folder, and the folder in which Git then works.
 
 use crate::disk::{Disk, ReadError};
-use crate::environment::{Host, variable};
+use crate::environment::{Host, kept_variable};
 use crate::error::{HereError, Refusal};
 use crate::format::{Format, format_in, take_own_file};
 use crate::head::branch_of;
-use crate::names::{copied, inside, resolved};
+use crate::names::{inside, resolved};
 use crate::search::{Folder, Form, Found, GitDir, opened_folder, search, shared_folder};
-use crate::surroundings::RepositoryBuf;
+use crate::surroundings::FoundRepository;
+use std::alloc::AllocError;
 use std::io::{self, ErrorKind};
 
 /// Where Git works once it has looked for the repository of a folder.
@@ -25,18 +26,18 @@ use std::io::{self, ErrorKind};
 pub struct Location<'t> {
     /// The folder in which names begin, as the system opens it: the top of the work tree, or the folder
     /// itself.
-    pub folder: Vec<u8>,
+    pub folder: &'t [u8],
     /// The repository whose settings Git reads, if there is one.
-    pub repository: Option<RepositoryBuf>,
+    pub repository: Option<FoundRepository<'t>>,
     /// Why Git uses no repository although one is there.
-    pub refusal: Option<Refusal>,
+    pub refusal: Option<Refusal<'t>>,
     /// Where Git stops as it looks for the repository.
     pub stop: Option<HereError<'t>>,
 }
 
 impl<'t> Location<'t> {
     /// A place without a repository, and why there is none, if one is there.
-    fn without(folder: Vec<u8>, refusal: Option<Refusal>) -> Location<'t> {
+    fn without(folder: &'t [u8], refusal: Option<Refusal<'t>>) -> Location<'t> {
         Location {
             folder,
             repository: None,
@@ -46,20 +47,15 @@ impl<'t> Location<'t> {
     }
 
     /// The repository that Git uses there, or why it stops.
-    pub fn used(self) -> Result<Option<RepositoryBuf>, HereError<'t>> {
-        let Location {
-            repository,
-            stop,
-            ..
-        } = self;
-        match stop {
+    pub fn used(self) -> Result<Option<FoundRepository<'t>>, HereError<'t>> {
+        match self.stop {
             Some(stop) => Err(stop),
-            None => Ok(repository),
+            None => Ok(self.repository),
         }
     }
 
     /// A place in which Git stops.
-    fn stopped(folder: Vec<u8>, error: HereError<'t>) -> Location<'t> {
+    fn stopped(folder: &'t [u8], error: HereError<'t>) -> Location<'t> {
         Location {
             folder,
             repository: None,
@@ -72,13 +68,12 @@ impl<'t> Location<'t> {
 /// Takes what the file of its own says of a work tree. What it shares says nothing of its own top.
 fn take_own<'t, R: Host>(
     disk: &Disk<'t, R>,
-    format: &mut Format,
+    format: &mut Format<'t>,
     git_dir: &[u8],
     is_shared: bool,
 ) -> Result<(), HereError<'t>> {
     if format.has_worktree_files {
-        let file = inside(disk.host, git_dir, b"config.worktree")?;
-        return take_own_file(disk, format, &file);
+        return take_own_file(disk, format, inside(disk, git_dir, b"config.worktree")?);
     }
     if is_shared {
         format.is_bare = false;
@@ -92,29 +87,29 @@ fn format_of<'t, R: Host>(
     disk: &Disk<'t, R>,
     git_dir: &[u8],
     shared: Option<&[u8]>,
-) -> Result<Format, HereError<'t>> {
+) -> Result<Format<'t>, HereError<'t>> {
     let common = shared.unwrap_or(git_dir);
-    let mut format = format_in(disk, &inside(disk.host, common, b"config")?)?;
+    let mut format = format_in(disk, inside(disk, common, b"config")?)?;
     take_own(disk, &mut format, git_dir, shared.is_some())?;
     Ok(format)
 }
 
 /// The top of the work tree that GIT_WORK_TREE or `core.worktree` names, without links. That of
 /// `core.worktree` means nothing to a bare repository.
-fn named_top<R: Host>(
-    host: &R,
-    asked: &Folder,
-    git_dir: &GitDir,
-    format: &Format,
-) -> io::Result<Option<Vec<u8>>> {
-    let top = match variable(host, "GIT_WORK_TREE")? {
-        Some(top) => inside(host, &asked.name, &top)?,
-        None => match &format.work_tree {
-            Some(top) if !format.is_bare => inside(host, &git_dir.name, top)?,
+fn named_top<'t, R: Host>(
+    disk: &Disk<'t, R>,
+    asked: Folder<'t>,
+    git_dir: GitDir<'t>,
+    format: &Format<'t>,
+) -> io::Result<Option<&'t [u8]>> {
+    let top = match kept_variable(disk, "GIT_WORK_TREE")? {
+        Some(top) => inside(disk, asked.name, top)?,
+        None => match format.work_tree {
+            Some(top) if !format.is_bare => inside(disk, git_dir.name, top)?,
             _ => return Ok(None),
         },
     };
-    Ok(Some(resolved(host, &top, &top)?))
+    Ok(Some(resolved(disk, top, top)?))
 }
 
 /// Whether a folder is below the top of a work tree. Both have no links.
@@ -127,75 +122,74 @@ fn is_below(folder: &[u8], top: &[u8]) -> bool {
 
 /// The name of a git directory in the folder that is asked about: the same as in the folder in which it is
 /// found, if that is this one, and otherwise its path.
-fn name_here<R: Host>(
-    host: &R,
-    asked: &Folder,
-    folder: &Folder,
-    git_dir: &GitDir,
-) -> io::Result<Vec<u8>> {
+fn name_here<'t, R: Host>(
+    disk: &Disk<'t, R>,
+    asked: Folder<'t>,
+    folder: Folder<'t>,
+    git_dir: GitDir<'t>,
+) -> io::Result<&'t [u8]> {
     if folder.name == asked.name {
-        return copied(host, &git_dir.named);
+        return Ok(git_dir.named);
     }
-    resolved(host, &git_dir.name, &git_dir.name)
+    resolved(disk, git_dir.name, git_dir.name)
 }
 
 /// The path of a folder without links.
-fn path_of<R: Host>(host: &R, folder: &Folder) -> io::Result<Vec<u8>> {
-    resolved(host, opened_folder(&folder.name), &folder.path)
-}
-
-/// The top of a work tree as the folder in which Git works, and the name of the git directory there.
-fn at_top<R: Host>(host: &R, top: Vec<u8>, git_dir: &GitDir) -> io::Result<(Folder, Vec<u8>)> {
-    let named = resolved(host, &git_dir.name, &git_dir.name)?;
-    let path = copied(host, &top)?;
-    Ok((Folder { name: top, path }, named))
+fn path_of<'t, R: Host>(disk: &Disk<'t, R>, folder: Folder<'t>) -> io::Result<&'t [u8]> {
+    resolved(disk, opened_folder(folder.name), folder.path)
 }
 
 /// The folder in which Git works, and the name of the git directory there.
-fn workplace<R: Host>(
-    host: &R,
-    asked: &Folder,
-    folder: Folder,
-    git_dir: &GitDir,
-    format: &Format,
-) -> io::Result<(Folder, Vec<u8>)> {
-    match named_top(host, asked, git_dir, format)? {
-        Some(top) if is_below(&path_of(host, asked)?, &top) => at_top(host, top, git_dir),
+fn workplace<'t, R: Host>(
+    disk: &Disk<'t, R>,
+    asked: Folder<'t>,
+    folder: Folder<'t>,
+    git_dir: GitDir<'t>,
+    format: &Format<'t>,
+) -> io::Result<(Folder<'t>, &'t [u8])> {
+    match named_top(disk, asked, git_dir, format)? {
+        Some(top) if is_below(path_of(disk, asked)?, top) => {
+            let place = Folder {
+                name: top,
+                path: top,
+            };
+            Ok((place, resolved(disk, git_dir.name, git_dir.name)?))
+        }
         None if matches!(git_dir.form, Form::Below) && !format.is_bare => {
-            Ok((folder, copied(host, &git_dir.named)?))
+            Ok((folder, git_dir.named))
         }
-        _ => {
-            let named = name_here(host, asked, &folder, git_dir)?;
-            Ok((asked.again(host)?, named))
-        }
+        _ => Ok((asked, name_here(disk, asked, folder, git_dir)?)),
     }
 }
 
 /// The name of the folder that work trees share, as Git shows it.
-fn shown_shared<R: Host>(host: &R, shared: Option<&[u8]>, named: &[u8]) -> io::Result<Vec<u8>> {
-    let Some(folder) = shared else {
-        return copied(host, named);
-    };
-    if variable(host, "GIT_COMMON_DIR")?.is_some() {
-        return copied(host, folder);
+fn shown_shared<'t, R: Host>(
+    disk: &Disk<'t, R>,
+    shared: Option<&'t [u8]>,
+    named: &'t [u8],
+) -> io::Result<&'t [u8]> {
+    match shared {
+        Some(folder) if kept_variable(disk, "GIT_COMMON_DIR")?.is_none() => {
+            resolved(disk, folder, folder)
+        }
+        shared => Ok(shared.unwrap_or(named)),
     }
-    resolved(host, folder, folder)
 }
 
 /// The repository of this git directory, which has this name in the folder of this path.
-fn repository_in<R: Host>(
-    host: &R,
+fn repository_in<'t, R: Host>(
+    disk: &Disk<'t, R>,
     path: &[u8],
-    named_dir: Vec<u8>,
-    git_dir: &GitDir,
-    shared: Option<&[u8]>,
+    named_dir: &'t [u8],
+    git_dir: GitDir<'t>,
+    shared: Option<&'t [u8]>,
     has_worktree_files: bool,
-) -> io::Result<RepositoryBuf> {
-    let path = inside(host, path, &named_dir)?;
-    Ok(RepositoryBuf {
-        real_git_dir: resolved(host, &git_dir.name, &path)?,
-        branch: branch_of(host, &git_dir.name)?,
-        common_dir: shown_shared(host, shared, &named_dir)?,
+) -> io::Result<FoundRepository<'t>> {
+    let path = inside(disk, path, named_dir)?;
+    Ok(FoundRepository {
+        real_git_dir: resolved(disk, git_dir.name, path)?,
+        branch: branch_of(disk, git_dir.name)?,
+        common_dir: shown_shared(disk, shared, named_dir)?,
         git_dir: path,
         named_dir,
         has_worktree_files,
@@ -204,16 +198,16 @@ fn repository_in<R: Host>(
 
 /// Where Git works with this git directory of this folder and of this format.
 fn located<'t, R: Host>(
-    host: &R,
-    asked: &Folder,
-    folder: Folder,
-    git_dir: &GitDir,
-    shared: Option<&[u8]>,
-    format: &Format,
+    disk: &Disk<'t, R>,
+    asked: Folder<'t>,
+    folder: Folder<'t>,
+    git_dir: GitDir<'t>,
+    shared: Option<&'t [u8]>,
+    format: &Format<'t>,
 ) -> io::Result<Location<'t>> {
-    let (place, named_dir) = workplace(host, asked, folder, git_dir, format)?;
+    let (place, named_dir) = workplace(disk, asked, folder, git_dir, format)?;
     let has_files = format.has_worktree_files;
-    let repository = repository_in(host, &place.path, named_dir, git_dir, shared, has_files)?;
+    let repository = repository_in(disk, place.path, named_dir, git_dir, shared, has_files)?;
     Ok(Location {
         folder: place.name,
         repository: Some(repository),
@@ -224,37 +218,37 @@ fn located<'t, R: Host>(
 
 /// Where Git works, if the git directory of this folder may have this format.
 fn located_by<'t, R: Host>(
-    host: &R,
-    asked: &Folder,
-    folder: Folder,
-    git_dir: &GitDir,
-    shared: Option<&[u8]>,
-    mut format: Format,
+    disk: &Disk<'t, R>,
+    asked: Folder<'t>,
+    folder: Folder<'t>,
+    git_dir: GitDir<'t>,
+    shared: Option<&'t [u8]>,
+    format: &Format<'t>,
 ) -> io::Result<Location<'t>> {
     match format.refusal() {
         Some(refusal) => Ok(Location::without(folder.name, Some(refusal))),
-        None => located(host, asked, folder, git_dir, shared, &format),
+        None => located(disk, asked, folder, git_dir, shared, format),
     }
 }
 
 /// Where Git works, if it uses the git directory of this folder.
 fn locate<'t, R: Host>(
     disk: &Disk<'t, R>,
-    asked: &Folder,
-    folder: Folder,
-    git_dir: &GitDir,
+    asked: Folder<'t>,
+    folder: Folder<'t>,
+    git_dir: GitDir<'t>,
 ) -> Result<Location<'t>, HereError<'t>> {
-    let shared = shared_folder(disk.host, &git_dir.name)?;
-    match format_of(disk, &git_dir.name, shared.as_deref()) {
-        Ok(format) => Ok(located_by(disk.host, asked, folder, git_dir, shared.as_deref(), format)?),
+    let shared = shared_folder(disk, git_dir.name)?;
+    match format_of(disk, git_dir.name, shared) {
+        Ok(format) => Ok(located_by(disk, asked, folder, git_dir, shared, &format)?),
         Err(HereError::Host(error)) => Err(HereError::Host(error)),
         Err(error) => Ok(Location::stopped(folder.name, error)),
     }
 }
 
 /// The folder of this name, which has to be there.
-fn asked_folder<'t, R: Host>(disk: &Disk<'t, R>, name: &[u8]) -> Result<Folder, HereError<'t>> {
-    match Folder::new(disk.host, name)? {
+fn asked_folder<'t, R: Host>(disk: &Disk<'t, R>, name: &[u8]) -> Result<Folder<'t>, HereError<'t>> {
+    match Folder::new(disk, name)? {
         Some(folder) => Ok(folder),
         None => Err(HereError::File {
             file: disk.kept(name)?,
@@ -267,9 +261,9 @@ fn asked_folder<'t, R: Host>(disk: &Disk<'t, R>, name: &[u8]) -> Result<Folder, 
 /// Names of the disk begin in the current folder.
 pub fn find<'t, R: Host>(disk: &Disk<'t, R>, name: &[u8]) -> Result<Location<'t>, HereError<'t>> {
     let asked = asked_folder(disk, name)?;
-    let inner = disk.within(&asked.name)?;
-    match search(&inner, &asked)? {
-        Found::GitDir(folder, git_dir) => locate(disk, &asked, folder, &git_dir),
+    let inner = disk.within(asked.name)?;
+    match search(&inner, asked)? {
+        Found::GitDir(folder, git_dir) => locate(disk, asked, folder, git_dir),
         Found::Nothing => Ok(Location::without(asked.name, None)),
         Found::Refused(refusal) => Ok(Location::without(asked.name, Some(refusal))),
         Found::Stops(error) => Ok(Location::stopped(asked.name, error)),

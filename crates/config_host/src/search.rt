@@ -1,26 +1,27 @@
 //! Searches the git directory of a folder, as Git does: GIT_DIR, or the first one upwards.
 
 use crate::disk::Disk;
-use crate::environment::{Host, current_folder, text_variable, variable};
+use crate::environment::{Host, current_folder, kept_variable, text_variable};
 use crate::error::{HereError, Refusal};
 use crate::head::has_head;
 use crate::lines::{is_on, line_in, line_of};
-use crate::names::{copied, folder_of, inside, is_folder, known_of, parent, real_name, resolved};
+use crate::names::{folder_of, inside, is_folder, joined, known_of, parent, real_name, resolved};
 use crate::owner::{are_owned, is_safe, may_be_bare};
 use bstr::ByteSlice;
+use std::alloc::AllocError;
 use std::io;
 use std::os::unix::fs::MetadataExt;
 
 /// A folder: its name as the system opens it, and its path from the root, with links that PWD has.
-#[derive(Drop)]
-pub struct Folder {
-    pub name: Vec<u8>,
-    pub path: Vec<u8>,
+#[derive(Clone, Copy)]
+pub(crate) struct Folder<'t> {
+    pub name: &'t [u8],
+    pub path: &'t [u8],
 }
 
 /// How a git directory is named.
-#[derive(Drop)]
-pub enum Form {
+#[derive(Clone, Copy)]
+pub(crate) enum Form {
     /// By GIT_DIR.
     Given,
     /// It is `.git` in a folder, or a file of that name leads to it.
@@ -30,94 +31,92 @@ pub enum Form {
 }
 
 /// A git directory.
-#[derive(Drop)]
-pub struct GitDir {
+#[derive(Clone, Copy)]
+pub(crate) struct GitDir<'t> {
     /// Its name, as the system opens it.
-    pub name: Vec<u8>,
+    pub name: &'t [u8],
     /// Its name as Git has it, from the folder in which it is found.
-    pub named: Vec<u8>,
+    pub named: &'t [u8],
     /// How it is named.
     pub form: Form,
 }
 
 /// What a search comes to.
 #[derive(Drop)]
-pub enum Found<'t> {
+pub(crate) enum Found<'t> {
     /// There is none.
     Nothing,
     /// There is one in this folder.
-    GitDir(Folder, GitDir),
+    GitDir(Folder<'t>, GitDir<'t>),
     /// There is one that Git does not use.
-    Refused(Refusal),
+    Refused(Refusal<'t>),
     /// There is one that may not be used, since Git stops as it asks whether it is safe.
     Stops(HereError<'t>),
 }
 
 /// The folder that the work trees of a git directory share: GIT_COMMON_DIR, that of its file commondir, or
 /// `None` if it shares none.
-pub fn shared_folder<R: Host>(
-    host: &R,
+pub(crate) fn shared_folder<'t, R: Host>(
+    disk: &Disk<'t, R>,
     git_dir: &[u8],
-) -> Result<Option<Vec<u8>>, HereError<'static>> {
-    if let Some(folder) = text_variable(host, "GIT_COMMON_DIR")? {
-        return Ok(Some(folder.into_bytes()));
+) -> Result<Option<&'t [u8]>, HereError<'t>> {
+    if let Some(folder) = text_variable(disk, "GIT_COMMON_DIR")? {
+        return Ok(Some(folder));
     }
-    match line_in(host, git_dir, b"commondir")? {
-        Some(folder) => Ok(Some(inside(host, git_dir, &folder)?)),
+    match line_in(disk, git_dir, b"commondir")? {
+        Some(folder) => Ok(Some(inside(disk, git_dir, folder)?)),
         None => Ok(None),
     }
 }
 
 /// Whether there is a folder of this name in a folder.
-fn has_folder<R: Host>(host: &R, folder: &[u8], name: &[u8]) -> io::Result<bool> {
-    is_folder(host, &inside(host, folder, name)?)
+fn has_folder<R: Host>(disk: &Disk<'_, R>, folder: &[u8], name: &[u8]) -> io::Result<bool> {
+    is_folder(disk.host, inside(disk, folder, name)?)
 }
 
 /// Whether a common folder has objects and refs.
-fn has_folders<R: Host>(host: &R, common: &[u8]) -> io::Result<bool> {
-    Ok(has_folder(host, common, b"objects")? && has_folder(host, common, b"refs")?)
+fn has_folders<R: Host>(disk: &Disk<'_, R>, common: &[u8]) -> io::Result<bool> {
+    Ok(has_folder(disk, common, b"objects")? && has_folder(disk, common, b"refs")?)
 }
 
 /// Whether this is a git directory: its HEAD is Git's, and its common folder has objects and refs.
-fn is_git_dir<R: Host>(host: &R, name: &[u8]) -> Result<bool, HereError<'static>> {
-    if str::from_utf8(name).is_err() || !has_head(host, name)? {
+fn is_git_dir<'t, R: Host>(disk: &Disk<'t, R>, name: &'t [u8]) -> Result<bool, HereError<'t>> {
+    if str::from_utf8(name).is_err() || !has_head(disk, name)? {
         return Ok(false);
     }
-    match shared_folder(host, name)? {
-        Some(common) => Ok(has_folders(host, &common)?),
-        None => Ok(has_folders(host, name)?),
-    }
+    let common = shared_folder(disk, name)?.unwrap_or(name);
+    Ok(has_folders(disk, common)?)
 }
 
 /// The git directory that the file of this name links to by a line `gitdir: ..`, or `None` if it links to
 /// none.
-fn linked<R: Host>(host: &R, name: &[u8]) -> io::Result<Option<Vec<u8>>> {
-    let Some(line) = line_of(host, name)? else {
+fn linked<'t, R: Host>(disk: &Disk<'t, R>, name: &[u8]) -> io::Result<Option<&'t [u8]>> {
+    let Some(line) = line_of(disk, name)? else {
         return Ok(None);
     };
     let Some(target) = line.strip_prefix(b"gitdir: ") else {
         return Ok(None);
     };
-    let git_dir = inside(host, folder_of(name), target)?;
-    Ok(Some(resolved(host, &git_dir, &git_dir)?))
+    let git_dir = inside(disk, folder_of(name), target)?;
+    Ok(Some(resolved(disk, git_dir, git_dir)?))
 }
 
 /// The name of a folder that is not empty: the current one is `.`.
-pub fn opened_folder(name: &[u8]) -> &[u8] {
+pub(crate) fn opened_folder(name: &[u8]) -> &[u8] {
     if name.is_empty() { b"." } else { name }
 }
 
 /// The git directory, if the one whose folder this is, is safe. It is asked about in the folder `asked`.
 fn if_safe<'t, R: Host>(
     disk: &Disk<'t, R>,
-    asked: &Folder,
-    folder: Folder,
-    git_dir: GitDir,
+    asked: Folder<'t>,
+    folder: Folder<'t>,
+    git_dir: GitDir<'t>,
 ) -> Result<Found<'t>, HereError<'t>> {
-    let Some(real) = real_name(disk.host, opened_folder(&folder.name))? else {
+    let Some(real) = real_name(disk, opened_folder(folder.name))? else {
         return Ok(Found::Refused(Refusal::Owner(folder.path)));
     };
-    match is_safe(disk, &asked.name, &real) {
+    match is_safe(disk, asked.name, real) {
         Ok(true) => Ok(Found::GitDir(folder, git_dir)),
         Ok(false) => Ok(Found::Refused(Refusal::Owner(real))),
         Err(HereError::Host(error)) => Err(HereError::Host(error)),
@@ -128,12 +127,11 @@ fn if_safe<'t, R: Host>(
 /// The git directory of this folder, which has to be safe if it is not owned.
 fn trusted<'t, R: Host>(
     disk: &Disk<'t, R>,
-    asked: &Folder,
-    folder: &Folder,
-    git_dir: GitDir,
+    asked: Folder<'t>,
+    folder: Folder<'t>,
+    git_dir: GitDir<'t>,
     is_owned: bool,
 ) -> Result<Found<'t>, HereError<'t>> {
-    let folder = folder.again(disk.host)?;
     if is_owned {
         return Ok(Found::GitDir(folder, git_dir));
     }
@@ -142,10 +140,15 @@ fn trusted<'t, R: Host>(
 
 /// The git directory of this name, or to which the file of this name links. In its folder it has the other
 /// name.
-fn linked_or<R: Host>(host: &R, name: &[u8], named: &[u8], form: Form) -> io::Result<GitDir> {
-    let (name, named) = match linked(host, name)? {
-        Some(target) => (copied(host, &target)?, target),
-        None => (copied(host, name)?, copied(host, named)?),
+fn linked_or<'t, R: Host>(
+    disk: &Disk<'t, R>,
+    name: &'t [u8],
+    named: &'t [u8],
+    form: Form,
+) -> io::Result<GitDir<'t>> {
+    let (name, named) = match linked(disk, name)? {
+        Some(target) => (target, target),
+        None => (name, named),
     };
     Ok(GitDir { name, named, form })
 }
@@ -153,38 +156,37 @@ fn linked_or<R: Host>(host: &R, name: &[u8], named: &[u8], form: Form) -> io::Re
 /// The git directory of a folder that has the name `.git` there, or that a file of that name links to.
 fn find_below<'t, R: Host>(
     disk: &Disk<'t, R>,
-    asked: &Folder,
-    folder: &Folder,
+    asked: Folder<'t>,
+    folder: Folder<'t>,
 ) -> Result<Found<'t>, HereError<'t>> {
-    let host = disk.host;
-    let link = inside(host, &folder.name, b".git")?;
-    let git_dir = linked_or(host, &link, b".git", Form::Below)?;
-    if !is_git_dir(host, &git_dir.name)? {
+    let link = inside(disk, folder.name, b".git")?;
+    let git_dir = linked_or(disk, link, b".git", Form::Below)?;
+    if !is_git_dir(disk, git_dir.name)? {
         return Ok(Found::Nothing);
     }
-    let is_owned = are_owned(host, &[&link, opened_folder(&folder.name), &git_dir.name])?;
+    let is_owned = are_owned(disk.host, &[link, opened_folder(folder.name), git_dir.name])?;
     trusted(disk, asked, folder, git_dir, is_owned)
 }
 
 /// Whether Git takes the bare repository in this folder, which it finds without GIT_DIR.
-fn takes_bare<'t, R: Host>(disk: &Disk<'t, R>, folder: &Folder) -> Result<bool, HereError<'t>> {
-    match real_name(disk.host, opened_folder(&folder.name))? {
-        Some(real) => may_be_bare(disk, &real),
-        None => may_be_bare(disk, &folder.path),
-    }
+fn takes_bare<'t, R: Host>(disk: &Disk<'t, R>, folder: Folder<'t>) -> Result<bool, HereError<'t>> {
+    may_be_bare(
+        disk,
+        resolved(disk, opened_folder(folder.name), folder.path)?,
+    )
 }
 
 /// The folder as a bare repository.
 fn bare<'t, R: Host>(
     disk: &Disk<'t, R>,
-    asked: &Folder,
-    folder: &Folder,
+    asked: Folder<'t>,
+    folder: Folder<'t>,
 ) -> Result<Found<'t>, HereError<'t>> {
-    let name = opened_folder(&folder.name);
+    let name = opened_folder(folder.name);
     let is_owned = are_owned(disk.host, &[name])?;
     let git_dir = GitDir {
-        name: copied(disk.host, name)?,
-        named: copied(disk.host, b".")?,
+        name,
+        named: b".",
         form: Form::Bare,
     };
     trusted(disk, asked, folder, git_dir, is_owned)
@@ -193,15 +195,15 @@ fn bare<'t, R: Host>(
 /// The git directory that a folder itself is.
 fn find_bare<'t, R: Host>(
     disk: &Disk<'t, R>,
-    asked: &Folder,
-    folder: &Folder,
+    asked: Folder<'t>,
+    folder: Folder<'t>,
 ) -> Result<Found<'t>, HereError<'t>> {
-    if !is_git_dir(disk.host, &folder.name)? {
+    if !is_git_dir(disk, folder.name)? {
         return Ok(Found::Nothing);
     }
     match takes_bare(disk, folder) {
         Ok(true) => bare(disk, asked, folder),
-        Ok(false) => Ok(Found::Refused(Refusal::Bare(copied(disk.host, &folder.path)?))),
+        Ok(false) => Ok(Found::Refused(Refusal::Bare(folder.path))),
         Err(HereError::Host(error)) => Err(HereError::Host(error)),
         Err(error) => Ok(Found::Stops(error)),
     }
@@ -210,8 +212,8 @@ fn find_bare<'t, R: Host>(
 /// The git directory of a folder, if it has one or is one.
 fn find_in<'t, R: Host>(
     disk: &Disk<'t, R>,
-    asked: &Folder,
-    folder: &Folder,
+    asked: Folder<'t>,
+    folder: Folder<'t>,
 ) -> Result<Found<'t>, HereError<'t>> {
     match find_below(disk, asked, folder)? {
         Found::Nothing => find_bare(disk, asked, folder),
@@ -234,49 +236,53 @@ fn is_path_of<R: Host>(host: &R, name: &[u8], folder: &[u8]) -> io::Result<bool>
 }
 
 /// The path of a folder without links, or `None` if there is no such folder.
-fn real_folder<R: Host>(host: &R, name: &[u8]) -> io::Result<Option<Vec<u8>>> {
+fn real_folder<'t, R: Host>(disk: &Disk<'t, R>, name: &[u8]) -> io::Result<Option<&'t [u8]>> {
     if name.is_empty() {
-        return Ok(Some(current_folder(host)?));
+        return Ok(Some(current_folder(disk)?));
     }
-    if !is_folder(host, name)? {
+    if !is_folder(disk.host, name)? {
         return Ok(None);
     }
-    real_name(host, name)
+    real_name(disk, name)
 }
 
 /// The path of a folder: the text of PWD if that is the same folder, and otherwise its path without links.
-fn named_path<R: Host>(host: &R, name: &[u8]) -> io::Result<Option<Vec<u8>>> {
-    match variable(host, "PWD")? {
-        Some(named) if is_path_of(host, &named, name)? => Ok(Some(named)),
-        _ => real_folder(host, name),
+fn named_path<'t, R: Host>(disk: &Disk<'t, R>, name: &[u8]) -> io::Result<Option<&'t [u8]>> {
+    match kept_variable(disk, "PWD")? {
+        Some(named) if is_path_of(disk.host, named, name)? => Ok(Some(named)),
+        _ => real_folder(disk, name),
     }
 }
 
 /// These folders, between which are colons, without links. Those after an empty one are taken as they are.
-fn ceilings_in<R: Host>(host: &R, folders: &[u8]) -> io::Result<Vec<Vec<u8>>> {
-    let mut ceilings = Vec::new(host.alloc());
+fn ceilings_in<'t, R: Host>(disk: &Disk<'t, R>, folders: &'t [u8]) -> io::Result<Vec<&'t [u8]>> {
+    let mut ceilings = Vec::new(disk.host.alloc());
     let mut is_resolved = true;
     for folder in folders.split_str(b":") {
         is_resolved = is_resolved && !folder.is_empty();
-        ceilings.push(ceiling(host, folder, is_resolved)?)?;
+        ceilings.push(ceiling(disk, folder, is_resolved)?)?;
     }
     Ok(ceilings)
 }
 
 /// A folder, without links if it is to be resolved.
-fn ceiling<R: Host>(host: &R, folder: &[u8], is_resolved: bool) -> io::Result<Vec<u8>> {
+fn ceiling<'t, R: Host>(
+    disk: &Disk<'t, R>,
+    folder: &'t [u8],
+    is_resolved: bool,
+) -> io::Result<&'t [u8]> {
     if is_resolved {
-        resolved(host, folder, folder)
+        resolved(disk, folder, folder)
     } else {
-        copied(host, folder)
+        Ok(folder)
     }
 }
 
 /// The folders of GIT_CEILING_DIRECTORIES.
-fn ceilings<R: Host>(host: &R) -> io::Result<Vec<Vec<u8>>> {
-    match variable(host, "GIT_CEILING_DIRECTORIES")? {
-        Some(folders) => ceilings_in(host, &folders),
-        None => Ok(Vec::new(host.alloc())),
+fn ceilings<'t, R: Host>(disk: &Disk<'t, R>) -> io::Result<Vec<&'t [u8]>> {
+    match kept_variable(disk, "GIT_CEILING_DIRECTORIES")? {
+        Some(folders) => ceilings_in(disk, folders),
+        None => Ok(Vec::new(disk.host.alloc())),
     }
 }
 
@@ -290,75 +296,66 @@ fn device_of<R: Host>(host: &R, folder: &[u8]) -> io::Result<Option<u64>> {
 
 /// Where a search upwards ends.
 #[derive(Drop)]
-struct Limits {
+struct Limits<'t> {
     /// Whether it goes on in other devices than that of the first folder.
     crosses: bool,
     device: Option<u64>,
-    ceilings: Vec<Vec<u8>>,
+    ceilings: Vec<&'t [u8]>,
 }
 
-impl Limits {
+impl<'t> Limits<'t> {
     /// What the environment says.
-    fn new<R: Host>(host: &R, folder: &[u8]) -> io::Result<Limits> {
+    fn new<R: Host>(disk: &Disk<'t, R>, folder: &[u8]) -> io::Result<Limits<'t>> {
         Ok(Limits {
-            crosses: is_on(host, "GIT_DISCOVERY_ACROSS_FILESYSTEM")?,
-            device: device_of(host, folder)?,
-            ceilings: ceilings(host)?,
+            crosses: is_on(disk.host, "GIT_DISCOVERY_ACROSS_FILESYSTEM")?,
+            device: device_of(disk.host, folder)?,
+            ceilings: ceilings(disk)?,
         })
     }
 
     /// Whether the search ends before this folder.
-    fn end_at<R: Host>(&self, host: &R, folder: &Folder) -> io::Result<bool> {
-        let is_ceiling = self
-            .ceilings
-            .iter()
-            .any(|ceiling| ceiling.as_slice() == folder.path.as_slice());
-        Ok(is_ceiling || (!self.crosses && device_of(host, &folder.name)? != self.device))
+    fn end_at<R: Host>(&self, host: &R, folder: Folder<'_>) -> io::Result<bool> {
+        let is_ceiling = self.ceilings.contains(&folder.path);
+        Ok(is_ceiling || (!self.crosses && device_of(host, folder.name)? != self.device))
     }
 }
 
 /// The name of the folder that is so many steps above the one of this name.
-fn name_above<R: Host>(host: &R, name: &[u8], steps: usize) -> io::Result<Vec<u8>> {
-    let mut above = copied(host, opened_folder(name))?;
-    above.extend_from_slice(&b"/..".as_slice().repeatn(host.alloc(), steps)?)?;
-    Ok(above)
+fn name_above<'t, R: Host>(
+    disk: &Disk<'t, R>,
+    name: &[u8],
+    steps: usize,
+) -> Result<&'t [u8], AllocError> {
+    let above = b"/..".as_slice().repeatn(disk.host.alloc(), steps)?;
+    joined(disk, &[opened_folder(name), &above])
 }
 
-impl Folder {
+impl<'t> Folder<'t> {
     /// The folder of this name. Its path is the text of PWD, with its links, if that is the same folder.
-    pub fn new<R: Host>(host: &R, name: &[u8]) -> io::Result<Option<Folder>> {
+    pub fn new<R: Host>(disk: &Disk<'t, R>, name: &[u8]) -> io::Result<Option<Folder<'t>>> {
         let name = if name == b".".as_slice() { b"" } else { name };
-        match named_path(host, name)? {
+        match named_path(disk, name)? {
             Some(path) => Ok(Some(Folder {
-                name: copied(host, name)?,
+                name: disk.kept(name)?,
                 path,
             })),
             None => Ok(None),
         }
     }
 
-    /// A copy.
-    pub fn again<R: Host>(&self, host: &R) -> io::Result<Folder> {
-        Ok(Folder {
-            name: copied(host, &self.name)?,
-            path: copied(host, &self.path)?,
-        })
-    }
-
     /// The folder of this path, which is so many steps above this one. The system opens it by its path if
     /// that is UTF-8, and otherwise by its place above this one.
-    fn above<R: Host>(&self, host: &R, path: &[u8], steps: usize) -> io::Result<Folder> {
-        let path = copied(host, path)?;
-        if str::from_utf8(&path).is_ok() {
-            return Ok(Folder {
-                name: copied(host, &path)?,
-                path,
-            });
-        }
-        Ok(Folder {
-            name: name_above(host, &self.name, steps)?,
-            path,
-        })
+    fn above<R: Host>(
+        self,
+        disk: &Disk<'t, R>,
+        path: &'t [u8],
+        steps: usize,
+    ) -> Result<Folder<'t>, AllocError> {
+        let name = match str::from_utf8(path) {
+            Ok(_) => path,
+            Err(_) => name_above(disk, self.name, steps)?,
+        };
+        Ok(Folder { name, path })
     }
 }
 
@@ -366,24 +363,24 @@ impl Folder {
 /// `None` if the search ends before it.
 fn find_at<'t, R: Host>(
     disk: &Disk<'t, R>,
-    asked: &Folder,
-    limits: &Limits,
-    path: &[u8],
+    asked: Folder<'t>,
+    limits: &Limits<'t>,
+    path: &'t [u8],
     steps: usize,
 ) -> Result<Option<Found<'t>>, HereError<'t>> {
-    let folder = asked.above(disk.host, path, steps)?;
-    if limits.end_at(disk.host, &folder)? {
+    let folder = asked.above(disk, path, steps)?;
+    if limits.end_at(disk.host, folder)? {
         return Ok(None);
     }
-    Ok(Some(find_in(disk, asked, &folder)?))
+    Ok(Some(find_in(disk, asked, folder)?))
 }
 
 /// The git directory of the first folder above this path that has one.
 fn find_upwards<'t, R: Host>(
     disk: &Disk<'t, R>,
-    asked: &Folder,
-    limits: &Limits,
-    path: &[u8],
+    asked: Folder<'t>,
+    limits: &Limits<'t>,
+    path: &'t [u8],
 ) -> Result<Found<'t>, HereError<'t>> {
     let mut left = path;
     for steps in 0..path.len() {
@@ -401,33 +398,39 @@ fn find_upwards<'t, R: Host>(
 
 /// The git directory of the first folder above this one that has one. The search ends at a ceiling, and on
 /// another device unless GIT_DISCOVERY_ACROSS_FILESYSTEM says otherwise.
-fn find_above<'t, R: Host>(disk: &Disk<'t, R>, asked: &Folder) -> Result<Found<'t>, HereError<'t>> {
-    let limits = Limits::new(disk.host, &asked.name)?;
-    match real_folder(disk.host, &asked.name)? {
-        Some(lowest) => find_upwards(disk, asked, &limits, &lowest),
+fn find_above<'t, R: Host>(
+    disk: &Disk<'t, R>,
+    asked: Folder<'t>,
+) -> Result<Found<'t>, HereError<'t>> {
+    let limits = Limits::new(disk, asked.name)?;
+    match real_folder(disk, asked.name)? {
+        Some(lowest) => find_upwards(disk, asked, &limits, lowest),
         None => Ok(Found::Nothing),
     }
 }
 
 /// The git directory that GIT_DIR names, or to which the file of that name links.
 fn find_given<'t, R: Host>(
-    host: &R,
-    asked: &Folder,
-    given: &[u8],
+    disk: &Disk<'t, R>,
+    asked: Folder<'t>,
+    given: &'t [u8],
 ) -> Result<Found<'t>, HereError<'t>> {
-    let git_dir = linked_or(host, &inside(host, &asked.name, given)?, given, Form::Given)?;
+    let git_dir = linked_or(disk, inside(disk, asked.name, given)?, given, Form::Given)?;
     // an empty text would become the name of the folder
-    if given.is_empty() || !is_git_dir(host, &git_dir.name)? {
-        return Ok(Found::Refused(Refusal::GitDir(copied(host, given)?)));
+    if given.is_empty() || !is_git_dir(disk, git_dir.name)? {
+        return Ok(Found::Refused(Refusal::GitDir(given)));
     }
-    Ok(Found::GitDir(asked.again(host)?, git_dir))
+    Ok(Found::GitDir(asked, git_dir))
 }
 
 /// The git directory of a folder: GIT_DIR, or the first one upwards. The names of the disk begin in that
 /// folder.
-pub fn search<'t, R: Host>(disk: &Disk<'t, R>, asked: &Folder) -> Result<Found<'t>, HereError<'t>> {
-    if let Some(given) = text_variable(disk.host, "GIT_DIR")? {
-        return find_given(disk.host, asked, given.as_bytes());
+pub(crate) fn search<'t, R: Host>(
+    disk: &Disk<'t, R>,
+    asked: Folder<'t>,
+) -> Result<Found<'t>, HereError<'t>> {
+    if let Some(given) = text_variable(disk, "GIT_DIR")? {
+        return find_given(disk, asked, given);
     }
     match find_in(disk, asked, asked)? {
         Found::Nothing => find_above(disk, asked),

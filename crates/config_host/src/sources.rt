@@ -2,11 +2,11 @@
 
 use crate::command::command_text;
 use crate::disk::Disk;
-use crate::environment::{Host, variable};
+use crate::environment::{Host, kept_variable};
 use crate::error::HereError;
 use crate::lines::is_on;
-use crate::names::{below, copied, exists};
-use crate::surroundings::RepositoryBuf;
+use crate::names::{below, exists};
+use crate::surroundings::FoundRepository;
 use bstr::ByteSlice;
 use config_file::{FilePlace, Scope};
 use std::alloc::AllocError;
@@ -21,16 +21,17 @@ use std::io;
 /// use config_host::sources::{is_there, names};
 ///
 /// let texts = Bump::new(rt.alloc());
-/// let files = names(&rt, None)?;
+/// let disk = Disk::new(&rt, &texts);
+/// let files = names(&disk, None)?;
 /// assert!(rt; matches!(files.first(), Some(system) if system.scope == Scope::System));
-/// assert!(rt; !is_there(&Disk::new(&rt, &texts), b"missing")?);
+/// assert!(rt; !is_there(&disk, b"missing")?);
 /// ```
-#[derive(Drop)]
-pub struct Named {
+#[derive(Clone, Copy)]
+pub struct Named<'t> {
     /// Where Git has it from.
     pub scope: Scope,
     /// Its name, as Git shows it.
-    pub name: Vec<u8>,
+    pub name: &'t [u8],
 }
 
 /// A text that Git reads first, before it comes to what the text includes.
@@ -44,7 +45,7 @@ pub struct Named {
 ///
 /// fs::write(&rt, "source", b"[core]\n\tbare\n")?;
 /// let mut names = Vec::new(alloc);
-/// names.push(Named { scope: Scope::Local, name: b"source".to_vec(alloc)? })?;
+/// names.push(Named { scope: Scope::Local, name: b"source" })?;
 /// let texts = Bump::new(rt.alloc());
 /// let mut settings = Settings::new(alloc);
 /// for source in &sources(&Disk::new(&rt, &texts), &names).expect(&rt, "a file that can be read") {
@@ -73,7 +74,7 @@ const COMMAND: FilePlace<'static> = FilePlace {
 };
 
 /// Adds a name. An empty one is that of no file.
-fn push(names: &mut Vec<Named>, scope: Scope, name: Vec<u8>) -> Result<(), AllocError> {
+fn push<'t>(names: &mut Vec<Named<'t>>, scope: Scope, name: &'t [u8]) -> Result<(), AllocError> {
     if name.is_empty() {
         return Ok(());
     }
@@ -84,87 +85,103 @@ fn push(names: &mut Vec<Named>, scope: Scope, name: Vec<u8>) -> Result<(), Alloc
 }
 
 /// Adds the file of the system, unless GIT_CONFIG_NOSYSTEM says that it is not read.
-fn push_system<R: Host>(host: &R, names: &mut Vec<Named>) -> io::Result<()> {
-    if is_on(host, "GIT_CONFIG_NOSYSTEM")? {
+fn push_system<'t, R: Host>(
+    disk: &Disk<'t, R>,
+    names: &mut Vec<Named<'t>>,
+) -> Result<(), AllocError> {
+    if is_on(disk.host, "GIT_CONFIG_NOSYSTEM")? {
         return Ok(());
     }
-    let name = match variable(host, "GIT_CONFIG_SYSTEM")? {
-        Some(name) => name,
-        None => copied(host, b"/etc/gitconfig")?,
-    };
-    Ok(push(names, Scope::System, name)?)
+    let name = kept_variable(disk, "GIT_CONFIG_SYSTEM")?.unwrap_or(b"/etc/gitconfig");
+    push(names, Scope::System, name)
 }
 
 /// The folder XDG_CONFIG_HOME, or `None` if it is not set, or empty.
-fn own_folder<R: Host>(host: &R) -> Result<Option<Vec<u8>>, AllocError> {
-    match variable(host, "XDG_CONFIG_HOME")? {
+fn own_folder<'t, R: Host>(disk: &Disk<'t, R>) -> Result<Option<&'t [u8]>, AllocError> {
+    match kept_variable(disk, "XDG_CONFIG_HOME")? {
         Some(folder) if !folder.is_empty() => Ok(Some(folder)),
         _ => Ok(None),
     }
 }
 
 /// Adds the file of this name below the home directory, if that is known.
-fn push_home<R: Host>(host: &R, names: &mut Vec<Named>, name: &[u8]) -> io::Result<()> {
-    match variable(host, "HOME")? {
-        Some(home) => Ok(push(names, Scope::Global, below(host, &home, name)?)?),
+fn push_home<'t, R: Host>(
+    disk: &Disk<'t, R>,
+    names: &mut Vec<Named<'t>>,
+    name: &[u8],
+) -> Result<(), AllocError> {
+    match kept_variable(disk, "HOME")? {
+        Some(home) => push(names, Scope::Global, below(disk, home, name)?),
         None => Ok(()),
     }
 }
 
 /// Adds the files of the user.
-fn push_global<R: Host>(host: &R, names: &mut Vec<Named>) -> io::Result<()> {
-    match variable(host, "GIT_CONFIG_GLOBAL")? {
-        Some(name) => Ok(push(names, Scope::Global, name)?),
-        None => push_own(host, names),
+fn push_global<'t, R: Host>(
+    disk: &Disk<'t, R>,
+    names: &mut Vec<Named<'t>>,
+) -> Result<(), AllocError> {
+    match kept_variable(disk, "GIT_CONFIG_GLOBAL")? {
+        Some(name) => push(names, Scope::Global, name),
+        None => push_own(disk, names),
     }
 }
 
 /// Adds the files of the user that no variable names.
-fn push_own<R: Host>(host: &R, names: &mut Vec<Named>) -> io::Result<()> {
-    match own_folder(host)? {
-        Some(folder) => push(names, Scope::Global, below(host, &folder, b"git/config")?)?,
-        None => push_home(host, names, b".config/git/config")?,
+fn push_own<'t, R: Host>(disk: &Disk<'t, R>, names: &mut Vec<Named<'t>>) -> Result<(), AllocError> {
+    match own_folder(disk)? {
+        Some(folder) => push(names, Scope::Global, below(disk, folder, b"git/config")?)?,
+        None => push_home(disk, names, b".config/git/config")?,
     }
-    push_home(host, names, b".gitconfig")
+    push_home(disk, names, b".gitconfig")
 }
 
 /// The name of a file in a git directory, as Git shows it: without `./` at its start.
-fn shown_name<R: Host>(host: &R, folder: &[u8], name: &[u8]) -> io::Result<Vec<u8>> {
-    let whole = below(host, folder, name)?;
+fn shown_name<'t, R: Host>(
+    disk: &Disk<'t, R>,
+    folder: &[u8],
+    name: &[u8],
+) -> Result<&'t [u8], AllocError> {
+    let whole = below(disk, folder, name)?;
     match whole.strip_prefix(b"./") {
-        Some(rest) => copied(host, rest.trim_start_with(|character| character == '/')),
+        Some(rest) => Ok(rest.trim_start_with(|character| character == '/')),
         None => Ok(whole),
     }
 }
 
 /// Adds the files of a repository.
-fn push_repository<R: Host>(
-    host: &R,
-    names: &mut Vec<Named>,
-    repository: &RepositoryBuf,
-) -> io::Result<()> {
-    let shared = shown_name(host, &repository.common_dir, b"config")?;
+fn push_repository<'t, R: Host>(
+    disk: &Disk<'t, R>,
+    names: &mut Vec<Named<'t>>,
+    repository: FoundRepository<'t>,
+) -> Result<(), AllocError> {
+    let shared = shown_name(disk, repository.common_dir, b"config")?;
     push(names, Scope::Local, shared)?;
     if repository.has_worktree_files {
-        let own = shown_name(host, &repository.named_dir, b"config.worktree")?;
+        let own = shown_name(disk, repository.named_dir, b"config.worktree")?;
         push(names, Scope::Worktree, own)?;
     }
     Ok(())
 }
 
 /// The files that no repository can change: those of the system and of the user.
-pub(crate) fn protected_names<R: Host>(host: &R) -> io::Result<Vec<Named>> {
-    let mut names = Vec::new(host.alloc());
-    push_system(host, &mut names)?;
-    push_global(host, &mut names)?;
+pub(crate) fn protected_names<'t, R: Host>(
+    disk: &Disk<'t, R>,
+) -> Result<Vec<Named<'t>>, AllocError> {
+    let mut names = Vec::new(disk.host.alloc());
+    push_system(disk, &mut names)?;
+    push_global(disk, &mut names)?;
     Ok(names)
 }
 
 /// The files that Git reads, whether they are there or not. They come in the order in which it reads them.
-pub fn names<R: Host>(host: &R, repository: Option<&RepositoryBuf>) -> io::Result<Vec<Named>> {
-    let mut names = protected_names(host)?;
+pub fn names<'t, R: Host>(
+    disk: &Disk<'t, R>,
+    repository: Option<FoundRepository<'t>>,
+) -> Result<Vec<Named<'t>>, AllocError> {
+    let mut names = protected_names(disk)?;
     if let Some(repository) = repository {
-        push_repository(host, &mut names, repository)?;
+        push_repository(disk, &mut names, repository)?;
     }
     Ok(names)
 }
@@ -172,7 +189,7 @@ pub fn names<R: Host>(host: &R, repository: Option<&RepositoryBuf>) -> io::Resul
 /// Whether the system has a file of this name, or opens no file of such a name.
 pub fn is_there<R: Host>(disk: &Disk<'_, R>, name: &[u8]) -> io::Result<bool> {
     match disk.opened_name(name) {
-        Ok(opened) => Ok(str::from_utf8(&opened).is_err() || exists(disk.host, &opened)?),
+        Ok(opened) => Ok(str::from_utf8(opened).is_err() || exists(disk.host, opened)?),
         Err(_) => Err(io::Error::from(AllocError)),
     }
 }
@@ -181,9 +198,9 @@ pub fn is_there<R: Host>(disk: &Disk<'_, R>, name: &[u8]) -> io::Result<bool> {
 /// user.
 fn read_source<'t, R: Host>(
     disk: &Disk<'t, R>,
-    named: &Named,
+    named: Named<'t>,
 ) -> Result<Option<Source<'t>>, HereError<'t>> {
-    match disk.first(&named.name) {
+    match disk.first(named.name) {
         Ok((place, text)) => Ok(Some(Source {
             scope: named.scope,
             place,
@@ -194,7 +211,7 @@ fn read_source<'t, R: Host>(
         Err(error) if error.is_missing() => Ok(None),
         Err(error) if error.is_denied() && named.scope == Scope::Global => Ok(None),
         Err(error) => Err(HereError::File {
-            file: disk.kept(&named.name)?,
+            file: named.name,
             error,
         }),
     }
@@ -237,11 +254,11 @@ fn add_command<'t, R: Host>(
 /// The texts of these files, as far as they are there, and of the command.
 pub fn sources<'t, R: Host>(
     disk: &Disk<'t, R>,
-    names: &[Named],
+    names: &[Named<'t>],
 ) -> Result<Vec<Source<'t>>, HereError<'t>> {
     let mut sources = Vec::new(disk.host.alloc());
     for named in names {
-        if let Some(source) = read_source(disk, named)? {
+        if let Some(source) = read_source(disk, *named)? {
             add(&mut sources, source)?;
         }
     }

@@ -1,6 +1,7 @@
 //! What includes ask about the place in which a program runs.
 
-use crate::environment::{Host, variable};
+use crate::disk::Disk;
+use crate::environment::{Host, kept_variable};
 use crate::names::resolved;
 use bstr::ByteSlice;
 use config_file::{Directories, Includes, Known, Repository, Urls};
@@ -43,11 +44,13 @@ fn may_ask_for_urls(text: &[u8]) -> bool {
 /// Which includes a program follows.
 ///
 /// ```rust
+/// use bumpalo::Bump;
 /// use config_file::Includes;
-/// use config_host::Surroundings;
 /// use config_host::surroundings::Followed;
+/// use config_host::{Disk, Surroundings};
 ///
-/// let surroundings = Surroundings::new(&rt, Followed::Nothing)?;
+/// let texts = Bump::new(rt.alloc());
+/// let surroundings = Surroundings::new(&Disk::new(&rt, &texts), Followed::Nothing)?;
 /// assert!(rt; matches!(surroundings.known().includes, Includes::Skipped));
 /// ```
 #[derive(Clone, Copy, PartialEq, Eq)]
@@ -74,18 +77,18 @@ pub enum Followed {
 ///     None => {} // the folder is in no repository
 /// }
 /// ```
-#[derive(Drop)]
-pub struct RepositoryBuf {
+#[derive(Clone, Copy)]
+pub struct FoundRepository<'t> {
     /// The absolute path of the git directory, with its links resolved.
-    pub real_git_dir: Vec<u8>,
+    pub real_git_dir: &'t [u8],
     /// The absolute path of the git directory, with its links kept.
-    pub git_dir: Vec<u8>,
+    pub git_dir: &'t [u8],
     /// The name of the branch without `refs/heads/`, or `None` if HEAD names no branch.
-    pub branch: Option<Vec<u8>>,
+    pub branch: Option<&'t [u8]>,
     /// The name of the git directory, as Git shows it: from the folder in which Git works.
-    pub named_dir: Vec<u8>,
+    pub named_dir: &'t [u8],
     /// The name of the folder that all work trees share, as Git shows it.
-    pub common_dir: Vec<u8>,
+    pub common_dir: &'t [u8],
     /// Whether each work tree has a file of its own.
     pub has_worktree_files: bool,
 }
@@ -99,17 +102,18 @@ pub struct RepositoryBuf {
 /// use config_host::{Disk, Surroundings};
 ///
 /// let texts = Bump::new(rt.alloc());
-/// let location = find(&Disk::new(&rt, &texts), b".").expect(&rt, "a folder");
-/// let mut surroundings = Surroundings::new(&rt, Followed::AsGit)?;
-/// surroundings.set_repository(&rt, location.repository)?; // for `gitdir:` and `onbranch:`
+/// let disk = Disk::new(&rt, &texts);
+/// let location = find(&disk, b".").expect(&rt, "a folder");
+/// let mut surroundings = Surroundings::new(&disk, Followed::AsGit)?;
+/// surroundings.set_repository(&disk, location.repository)?; // for `gitdir:` and `onbranch:`
 /// assert!(rt; surroundings.repository().is_none());
 /// ```
 #[derive(Drop)]
 pub struct Surroundings<'t> {
     followed: Followed,
-    home: Option<Vec<u8>>,
-    real_home: Option<Vec<u8>>,
-    repository: Option<RepositoryBuf>,
+    home: Option<&'t [u8]>,
+    real_home: Option<&'t [u8]>,
+    repository: Option<FoundRepository<'t>>,
     urls: Vec<&'t [u8]>,
     is_known: bool,
     are_sought: bool,
@@ -118,17 +122,20 @@ pub struct Surroundings<'t> {
 impl<'t> Surroundings<'t> {
     /// The home directory of this run, if includes are followed. The repository is not known yet, and there
     /// is no URL.
-    pub fn new<R: Host>(host: &R, followed: Followed) -> Result<Surroundings<'t>, AllocError> {
+    pub fn new<R: Host>(
+        disk: &Disk<'t, R>,
+        followed: Followed,
+    ) -> Result<Surroundings<'t>, AllocError> {
         let home = match followed {
             Followed::Nothing => None,
-            _ => variable(host, "HOME")?,
+            _ => kept_variable(disk, "HOME")?,
         };
         Ok(Surroundings {
             followed,
             home,
             real_home: None,
             repository: None,
-            urls: Vec::new(host.alloc()),
+            urls: Vec::new(disk.host.alloc()),
             is_known: false,
             are_sought: false,
         })
@@ -147,12 +154,12 @@ impl<'t> Surroundings<'t> {
     /// Takes this as the repository, or knows that there is none.
     pub fn set_repository<R: Host>(
         &mut self,
-        host: &R,
-        repository: Option<RepositoryBuf>,
+        disk: &Disk<'t, R>,
+        repository: Option<FoundRepository<'t>>,
     ) -> io::Result<()> {
         self.repository = repository;
-        if let Some(home) = &self.home {
-            self.real_home = Some(resolved(host, home, home)?);
+        if let Some(home) = self.home {
+            self.real_home = Some(resolved(disk, home, home)?);
         }
         self.is_known = true;
         Ok(())
@@ -165,8 +172,8 @@ impl<'t> Surroundings<'t> {
     }
 
     /// The repository, or `None` if there is none, or if it is not known yet.
-    pub fn repository(&self) -> Option<&RepositoryBuf> {
-        self.repository.as_ref()
+    pub fn repository(&self) -> Option<FoundRepository<'t>> {
+        self.repository
     }
 
     /// What a walk knows.
@@ -182,7 +189,7 @@ impl<'t> Surroundings<'t> {
     fn knowing<'s>(&'s self, urls: Urls<'s>) -> Known<'s> {
         Known {
             directories: Directories {
-                home: self.home.as_deref(),
+                home: self.home,
                 install_dir: None,
             },
             includes: match self.followed {
@@ -194,12 +201,12 @@ impl<'t> Surroundings<'t> {
     }
 
     fn conditions(&self) -> Option<Repository<'_>> {
-        let repository = self.repository.as_ref()?;
+        let repository = self.repository?;
         Some(Repository {
-            real_git_dir: &repository.real_git_dir,
-            git_dir: &repository.git_dir,
-            branch: repository.branch.as_deref(),
-            real_home: self.real_home.as_deref(),
+            real_git_dir: repository.real_git_dir,
+            git_dir: repository.git_dir,
+            branch: repository.branch,
+            real_home: self.real_home,
         })
     }
 }

@@ -1,7 +1,8 @@
 //! The users of a system, whose home directories a `~` at the start of a path stands for.
 
 use crate::disk::Disk;
-use crate::environment::{Host, variable};
+use crate::environment::{Host, kept_variable};
+use crate::names::joined;
 use std::alloc::AllocError;
 
 /// What a system knows of its users.
@@ -14,10 +15,10 @@ use std::alloc::AllocError;
 /// let users = Users::new(&Disk::new(&rt, &texts), b"/no-such-root")?;
 /// assert!(rt; users.passwd.is_none());
 /// ```
-#[derive(Drop)]
+#[derive(Clone, Copy)]
 pub struct Users<'t> {
     /// The home directory of the current user: the variable `HOME`, if it is set.
-    pub home: Option<Vec<u8>>,
+    pub home: Option<&'t [u8]>,
     /// The text of the list of users, or `None` if it cannot be read.
     pub passwd: Option<&'t [u8]>,
 }
@@ -26,15 +27,13 @@ impl<'t> Users<'t> {
     /// The users in `/etc/passwd` below this folder, which is empty for the system itself. It fails only if
     /// memory is refused.
     pub fn new<R: Host>(disk: &Disk<'t, R>, root: &[u8]) -> Result<Users<'t>, AllocError> {
-        let mut name = root.to_vec(disk.host.alloc())?;
-        name.extend_from_slice(b"/etc/passwd")?;
-        let passwd = match disk.first(&name) {
+        let passwd = match disk.first(joined(disk, &[root, b"/etc/passwd"])?) {
             Ok((_, text)) => Some(text),
             Err(error) if error.is_memory() => return Err(AllocError),
             Err(_) => None,
         };
         Ok(Users {
-            home: variable(disk.host, "HOME")?,
+            home: kept_variable(disk, "HOME")?,
             passwd,
         })
     }

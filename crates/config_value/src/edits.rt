@@ -10,7 +10,7 @@ use crate::output::tell;
 use crate::request::{Request, Style, Subject, Texts};
 use crate::selected::{Changed, places, with_comment, with_value, without};
 use crate::shown::Shown;
-use crate::sources::{named_by_variable, of_scope};
+use crate::sources::{located, named_by_variable, of_scope};
 use crate::wanted::{Patterns, Unclear, Wanted};
 use crate::words::{CHANGES, Misuse, shown_of, texts_of};
 use bstr::BStr;
@@ -18,7 +18,6 @@ use bumpalo::Bump;
 use clap::{ArgMatches, Command};
 use config_file::edit::{self, EditError};
 use config_file::{Key, KeyError, Scope};
-use config_host::repository::{Location, find};
 use config_host::sources::names;
 use config_host::{Disk, HereError, HostError, LockError, Locked};
 use gix_config_value::canonical::{CanonicalText, Kind, normalize};
@@ -548,21 +547,10 @@ fn change_here<'t>(
     value: &[u8],
 ) -> Result<u8, HereError<'t>> {
     let disk = Disk::new(rt, texts);
-    let Location {
-        folder,
-        repository,
-        refusal,
-        stop,
-    } = find(&disk, b"")?;
-    if let Some(stop) = stop {
-        return Err(stop);
-    }
-    if let Some(refusal) = refusal {
-        tell(rt, format_args!("config_value: {refusal}"))?;
-    }
-    let disk = disk.within(&folder)?;
-    match of_scope(&disk, names(rt, repository.as_ref())?, scope)? {
-        Some(named) => Ok(change_file(rt, &disk, &named.name, asked, value)?),
+    let (folder, repository) = located(rt, &disk)?;
+    let disk = disk.within(folder)?;
+    match of_scope(&disk, &names(&disk, repository)?, scope)? {
+        Some(named) => Ok(change_file(rt, &disk, named.name, asked, value)?),
         None => {
             tell(
                 rt,

@@ -68,9 +68,9 @@ pub enum Outcome {
 }
 
 /// The directories that paths begin with. They are found only if paths are shown.
-#[derive(Drop)]
+#[derive(Clone, Copy)]
 pub struct Homes<'t> {
-    home: Option<String>,
+    home: Option<&'t str>,
     passwd: Option<&'t str>,
 }
 
@@ -83,9 +83,9 @@ impl<'t> Homes<'t> {
                 passwd: None,
             });
         }
-        let mut users = Users::new(disk, b"")?;
-        let home = match users.home.take() {
-            Some(home) => match String::from_utf8(home) {
+        let users = Users::new(disk, b"")?;
+        let home = match users.home {
+            Some(home) => match str::from_utf8(home) {
                 Ok(home) => Some(home),
                 Err(_) => return Err(HostError::Variable("HOME")),
             },
@@ -134,7 +134,7 @@ fn put_path(
     let passwd = homes.passwd.unwrap_or("");
     let context = Context {
         git_install_dir: None,
-        home_dir: homes.home.as_deref(),
+        home_dir: homes.home,
         home_for_user: Some(|name: &str| home_for_user(passwd, name)),
     };
     let Ok((is_optional, parts)) = setting.path(context) else {

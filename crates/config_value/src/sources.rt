@@ -7,9 +7,9 @@ use config_file::{FilePlace, Scope, push_setting};
 use config_host::disk::ReadError;
 use config_host::environment::variable;
 use config_host::reading::seek_urls;
-use config_host::repository::{Location, find};
+use config_host::repository::find;
 use config_host::sources::{Named, Source, is_there, names, sources};
-use config_host::surroundings::has_includes;
+use config_host::surroundings::{Followed, FoundRepository, has_includes};
 use config_host::{Disk, HereError, HostError, Surroundings};
 use std::alloc::AllocError;
 use std::io;
@@ -105,9 +105,10 @@ fn closed<'t>(
     disk: Disk<'t, HostRuntime>,
     request: &Request<'_, '_>,
 ) -> Result<Opened<'t>, HostError> {
+    let surroundings = Surroundings::new(&disk, request.followed)?;
     Ok(Opened {
         disk,
-        surroundings: Surroundings::new(rt, request.followed)?,
+        surroundings,
         sources: Vec::new(rt.alloc()),
         ending: Ending::Done,
     })
@@ -206,22 +207,22 @@ fn command_text(
 }
 
 /// The file of this scope among those that Git reads here: the last one, unless only one before it is there.
-pub fn of_scope(
-    disk: &Disk<'_, HostRuntime>,
-    files: Vec<Named>,
+pub fn of_scope<'t>(
+    disk: &Disk<'t, HostRuntime>,
+    files: &[Named<'t>],
     scope: Scope,
-) -> io::Result<Option<Named>> {
-    let mut found: Option<Named> = None;
+) -> io::Result<Option<Named<'t>>> {
+    let mut found: Option<Named<'t>> = None;
     for named in files {
         if named.scope != scope {
             continue;
         }
-        let keeps = match &found {
-            Some(earlier) => is_there(disk, &earlier.name)? && !is_there(disk, &named.name)?,
+        let keeps = match found {
+            Some(earlier) => is_there(disk, earlier.name)? && !is_there(disk, named.name)?,
             None => false,
         };
         if !keeps {
-            found = Some(named);
+            found = Some(*named);
         }
     }
     Ok(found)
@@ -232,7 +233,7 @@ fn open_scope<'t>(
     rt: &'t HostRuntime,
     request: &Request<'_, '_>,
     opened: &mut Opened<'t>,
-    files: Vec<Named>,
+    files: &[Named<'t>],
     scope: Scope,
 ) -> Result<(), HostError> {
     let has_own = files.iter().any(|named| named.scope == Scope::Worktree);
@@ -241,7 +242,7 @@ fn open_scope<'t>(
         scope => scope,
     };
     match of_scope(&opened.disk, files, scope)? {
-        Some(named) => open(rt, request, opened, scope, &named.name),
+        Some(named) => open(rt, request, opened, scope, named.name),
         None => {
             let name = scope.name();
             tell(
@@ -257,7 +258,7 @@ fn open_scope<'t>(
 /// Adds what Git reads here, and then the text with the settings of the command line.
 fn open_all<'t>(
     opened: &mut Opened<'t>,
-    files: &[Named],
+    files: &[Named<'t>],
     commands: &[u8],
 ) -> Result<(), HereError<'t>> {
     opened.sources = sources(&opened.disk, files)?;
@@ -273,8 +274,21 @@ fn open_all<'t>(
     Ok(add(&mut opened.sources, source)?)
 }
 
-/// The texts that Git reads here, or the one of a scope. Reports why Git uses no repository although one is
+/// The folder in which Git works, and the repository that it uses. Reports why it uses none although one is
 /// there.
+pub fn located<'t>(
+    rt: &HostRuntime,
+    disk: &Disk<'t, HostRuntime>,
+) -> Result<(&'t [u8], Option<FoundRepository<'t>>), HereError<'t>> {
+    let location = find(disk, b"")?;
+    if let Some(refusal) = location.refusal {
+        tell(rt, format_args!("config_value: {refusal}"))?;
+    }
+    let folder = location.folder;
+    Ok((folder, location.used()?))
+}
+
+/// The texts that Git reads here, or the one of a scope.
 fn open_here<'t>(
     rt: &'t HostRuntime,
     texts: &'t Bump,
@@ -283,26 +297,15 @@ fn open_here<'t>(
     commands: &[u8],
 ) -> Result<Opened<'t>, HereError<'t>> {
     let disk = Disk::new(rt, texts);
-    let Location {
-        folder,
-        repository,
-        refusal,
-        stop,
-    } = find(&disk, b"")?;
-    if let Some(stop) = stop {
-        return Err(stop);
-    }
-    if let Some(refusal) = refusal {
-        tell(rt, format_args!("config_value: {refusal}"))?;
-    }
-    let files = names(rt, repository.as_ref())?;
-    let mut opened = closed(rt, disk.within(&folder)?, request)?;
-    opened.surroundings.set_repository(rt, repository)?;
+    let (folder, repository) = located(rt, &disk)?;
+    let files = names(&disk, repository)?;
+    let mut opened = closed(rt, disk.within(folder)?, request)?;
+    opened.surroundings.set_repository(&disk, repository)?;
     match scope {
-        Some(scope) => open_scope(rt, request, &mut opened, files, scope)?,
+        Some(scope) => open_scope(rt, request, &mut opened, &files, scope)?,
         None => open_all(&mut opened, &files, commands)?,
     }
-    let follows = request.followed != config_host::surroundings::Followed::Nothing;
+    let follows = request.followed != Followed::Nothing;
     if follows
         && opened
             .sources

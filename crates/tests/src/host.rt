@@ -10,7 +10,6 @@ use config_host::environment::{HostError, arguments, variable};
 use config_host::error::HereError;
 use config_host::names::exists;
 use config_host::repository::find;
-use config_host::surroundings::RepositoryBuf;
 use config_host::{files_here, read_here, shown};
 use std::alloc::{Alloc, AllocError, Allocator, Global};
 use std::cell::Cell;
@@ -416,18 +415,13 @@ fn what_is_no_file(rt: HostRuntime) -> Result<(), Fail> {
     Ok(())
 }
 
-/// The branch of a repository, or nothing.
-fn branch_of(repository: Option<RepositoryBuf>, alloc: Global) -> Vec<u8> {
-    match repository {
-        Some(repository) => repository.branch.unwrap_or(Vec::new(alloc)),
-        None => Vec::new(alloc),
-    }
-}
-
 /// The branch of the repository that is found in the folder of this name, or nothing.
-fn branch_in(disk: &Disk<'_, Faulty<'_>>, name: &[u8], alloc: Global) -> Result<Vec<u8>, Fail> {
+fn branch_in<'t>(disk: &Disk<'t, Faulty<'_>>, name: &[u8]) -> Result<&'t [u8], Fail> {
     match find(disk, name) {
-        Ok(location) => Ok(branch_of(location.repository, alloc)),
+        Ok(location) => match location.repository {
+            Some(repository) => Ok(repository.branch.unwrap_or(b"")),
+            None => Ok(b""),
+        },
         Err(_) => Err(Fail::new("a folder")),
     }
 }
@@ -457,8 +451,8 @@ fn finds(rt: HostRuntime) -> Result<(), Fail> {
     let texts = Bump::new(rt.alloc());
     let disk = Disk::new(&host, &texts);
     for (folder, wanted) in FOUND {
-        let branch = branch_in(&disk, folder.as_bytes(), rt.alloc())?;
-        equal(&rt, BStr::new(&branch), BStr::new(wanted), folder);
+        let branch = branch_in(&disk, folder.as_bytes())?;
+        equal(&rt, BStr::new(branch), BStr::new(wanted), folder);
     }
     fs::remove_dir_all(&rt, "config_host.finds")?;
     Ok(())
