@@ -36,7 +36,7 @@ pub(crate) enum Failure<'m> {
     Version(&'m str),
     #[error("neither a code nor a key: {0}")]
     Ignored(&'m str),
-    #[error("no such code: {0}")]
+    #[error("no such code: {0}; --explain all lists them")]
     NoCode(&'m str),
     #[error("only one of --fix, --diff and --statistics")]
     Apart,

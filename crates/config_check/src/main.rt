@@ -20,7 +20,7 @@ mod text;
 use crate::checking::check;
 use crate::explain::explain;
 use crate::failure::{Failure, status};
-use crate::options::{Asked, code_of, command, ignored_by};
+use crate::options::{Asked, command, ignored_by};
 use crate::rows::all_rows;
 use bumpalo::Bump;
 use clap::ArgMatches;
@@ -34,10 +34,7 @@ fn run_in<'m, 't>(
     matches: &ArgMatches<'m>,
 ) -> Result<u8, Failure<'m>> {
     if let Some(name) = matches.get_str("explain") {
-        return match code_of(name) {
-            Some(code) => explain(rt, code),
-            None => Err(Failure::NoCode(name)),
-        };
+        return explain(rt, name);
     }
     let ignored = ignored_by(rt.alloc(), matches.get_strs("ignore").unwrap_or(&[]))?;
     let asked = Asked::of(rt, matches, &ignored)?;

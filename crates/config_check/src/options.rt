@@ -94,7 +94,7 @@ const OPTIONS: &[(&str, &str, &str)] = &[
     (
         "explain",
         "CODE",
-        "Say what a code means, and check nothing",
+        "Say what a code means, or list all of them if CODE is all, and check nothing",
     ),
 ];
 

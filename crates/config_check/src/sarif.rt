@@ -1,6 +1,5 @@
 //! Findings as a SARIF document, of version 2.1.0.
 
-use crate::explain::meaning;
 use crate::options::VERSION;
 use crate::source::Spot;
 use crate::text::{push, push_message, severity_name};
@@ -32,7 +31,7 @@ fn uri_of(alloc: Global, file: &str) -> Result<String, AllocError> {
 
 /// The rule of a code.
 fn rule_of(alloc: Global, code: Code) -> Result<Value, AllocError> {
-    json!(in alloc; { "id": code.name(), "shortDescription": { "text": meaning(code) } })
+    json!(in alloc; { "id": code.name(), "shortDescription": { "text": code.meaning() } })
 }
 
 /// What the document begins with, up to the results.

@@ -13,7 +13,7 @@ from checking import Ended
 
 ROOT = pathlib.Path(__file__).resolve().parents[3]
 PAGE = (ROOT / "docs/CHECKING.md").read_text(encoding="utf-8")
-TABLE = re.findall(r"^\| `([a-z-]+)` \| (.*) \|$", PAGE.partition("## The codes")[2].partition("\n## ")[0], re.MULTILINE)
+CODES = re.findall('codes "(.*)"', (ROOT / "crates/config_checks/specs/Codes.antt").read_text(encoding="utf-8"))
 # findings of four kinds, and their lines in each format
 DATA = b"[core]\n\tbare = 50%\n\teditor\n[pull]\n\trebas = true\n\tff = ONLY\n"
 FOUND = [("error", 2, "bad-boolean", "core.bare: '50%': Booleans need to be 'no', 'off', 'false', '' or 'yes', 'on', 'true' or any number"),
@@ -27,11 +27,13 @@ LEVELS = ["none", "note", "warning", "error"]
 
 
 def codes(group, program):
-    """The table of the page is what --explain and the rules of SARIF say, and its examples have these findings."""
+    """--explain and the rules of SARIF know the codes that are specified, and the examples have these findings."""
     came = program.run(["--format", "sarif", "-"], b"")
     rules = [(rule["id"], rule["shortDescription"]["text"]) for rule in json.loads(came.output)["runs"][0]["tool"]["driver"]["rules"]]
-    group.expect("the table of codes", TABLE, rules)
-    for code, meaning in TABLE:
+    group.expect("the codes", CODES, [code for code, _ in rules])
+    listed = "".join(f"{code}: {meaning}\n" for code, meaning in rules)
+    group.expect("--explain all", listed, program.run(["--explain", "all"]).output.decode())
+    for code, meaning in rules:
         came = program.run(["--explain", code])
         first, _, rest = came.output.decode().partition("\n\nwrong:\n")
         group.expect(("--explain", code), (0, f"{code}: {meaning}"), (came.status, first))
@@ -98,12 +100,11 @@ def sarif(group, program):
             missing = [one for one in REQUIRED.get(member, []) if one not in thing]
             group.expect((member, thing), [], missing)
         results = document["runs"][0]["results"]
-        rules = [code for code, _ in TABLE]
         places = []
         for one in results:
             place = one["locations"][0]["physicalLocation"]
             region, uri = place["region"], place["artifactLocation"]["uri"]
-            group.expect(one, (True, True, True), (one["level"] in LEVELS, one["ruleId"] in rules, uri.isascii() and " " not in uri))
+            group.expect(one, (True, True, True), (one["level"] in LEVELS, one["ruleId"] in CODES, uri.isascii() and " " not in uri))
             places.append((urllib.parse.unquote(uri), region["startLine"], region["startColumn"], one["ruleId"]))
         lines = [(2, 8, "no-value"), *((line + 2, 2, code) for _, line, code, _ in FOUND)]
         group.expect("the results", [("ä b", *one) for one in lines] + [("rows", 1, 2, "invalid-line")], places)
