@@ -1,9 +1,9 @@
 """Tries the wrong bodies: the prover has to refuse each, at the clauses that it names. wrong_bodies.py [CRATE..]
 
-CONTRIBUTING.md has the form of their files. Those of a crate are put into one copy of it, and the functions that they
-name are checked once, over the libraries that `rt check` or `rt ci` left; those that change a definition follow in a
-second check. If that opens other goals, or two are for the same function, each is tried by itself, and the goals that
-it opens are printed. The last line is 'N passed, M failed'.
+CONTRIBUTING.md has the form of their files. Those of a crate are put into one copy of it, in which other functions have
+no body, and the functions that they name are checked once, over the libraries that `rt check` or `rt ci` left; those
+that change a definition follow in a second check. If that opens other goals, or two are for the same function, each is
+tried by itself, and the goals that it opens are printed. The last line is 'N passed, M failed'.
 """
 import collections
 import concurrent.futures
@@ -21,6 +21,9 @@ KIT = pathlib.Path(os.path.realpath(shutil.which("rt") or "rt")).parent.parent
 OPEN = re.compile(r"^fn \w+::(\S+): (?!no holes|proved|it calls)(.*)$", re.MULTILINE)
 GOALS = re.compile(r"(?:did not prove|stands on) (`[^`]*`(?:, `[^`]*`)*)")
 REFUSED = re.compile(r"^(?:\./)?(?:proofs|specs)/(\S+)\.antt:\S+ error: `([^`]*)`", re.MULTILINE)
+# a function as `rt fmt` lays it out: its indent, its name, and its lines up to the end of its body
+FUNCTION = re.compile(r"^( *)(?:pub(?:\(crate\))? )?(?:const )?fn (\w+).*[^;}]\n(?:(?!\1(?:\}|\{\})$).*\n)*?\1\}$",
+                      re.MULTILINE)
 LINES = [line.partition("#")[0].partition(":") for line in (ROOT / "crates.txt").read_text().splitlines()]
 # each crate, with the words before the colon of its line, and the libraries that it uses
 LISTED = {head.split()[0]: (head, deps.split()) for head, colon, deps in LINES if colon}
@@ -61,11 +64,31 @@ class Crate:
         for rlib in rlibs.values():
             self.words += ["-L", f"dependency={rlib}"]
 
+    def cut(self, edits):
+        """Takes the bodies of functions that no edit is about: what calls them needs only their contracts."""
+        files = {file: file.read_text(encoding="utf-8") for file in self.room.glob("src/**/*.rt")}
+        found = [it for text in files.values() for it in FUNCTION.finditer(text)]
+        kept = {function_of(place).rpartition("::")[2] for edit in edits for place, _ in edit.expected}
+        kept |= {it[2] for it in found if any(old in it[0] for edit in edits for _, old, _ in edit.pairs)}
+
+        def without(it):
+            # the body follows a brace alone on its line if there are clauses, and otherwise the head
+            head = re.match(rf"(?:.*\n)*?{it[1]}\{{\n", it[0]) or re.match(r"(?:.*\n)*?.*\{\n", it[0])
+            return it[0] if it[2] in kept else f"{head[0]}{it[1]}    unreachable!()\n{it[1]}}}"
+
+        for file, text in files.items():
+            file.write_text(FUNCTION.sub(without, text), encoding="utf-8")
+        gone = {it[2] for it in found} - kept
+        for file in self.room.glob("proofs/**/*.antt"):
+            if file.name in ("Answers.antt", "Invariants.antt") and file.parent.name in gone:
+                file.unlink()
+
     def opened(self, edits):
         """The goals that these edits open together, each a function and a clause."""
         for part in ("src", "specs", "proofs"):
             shutil.rmtree(self.room / part, ignore_errors=True)
             shutil.copytree(self.folder / part, self.room / part)
+        self.cut(edits)
         for path, old, new in [pair for edit in edits for pair in edit.pairs]:
             text = (self.room / path).read_text(encoding="utf-8")
             if not old or text.count(old) != 1:
@@ -79,7 +102,7 @@ class Crate:
             raise ValueError("it does not reach the prover: " + (re.findall(".*error.*", said) or [said])[0][-300:])
         goals = {(function, goal.rpartition(".")[2]) for function, why in OPEN.findall(said)
                  for found in GOALS.findall(why) for goal in re.findall("`([^`]*)`", found)
-                 if is_own(function, goal, why)}
+                 if goal != "unreachable-requires" and is_own(function, goal, why)}
         return goals | {one for one in REFUSED.findall(said) if one[1] not in {goal for _, goal in goals}}
 
     def faults(self, edits):
