@@ -57,6 +57,19 @@ class Condition(Given):
         pathlib.Path(self.folder, "config").write_text(f'[includeIf "onbranch:{pattern}"]path=none\n', "ascii")
 
 
+class Tables(Condition):
+    """The same with a branch that many tables name, which are one file with one record."""
+
+    def __init__(self, count):
+        super().__init__("main", ".invalid")
+        record = b"\0\x23HEAD\0\x0frefs/heads/main"
+        block = b"r" + (24 + 4 + len(record) + 5).to_bytes(3, "big") + record + b"\0\0\x1c\0\1"
+        folder = pathlib.Path(self.folder, ".git/reftable")
+        folder.mkdir()
+        (folder / "t").write_bytes(b"REFT\1\0\x10\0" + bytes(16) + block)
+        (folder / "tables.list").write_text("t\n" * count, "ascii")
+
+
 class Includes(Given):
     """A file that includes this many files, each with as many entries."""
 
@@ -127,6 +140,7 @@ INPUTS = [
     ("one line of 25 and 50 MB, zeros", 25_000_000, lambda size: Lines(b"integer 0x" + b"0" * size + b"7\n")),
     ("one line of 25 and 50 MB, `ul `", 25_000_000, lambda size: Lines(b"color " + b"ul " * (size // 3) + b"\n")),
     ("settings of `git -c`", 8_000, Parameters),
+    ("tables of references", 10_000, Tables),
     ("included files of 100 entries", 400, lambda size: Includes(size, 100)),
     ("included files of one entry", 3_000, lambda size: Includes(size, 1)),
     ("keys of a section with a long name", 10_000, Section),
