@@ -56,7 +56,7 @@ pub record IsDecided (contents : List ℕ → Content → Type 0) (known : Known
   pub is_last : IsLast key found last
   pub has_text : HasText last.1 text
 
--- Git stops in the file of this name, and the error tells where and why
+-- Git stops in the file of this name, and the error tells where and why; nothing is said of refused memory
 abbrev pub StopsWith : (List ℕ → Content → Type 0) → Known → List FirstFile → AddError → Type 0
 StopsWith contents known first (Memory _) = ⊤
 StopsWith contents known first error = (found : List (List ℕ × Entry)) × (file : List ℕ) × (stop : Stop)
