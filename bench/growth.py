@@ -58,16 +58,17 @@ class Condition(Given):
 
 
 class Tables(Condition):
-    """The same with a branch that many tables name, which are one file with one record."""
+    """The same with a branch that the first of many tables names. The others, which are one file, have no HEAD."""
 
     def __init__(self, count):
         super().__init__("main", ".invalid")
-        record = b"\0\x23HEAD\0\x0frefs/heads/main"
-        block = b"r" + (24 + 4 + len(record) + 5).to_bytes(3, "big") + record + b"\0\0\x1c\0\1"
         folder = pathlib.Path(self.folder, ".git/reftable")
         folder.mkdir()
-        (folder / "t").write_bytes(b"REFT\1\0\x10\0" + bytes(16) + block)
-        (folder / "tables.list").write_text("t\n" * count, "ascii")
+        for file, name in ("h", b"HEAD"), ("t", b"Head"):
+            record = b"\0\x23" + name + b"\0\x0frefs/heads/main"
+            block = b"r" + (24 + 4 + len(record) + 5).to_bytes(3, "big") + record + b"\0\0\x1c\0\1"
+            (folder / file).write_bytes(b"REFT\1\0\x10\0" + bytes(16) + block)
+        (folder / "tables.list").write_text("h\n" + "t\n" * count, "ascii")
 
 
 class Includes(Given):

@@ -108,7 +108,7 @@ struct Checking<'c, 't> {
     disk: Disk<'t, HostRuntime>,
     surroundings: Surroundings<'t>,
     /// The real names of the files that are checked, or named and checked later.
-    seen: BTreeSet<&'t [u8]>,
+    seen: BTreeSet<Vec<u8>>,
     /// The files that are open: each is included by the one before.
     open: Vec<Source<'t>>,
     outcome: Outcome,
@@ -427,7 +427,7 @@ impl<'c, 't> Checking<'c, 't> {
     /// Whether one of the files that the walk is in has this real name.
     fn is_within(&self, walk: &Walk<'t>, real: &[u8]) -> Result<bool, Failure<'static>> {
         for frame in walk.frames() {
-            if self.disk.real_name(frame.place.name)? == real {
+            if self.disk.real_name(frame.place.name)?.as_slice() == real {
                 return Ok(true);
             }
         }
@@ -450,10 +450,10 @@ impl<'c, 't> Checking<'c, 't> {
         }
         let name = self.rooted(entry, name)?;
         let real = self.disk.real_name(&name)?;
-        if self.is_within(walk, real)? {
+        if self.is_within(walk, &real)? {
             return self.report(place, entry, LOOP);
         }
-        if self.seen.contains(real) {
+        if self.seen.contains(&real) {
             return Ok(());
         }
         match self.disk.read(self.rt.alloc(), &name)? {
@@ -529,7 +529,7 @@ impl<'c, 't> Checking<'c, 't> {
     }
 
     /// Remembers the real name of a file, and returns whether it is new.
-    fn remember(&mut self, real: &'t [u8]) -> Result<bool, Failure<'static>> {
+    fn remember(&mut self, real: Vec<u8>) -> Result<bool, Failure<'static>> {
         match self.seen.insert(real) {
             Ok(is_new) => Ok(is_new),
             Err(_) => Err(Failure::Memory(AllocError)),

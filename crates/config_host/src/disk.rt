@@ -3,7 +3,7 @@ ghost use Rattle.std.specs.Prelude.{◌≡◌, ◌⊎◌, ⊤, IfOk};
 ghost use Rattle.config_host.specs.declared.disk.ReadError.TheVariants.{Name, System};
 
 use crate::environment::{Host, current_folder};
-use crate::names::{answer, inside, real_name, split_last, text_of};
+use crate::names::{answer, path_inside, real_name, split_last, text_of};
 use bstr::BStr;
 use bumpalo::Bump;
 use bumpalo::collections::into_bump_slice;
@@ -189,13 +189,13 @@ pub(crate) fn known_length<F: OpenFile>(
 }
 
 /// The name of a file from the root, without links as far as the system knows it.
-fn name_from_root<'t, R: Host>(disk: &Disk<'t, R>, name: &'t [u8]) -> io::Result<&'t [u8]> {
-    if let Some(real) = real_name(disk, name)? {
+fn name_from_root<R: Host>(host: &R, name: &[u8]) -> io::Result<Vec<u8>> {
+    if let Some(real) = real_name(host, name)? {
         return Ok(real);
     }
-    match answer(current_folder(disk))? {
-        Some(folder) => Ok(inside(disk, folder, name)?),
-        None => Ok(name),
+    match answer(current_folder(host))? {
+        Some(folder) => Ok(path_inside(host.alloc(), &folder, name)?),
+        None => Ok(name.to_vec(host.alloc())?),
     }
 }
 
@@ -270,12 +270,13 @@ impl<'t, R: Host> Disk<'t, R> {
     }
 
     /// The name by which the system opens the file of this name.
-    pub fn opened_name(&self, name: &[u8]) -> Result<&'t [u8], ReadError> {
+    pub fn opened_name(&self, name: &[u8]) -> Result<Vec<u8>, ReadError> {
+        let alloc = self.host.alloc();
         match self.folder {
             None if !name.starts_with(b"/") => Err(ReadError::Relative),
             // an empty name would become that of the folder
-            Some(folder) if !name.is_empty() => Ok(inside(self, folder, name)?),
-            _ => Ok(self.kept(name)?),
+            Some(folder) if !name.is_empty() => Ok(path_inside(alloc, folder, name)?),
+            _ => Ok(name.to_vec(alloc)?),
         }
     }
 
@@ -296,7 +297,8 @@ impl<'t, R: Host> Disk<'t, R> {
 
     /// The bytes of the file of this name, which has to be one that may be included if `is_first` is false.
     fn read_file(&self, name: &[u8], is_first: bool) -> Result<&'t [u8], ReadError> {
-        self.read_opened(text_of(self.opened_name(name)?)?, is_first)
+        let name = self.opened_name(name)?;
+        self.read_opened(text_of(&name)?, is_first)
     }
 
     /// The bytes of the file that the system opens by this name.
@@ -307,13 +309,13 @@ impl<'t, R: Host> Disk<'t, R> {
     }
 
     /// The name of a file from the root, without links as far as the system knows it.
-    pub fn real_name(&self, name: &[u8]) -> Result<&'t [u8], AllocError> {
+    pub fn real_name(&self, name: &[u8]) -> Result<Vec<u8>, AllocError> {
         let opened = match self.opened_name(name) {
             Ok(opened) => opened,
             Err(error) if error.is_memory() => return Err(AllocError),
-            Err(_) => return self.kept(name),
+            Err(_) => return Ok(name.to_vec(self.host.alloc())?),
         };
-        match name_from_root(self, opened) {
+        match name_from_root(self.host, &opened) {
             Ok(real) => Ok(real),
             Err(_) => Err(AllocError),
         }
@@ -323,13 +325,14 @@ impl<'t, R: Host> Disk<'t, R> {
     pub fn place(&self, name: &[u8]) -> Result<FilePlace<'t>, AllocError>
         ensures { IfOk result (λ place. place.name.now ≡ name.now) }
     {
-        let real_dir = match split_last(self.real_name(name)?) {
+        let real = self.real_name(name)?;
+        let folder = match split_last(&real) {
             Some((folder, _)) => folder,
             None => b"",
         };
         Ok(FilePlace {
             name: self.texts.try_alloc_slice_copy(name)?,
-            real_dir,
+            real_dir: self.kept(folder)?,
         })
     }
 

@@ -187,12 +187,12 @@ pub fn arguments<R: Host>(host: &R) -> Result<Vec<String>, ArgumentError> {
 }
 
 /// The name of the current folder from the root, without links.
-pub(crate) fn current_folder<'t, R: Host>(disk: &Disk<'t, R>) -> io::Result<&'t [u8]> {
-    let mut bytes = Vec::new(disk.host.alloc());
+pub(crate) fn current_folder<R: Host>(host: &R) -> io::Result<Vec<u8>> {
+    let mut bytes = Vec::new(host.alloc());
     if bytes.resize(LONGEST_FOLDER, 0).is_err() {
         return Err(io::Error::from(ErrorKind::OutOfMemory));
     }
-    let length = disk.host.current_dir(&mut bytes)?;
+    let length = host.current_dir(&mut bytes)?;
     bytes.truncate(length);
-    Ok(disk.kept(&bytes)?)
+    Ok(bytes)
 }

@@ -3,14 +3,14 @@
 use crate::disk::Disk;
 use crate::environment::Host;
 use crate::lines::line_of;
-use crate::names::{answer, inside, text_of};
+use crate::names::{answer, path_inside, text_of};
 use crate::reftable::branch_in;
 use std::{fs, io};
 
 /// What the symbolic link of this name leads to, or `None` if this is no link.
-fn target_of<'t, R: Host>(disk: &Disk<'t, R>, name: &[u8]) -> io::Result<Option<&'t [u8]>> {
-    match answer(fs::read_link(disk.host, text_of(name)?))? {
-        Some(target) => Ok(Some(disk.kept(target.as_path().as_str().as_bytes())?)),
+fn target_of<R: Host>(host: &R, name: &[u8]) -> io::Result<Option<Vec<u8>>> {
+    match answer(fs::read_link(host, text_of(name)?))? {
+        Some(target) => Ok(Some(target.as_path().as_str().as_bytes().to_vec(host.alloc())?)),
         None => Ok(None),
     }
 }
@@ -29,17 +29,17 @@ fn is_object_id(text: &[u8]) -> bool {
 }
 
 /// HEAD of a git directory.
-#[derive(Clone, Copy)]
-enum Head<'t> {
+#[derive(Drop)]
+enum Head {
     /// A symbolic link, and what it leads to.
-    Link(&'t [u8]),
+    Link(Vec<u8>),
     /// The text of a file.
-    Text(&'t [u8]),
+    Text(Vec<u8>),
 }
 
-impl<'t> Head<'t> {
+impl Head {
     /// Whether it looks as Git's does: it names a reference, or an object.
-    fn is_valid(self) -> bool {
+    fn is_valid(&self) -> bool {
         match self {
             Head::Link(target) => target.starts_with(b"refs/"),
             Head::Text(text) => match reference_in(text) {
@@ -50,7 +50,7 @@ impl<'t> Head<'t> {
     }
 
     /// The branch that it names, without `refs/heads/`, or `None` if it names no branch.
-    fn branch(self) -> Option<&'t [u8]> {
+    fn branch(&self) -> Option<&[u8]> {
         match self {
             Head::Link(target) => target.strip_prefix(b"refs/heads/"),
             Head::Text(text) => reference_in(text)?.strip_prefix(b"refs/heads/"),
@@ -59,20 +59,20 @@ impl<'t> Head<'t> {
 }
 
 /// HEAD of a git directory, or `None` if it has none.
-fn head_of<'t, R: Host>(disk: &Disk<'t, R>, git_dir: &[u8]) -> io::Result<Option<Head<'t>>> {
-    let name = inside(disk, git_dir, b"HEAD")?;
-    if let Some(target) = target_of(disk, name)? {
+fn head_of<R: Host>(host: &R, git_dir: &[u8]) -> io::Result<Option<Head>> {
+    let name = path_inside(host.alloc(), git_dir, b"HEAD")?;
+    if let Some(target) = target_of(host, &name)? {
         return Ok(Some(Head::Link(target)));
     }
-    match line_of(disk, name)? {
+    match line_of(host, &name)? {
         Some(text) => Ok(Some(Head::Text(text))),
         None => Ok(None),
     }
 }
 
 /// Whether a git directory has a HEAD that looks as Git's does.
-pub fn has_head<R: Host>(disk: &Disk<'_, R>, git_dir: &[u8]) -> io::Result<bool> {
-    match head_of(disk, git_dir)? {
+pub fn has_head<R: Host>(host: &R, git_dir: &[u8]) -> io::Result<bool> {
+    match head_of(host, git_dir)? {
         Some(head) => Ok(head.is_valid()),
         None => Ok(false),
     }
@@ -81,11 +81,12 @@ pub fn has_head<R: Host>(disk: &Disk<'_, R>, git_dir: &[u8]) -> io::Result<bool>
 /// The branch that HEAD of a git directory names, or `None` if it names no branch. If references are in a
 /// reftable, the file names `.invalid`, which no branch is called.
 pub fn branch_of<'t, R: Host>(disk: &Disk<'t, R>, git_dir: &[u8]) -> io::Result<Option<&'t [u8]>> {
-    let Some(head) = head_of(disk, git_dir)? else {
+    let Some(head) = head_of(disk.host, git_dir)? else {
         return Ok(None);
     };
     match head.branch() {
         Some(b".invalid") => branch_in(disk, git_dir),
-        branch => Ok(branch),
+        Some(branch) => Ok(Some(disk.kept(branch)?)),
+        None => Ok(None),
     }
 }

@@ -9,6 +9,7 @@ use crate::sources::{Named, Source, is_there, names};
 use crate::surroundings::{FoundRepository, Surroundings};
 use bumpalo::Bump;
 use config_file::Settings;
+use std::alloc::AllocError;
 use std::io::{self, ErrorKind};
 
 /// What Git reads in a folder.
@@ -48,13 +49,11 @@ fn read_at<'t, R: Host>(
     disk: &Disk<'t, R>,
     location: Location<'t>,
 ) -> Result<Here<'t>, HereError<'t>> {
-    if let Some(stop) = location.stop {
-        return Err(stop);
-    }
+    let (folder, refusal) = (location.folder, location.refusal);
     Ok(Here {
-        settings: settings_in(disk, location.folder, location.repository)?,
-        folder: location.folder,
-        refusal: location.refusal,
+        settings: settings_in(disk, folder, location.used()?)?,
+        folder,
+        refusal,
     })
 }
 
@@ -114,7 +113,10 @@ fn opened_if_there<'t, R: Host>(
     if !is_there(disk, name)? {
         return Ok(None);
     }
-    Ok(Some(disk.opened_name(name).unwrap_or(name)))
+    match disk.opened_name(name) {
+        Ok(opened) => Ok(Some(disk.kept(&opened)?)),
+        Err(_) => Err(io::Error::from(AllocError)),
+    }
 }
 
 /// The names by which the system opens those of these files that are there.

@@ -205,7 +205,8 @@ impl<'t, R: Host> Locked<'t, R> {
     /// which it leads, and the lock is beside that. The file has to be a regular one of at most 1 GiB, or not
     /// there. It fails if the lock is held, and if the system does not make it or does not read the file.
     pub fn of(disk: &Disk<'t, R>, name: &[u8]) -> Result<Locked<'t, R>, LockError> {
-        let name = behind_links(disk, disk.opened_name(name)?)?;
+        let name = disk.opened_name(name)?;
+        let name = behind_links(disk, disk.kept(&name)?)?;
         let lock = lock_beside(disk, name)?;
         let (text, mode) = old_of(disk, text_of(name)?)?;
         Ok(Locked {

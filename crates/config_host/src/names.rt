@@ -1,11 +1,11 @@
-//! The names of files and folders: bytes, of which the system opens those that are UTF-8. Those that are made
-//! here are kept with the texts of files.
+//! The names of files and folders: bytes, of which the system opens those that are UTF-8. Those that are found are
+//! kept with the texts of files.
 
 use crate::disk::Disk;
 use crate::environment::Host;
 use bstr::ByteSlice;
 use bumpalo::collections::into_bump_slice;
-use std::alloc::AllocError;
+use std::alloc::{AllocError, Global};
 use std::fs::{self, Metadata};
 use std::io::{self, ErrorKind};
 
@@ -52,7 +52,7 @@ pub(crate) fn parent(folder: &[u8]) -> Option<&[u8]> {
     }
 }
 
-/// These parts, one after the other.
+/// These parts, one after the other, as a name that is kept.
 pub(crate) fn joined<'t, R: Host>(
     disk: &Disk<'t, R>,
     parts: &[&[u8]],
@@ -67,18 +67,29 @@ pub(crate) fn joined<'t, R: Host>(
 }
 
 /// The name of a file in a folder. A name that begins with `/` stays. An empty folder is the current one.
+pub(crate) fn path_inside(
+    alloc: Global,
+    folder: &[u8],
+    name: &[u8],
+) -> Result<Vec<u8>, AllocError> {
+    let mut whole = Vec::new(alloc);
+    if !folder.is_empty() && !name.starts_with(b"/") {
+        whole.extend_from_slice(folder)?;
+        if !folder.ends_with(b"/") {
+            whole.push(b'/')?;
+        }
+    }
+    whole.extend_from_slice(name)?;
+    Ok(whole)
+}
+
+/// The name of a file in a folder, which is kept.
 pub(crate) fn inside<'t, R: Host>(
     disk: &Disk<'t, R>,
     folder: &[u8],
     name: &[u8],
 ) -> Result<&'t [u8], AllocError> {
-    if folder.is_empty() || name.starts_with(b"/") {
-        disk.kept(name)
-    } else if folder.ends_with(b"/") {
-        joined(disk, &[folder, name])
-    } else {
-        below(disk, folder, name)
-    }
+    disk.kept(&path_inside(disk.host.alloc(), folder, name)?)
 }
 
 /// The name of a file below a folder, with a `/` between them whatever the folder is, as Git joins them.
@@ -128,27 +139,27 @@ pub(crate) fn is_file<R: Host>(host: &R, name: &[u8]) -> io::Result<bool> {
 }
 
 /// The name from the root without links, or `None` if the system does not know it.
-pub(crate) fn real_name<'t, R: Host>(
-    disk: &Disk<'t, R>,
-    name: &[u8],
-) -> io::Result<Option<&'t [u8]>> {
+pub(crate) fn real_name<R: Host>(host: &R, name: &[u8]) -> io::Result<Option<Vec<u8>>> {
     let real = answer(match text_of(name) {
-        Ok(name) => fs::canonicalize(disk.host, name),
+        Ok(name) => fs::canonicalize(host, name),
         Err(error) => Err(error),
     })?;
     match real {
-        Some(real) => Ok(Some(disk.kept(real.as_path().as_str().as_bytes())?)),
+        Some(real) => Ok(Some(real.as_path().as_str().as_bytes().to_vec(host.alloc())?)),
         None => Ok(None),
     }
 }
 
-/// The name from the root without links, or the other name if the system does not know it.
+/// The name from the root without links, which is kept, or the other name if the system does not know it.
 pub(crate) fn resolved<'t, R: Host>(
     disk: &Disk<'t, R>,
     name: &[u8],
     other: &'t [u8],
 ) -> io::Result<&'t [u8]> {
-    Ok(real_name(disk, name)?.unwrap_or(other))
+    match real_name(disk.host, name)? {
+        Some(real) => Ok(disk.kept(&real)?),
+        None => Ok(other),
+    }
 }
 
 /// A line without the line ends at its end.

@@ -2,10 +2,10 @@
 //! can change.
 
 use crate::disk::Disk;
-use crate::environment::{Host, kept_variable, variable};
+use crate::environment::{Host, variable};
 use crate::error::HereError;
 use crate::lines::is_on;
-use crate::names::{inside, joined, known_of, known_of_link, real_name};
+use crate::names::{known_of, known_of_link, path_inside, real_name};
 use crate::reading::settings_at;
 use crate::sources::protected_names;
 use bstr::ByteSlice;
@@ -76,82 +76,88 @@ fn has_key<R: Host>(host: &R, setting: &Setting<'_>, key: &[u8]) -> Result<bool,
     Ok(text.as_slice() == key)
 }
 
+/// The text of both.
+fn joined<R: Host>(host: &R, front: &[u8], rest: &[u8]) -> Result<Vec<u8>, AllocError> {
+    let mut whole = front.to_vec(host.alloc())?;
+    whole.extend_from_slice(rest)?;
+    Ok(whole)
+}
+
 /// The path that a value of `safe.directory` spells, or `None` if it begins with a directory that is not
 /// known.
-fn spelled<'t, R: Host>(disk: &Disk<'t, R>, value: &[u8]) -> Result<Option<&'t [u8]>, AllocError> {
+fn spelled<R: Host>(host: &R, value: &[u8]) -> Result<Option<Vec<u8>>, AllocError> {
+    let home = variable(host, "HOME")?;
     let directories = Directories {
-        home: kept_variable(disk, "HOME")?,
+        home: home.as_deref(),
         install_dir: None,
     };
     match expand(value, directories) {
-        Some(parts) => Ok(Some(joined(disk, &[parts.directory, parts.rest])?)),
+        Some(parts) => Ok(Some(joined(host, parts.directory, parts.rest)?)),
         None => Ok(None),
     }
 }
 
 /// Whether the folder is below the one of this name, whose links are resolved.
-fn is_below<R: Host>(disk: &Disk<'_, R>, name: &[u8], folder: &[u8]) -> io::Result<bool> {
+fn is_below<R: Host>(host: &R, name: &[u8], folder: &[u8]) -> io::Result<bool> {
     let above = if name.is_empty() { b"/" } else { name };
-    let Some(real) = real_name(disk, above)? else {
+    let Some(mut real) = real_name(host, above)? else {
         return Ok(false);
     };
-    Ok(match folder.strip_prefix(real) {
-        Some(rest) => real.ends_with(b"/") || rest.starts_with(b"/"),
-        None => false,
-    })
+    if !real.ends_with(b"/") {
+        real.push(b'/')?;
+    }
+    Ok(folder.starts_with(&real))
 }
 
 /// The path from the root that a value of `safe.directory` spells, or that of the folder that is asked about
 /// if it is `.`. Any other value has none.
-fn safe_path<'t, R: Host>(
-    disk: &Disk<'t, R>,
-    asked: &[u8],
-    value: &[u8],
-) -> Result<Option<&'t [u8]>, AllocError> {
-    match spelled(disk, value)? {
-        Some(b".") => Ok(Some(inside(disk, asked, b".")?)),
+fn safe_path<R: Host>(host: &R, asked: &[u8], value: &[u8]) -> io::Result<Option<Vec<u8>>> {
+    match spelled(host, value)? {
+        Some(path) if path.as_slice() == b".".as_slice() => Ok(Some(path_inside(
+            host.alloc(),
+            asked,
+            b".",
+        )?)),
         Some(path) if path.starts_with(b"/") => Ok(Some(path)),
         _ => Ok(None),
     }
 }
 
 /// Whether a path is that of a folder, or is one above it that ends with `/*`.
-fn covers<R: Host>(disk: &Disk<'_, R>, path: &[u8], folder: &[u8]) -> io::Result<bool> {
+fn covers<R: Host>(host: &R, path: &[u8], folder: &[u8]) -> io::Result<bool> {
     if let Some(above) = path.strip_suffix(b"/*") {
-        return is_below(disk, above, folder);
+        return is_below(host, above, folder);
     }
-    Ok(real_name(disk, path)? == Some(folder))
+    match real_name(host, path)? {
+        Some(real) => Ok(real.as_slice() == folder),
+        None => Ok(false),
+    }
 }
 
 /// Whether a value of `safe.directory` names this folder: by its path, by `.` if it is the one that is asked
 /// about, or by a path above it that ends with `/*`.
-fn names_folder<R: Host>(
-    disk: &Disk<'_, R>,
-    asked: &[u8],
-    value: &[u8],
-    folder: &[u8],
-) -> io::Result<bool> {
-    match safe_path(disk, asked, value)? {
-        Some(path) => covers(disk, path, folder),
+fn names_folder<R: Host>(host: &R, asked: &[u8], value: &[u8], folder: &[u8]) -> io::Result<bool> {
+    match safe_path(host, asked, value)? {
+        Some(path) => covers(host, &path, folder),
         None => Ok(false),
     }
 }
 
 /// Whether these settings name this folder in `safe.directory`.
 fn name_as_safe<R: Host>(
-    disk: &Disk<'_, R>,
+    host: &R,
     settings: &Settings<'_>,
     asked: &[u8],
     folder: &[u8],
 ) -> io::Result<bool> {
     let mut is_safe = false;
     for setting in &settings.entries {
-        if has_key(disk.host, setting, b"safe.directory")? {
+        if has_key(host, setting, b"safe.directory")? {
             let value = setting.value.as_deref().unwrap_or_default();
             is_safe = match str::from_utf8(value) {
                 Ok("") => false,
                 Ok("*") => true,
-                _ => is_safe || names_folder(disk, asked, value, folder)?,
+                _ => is_safe || names_folder(host, asked, value, folder)?,
             };
         }
     }
@@ -165,7 +171,7 @@ pub fn is_safe<'t, R: Host>(
     asked: &[u8],
     folder: &[u8],
 ) -> Result<bool, HereError<'t>> {
-    Ok(name_as_safe(disk, &protected(disk)?, asked, folder)?)
+    Ok(name_as_safe(disk.host, &protected(disk)?, asked, folder)?)
 }
 
 /// Whether this is the name of a git directory of a work tree, or of something below one.

@@ -5,12 +5,15 @@
 use crate::disk::Disk;
 use crate::environment::Host;
 use crate::lines::{bytes_of, line_in};
-use crate::names::inside;
+use crate::names::path_inside;
 use std::alloc::{AllocError, Global};
 use std::io;
 
-/// The number of bytes that are read of a table, which its first block cannot exceed.
-const LONGEST: u64 = 1 << 24;
+/// The number of bytes in which the first block of most tables is.
+const USUAL: u64 = 1 << 16;
+
+/// The number of bytes that are read of all tables, so that a list which names a long one often ends.
+const MOST: u64 = 1 << 25;
 
 /// The number at the start of these bytes, which ends with a byte whose highest bit is not set, and what follows.
 fn number(bytes: &[u8]) -> Option<(usize, &[u8])> {
@@ -71,20 +74,25 @@ fn sizes_of(table: &[u8]) -> Option<(usize, usize)> {
     }
 }
 
-/// The records of the first block of a table whose header has this many bytes. Places of names follow them, and
-/// how many these are.
-fn records_of(table: &[u8], header: usize) -> Option<&[u8]> {
+/// The number of bytes of the first block of a table, from the start of the table. `None` if it has no references.
+fn block_length(table: &[u8]) -> Option<usize> {
+    let (header, _) = sizes_of(table)?;
     let (_, [b'r', high, middle, low, ..]) = table.split_at_checked(header)? else {
         return None;
     };
-    let length = usize::from(*high) * 65536 + usize::from(*middle) * 256 + usize::from(*low);
-    let (block, _) = table.split_at_checked(length)?;
-    let (block, [high, low]) = block.split_at_checked(length.checked_sub(2)?)? else {
+    Some(usize::from(*high) * 65536 + usize::from(*middle) * 256 + usize::from(*low))
+}
+
+/// The records of the first block of a table whose header has this many bytes. Places of names follow them, and
+/// how many these are.
+fn records_of(table: &[u8], header: usize) -> Option<&[u8]> {
+    let (block, _) = table.split_at_checked(block_length(table)?)?;
+    let (block, [high, low]) = block.split_at_checked(block.len().checked_sub(2)?)? else {
         return None;
     };
     let places = 3 * (usize::from(*high) * 256 + usize::from(*low));
     let (block, _) = block.split_at_checked(block.len().checked_sub(places)?)?;
-    let (_, records) = block.split_at_checked(header + 4)?;
+    let (_, records) = block.split_at_checked(header.checked_add(4)?)?;
     Some(records)
 }
 
@@ -114,21 +122,34 @@ fn branch_of<'t>(head: Record<'t>) -> Option<&'t [u8]> {
     head.target?.strip_prefix(b"refs/heads/")
 }
 
-/// The branch that HEAD names in the table of this name, or the one before if the table has no HEAD.
-fn branch_after<'t, R: Host>(
+/// The first block of a table, or less if no more than `left` bytes may be read. `None` if there is no such file.
+fn first_block<R: Host>(host: &R, file: &[u8], left: u64) -> io::Result<Option<Vec<u8>>> {
+    let Some(table) = bytes_of(host, file, left.min(USUAL))? else {
+        return Ok(None);
+    };
+    match block_length(&table) {
+        Some(length) if table.len() < length => bytes_of(host, file, left.min(length as u64)),
+        _ => Ok(Some(table)),
+    }
+}
+
+/// The branch that HEAD names in a table, or `Some(None)` if it names no branch. `None` if the table has no HEAD.
+/// Takes what is read from what may be read.
+fn branch_in_table<'t, R: Host>(
     disk: &Disk<'t, R>,
     file: &[u8],
-    before: Option<&'t [u8]>,
-) -> io::Result<Option<&'t [u8]>> {
-    let Some(table) = bytes_of(disk.host, file, LONGEST)? else {
-        return Ok(before);
+    left: &mut u64,
+) -> io::Result<Option<Option<&'t [u8]>>> {
+    let Some(table) = first_block(disk.host, file, *left)? else {
+        return Ok(None);
     };
-    match head_of(disk.host.alloc(), &table)? {
-        Some(head) => match branch_of(head) {
-            Some(branch) => Ok(Some(disk.kept(branch)?)),
-            None => Ok(None),
-        },
-        None => Ok(before),
+    *left = left.saturating_sub(table.len() as u64);
+    let Some(head) = head_of(disk.host.alloc(), &table)? else {
+        return Ok(None);
+    };
+    match branch_of(head) {
+        Some(branch) => Ok(Some(Some(disk.kept(branch)?))),
+        None => Ok(Some(None)),
     }
 }
 
@@ -138,13 +159,17 @@ pub(crate) fn branch_in<'t, R: Host>(
     disk: &Disk<'t, R>,
     git_dir: &[u8],
 ) -> io::Result<Option<&'t [u8]>> {
-    let folder = inside(disk, git_dir, b"reftable")?;
-    let Some(names) = line_in(disk, folder, b"tables.list")? else {
+    let alloc = disk.host.alloc();
+    let folder = path_inside(alloc, git_dir, b"reftable")?;
+    let Some(names) = line_in(disk.host, &folder, b"tables.list")? else {
         return Ok(None);
     };
-    let mut branch = None;
-    for name in names.split(|byte| *byte == b'\n') {
-        branch = branch_after(disk, inside(disk, folder, name)?, branch)?;
+    let mut left = MOST;
+    for name in names.rsplit(|byte| *byte == b'\n') {
+        let found = branch_in_table(disk, &path_inside(alloc, &folder, name)?, &mut left)?;
+        if let Some(branch) = found {
+            return Ok(branch);
+        }
     }
-    Ok(branch)
+    Ok(None)
 }

@@ -1,14 +1,13 @@
 //! Finds the repository of a folder, and the folder in which Git then works.
 
 use crate::disk::{Disk, ReadError};
-use crate::environment::{Host, kept_variable};
+use crate::environment::{Host, kept_variable, variable};
 use crate::error::{HereError, Refusal};
 use crate::format::{Format, format_in, take_own_file};
 use crate::head::branch_of;
 use crate::names::{inside, resolved};
 use crate::search::{Folder, Form, Found, GitDir, opened_folder, search, shared_folder};
 use crate::surroundings::FoundRepository;
-use std::alloc::AllocError;
 use std::io::{self, ErrorKind};
 
 /// Where Git works once it has looked for the repository of a folder.
@@ -169,7 +168,7 @@ fn shown_shared<'t, R: Host>(
     named: &'t [u8],
 ) -> io::Result<&'t [u8]> {
     match shared {
-        Some(folder) if kept_variable(disk, "GIT_COMMON_DIR")?.is_none() => {
+        Some(folder) if variable(disk.host, "GIT_COMMON_DIR")?.is_none() => {
             resolved(disk, folder, folder)
         }
         shared => Ok(shared.unwrap_or(named)),

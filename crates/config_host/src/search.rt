@@ -5,7 +5,9 @@ use crate::environment::{Host, current_folder, kept_variable, text_variable};
 use crate::error::{HereError, Refusal};
 use crate::head::has_head;
 use crate::lines::{is_on, line_in, line_of};
-use crate::names::{folder_of, inside, is_folder, joined, known_of, parent, real_name, resolved};
+use crate::names::{
+    folder_of, inside, is_folder, joined, known_of, parent, path_inside, real_name, resolved,
+};
 use crate::owner::{are_owned, is_safe, may_be_bare};
 use bstr::ByteSlice;
 use std::alloc::AllocError;
@@ -63,35 +65,35 @@ pub(crate) fn shared_folder<'t, R: Host>(
     if let Some(folder) = text_variable(disk, "GIT_COMMON_DIR")? {
         return Ok(Some(folder));
     }
-    match line_in(disk, git_dir, b"commondir")? {
-        Some(folder) => Ok(Some(inside(disk, git_dir, folder)?)),
+    match line_in(disk.host, git_dir, b"commondir")? {
+        Some(folder) => Ok(Some(inside(disk, git_dir, &folder)?)),
         None => Ok(None),
     }
 }
 
 /// Whether there is a folder of this name in a folder.
-fn has_folder<R: Host>(disk: &Disk<'_, R>, folder: &[u8], name: &[u8]) -> io::Result<bool> {
-    is_folder(disk.host, inside(disk, folder, name)?)
+fn has_folder<R: Host>(host: &R, folder: &[u8], name: &[u8]) -> io::Result<bool> {
+    is_folder(host, &path_inside(host.alloc(), folder, name)?)
 }
 
 /// Whether a common folder has objects and refs.
-fn has_folders<R: Host>(disk: &Disk<'_, R>, common: &[u8]) -> io::Result<bool> {
-    Ok(has_folder(disk, common, b"objects")? && has_folder(disk, common, b"refs")?)
+fn has_folders<R: Host>(host: &R, common: &[u8]) -> io::Result<bool> {
+    Ok(has_folder(host, common, b"objects")? && has_folder(host, common, b"refs")?)
 }
 
 /// Whether this is a git directory: its HEAD is Git's, and its common folder has objects and refs.
 fn is_git_dir<'t, R: Host>(disk: &Disk<'t, R>, name: &'t [u8]) -> Result<bool, HereError<'t>> {
-    if str::from_utf8(name).is_err() || !has_head(disk, name)? {
+    if str::from_utf8(name).is_err() || !has_head(disk.host, name)? {
         return Ok(false);
     }
     let common = shared_folder(disk, name)?.unwrap_or(name);
-    Ok(has_folders(disk, common)?)
+    Ok(has_folders(disk.host, common)?)
 }
 
 /// The git directory that the file of this name links to by a line `gitdir: ..`, or `None` if it links to
 /// none.
 fn linked<'t, R: Host>(disk: &Disk<'t, R>, name: &[u8]) -> io::Result<Option<&'t [u8]>> {
-    let Some(line) = line_of(disk, name)? else {
+    let Some(line) = line_of(disk.host, name)? else {
         return Ok(None);
     };
     let Some(target) = line.strip_prefix(b"gitdir: ") else {
@@ -113,12 +115,12 @@ fn if_safe<'t, R: Host>(
     folder: Folder<'t>,
     git_dir: GitDir<'t>,
 ) -> Result<Found<'t>, HereError<'t>> {
-    let Some(real) = real_name(disk, opened_folder(folder.name))? else {
+    let Some(real) = real_name(disk.host, opened_folder(folder.name))? else {
         return Ok(Found::Refused(Refusal::Owner(folder.path)));
     };
-    match is_safe(disk, asked.name, real) {
+    match is_safe(disk, asked.name, &real) {
         Ok(true) => Ok(Found::GitDir(folder, git_dir)),
-        Ok(false) => Ok(Found::Refused(Refusal::Owner(real))),
+        Ok(false) => Ok(Found::Refused(Refusal::Owner(disk.kept(&real)?))),
         Err(HereError::Host(error)) => Err(HereError::Host(error)),
         Err(error) => Ok(Found::Stops(error)),
     }
@@ -238,12 +240,15 @@ fn is_path_of<R: Host>(host: &R, name: &[u8], folder: &[u8]) -> io::Result<bool>
 /// The path of a folder without links, or `None` if there is no such folder.
 fn real_folder<'t, R: Host>(disk: &Disk<'t, R>, name: &[u8]) -> io::Result<Option<&'t [u8]>> {
     if name.is_empty() {
-        return Ok(Some(current_folder(disk)?));
+        return Ok(Some(disk.kept(&current_folder(disk.host)?)?));
     }
     if !is_folder(disk.host, name)? {
         return Ok(None);
     }
-    real_name(disk, name)
+    match real_name(disk.host, name)? {
+        Some(real) => Ok(Some(disk.kept(&real)?)),
+        None => Ok(None),
+    }
 }
 
 /// The path of a folder: the text of PWD if that is the same folder, and otherwise its path without links.
@@ -265,16 +270,18 @@ fn ceilings_in<'t, R: Host>(disk: &Disk<'t, R>, folders: &'t [u8]) -> io::Result
     Ok(ceilings)
 }
 
-/// A folder, without links if it is to be resolved.
+/// A folder without links if it is to be resolved, and otherwise without one slash at its end.
 fn ceiling<'t, R: Host>(
     disk: &Disk<'t, R>,
     folder: &'t [u8],
     is_resolved: bool,
 ) -> io::Result<&'t [u8]> {
     if is_resolved {
-        resolved(disk, folder, folder)
-    } else {
-        Ok(folder)
+        return resolved(disk, folder, folder);
+    }
+    match folder.strip_suffix(b"/") {
+        Some(trimmed) if !trimmed.is_empty() => Ok(trimmed),
+        _ => Ok(folder),
     }
 }
 

@@ -189,7 +189,7 @@ pub fn names<'t, R: Host>(
 /// Whether the system has a file of this name, or opens no file of such a name.
 pub fn is_there<R: Host>(disk: &Disk<'_, R>, name: &[u8]) -> io::Result<bool> {
     match disk.opened_name(name) {
-        Ok(opened) => Ok(str::from_utf8(opened).is_err() || exists(disk.host, opened)?),
+        Ok(opened) => Ok(str::from_utf8(&opened).is_err() || exists(disk.host, &opened)?),
         Err(_) => Err(io::Error::from(AllocError)),
     }
 }

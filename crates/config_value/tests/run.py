@@ -265,7 +265,8 @@ def repositories(tests):
     outer = tests.path(b"outer")
     for ceilings, holds in ((outer, False), (outer + b"/a", False), (b"/x:" + outer + b"/a", False),
                             (tests.path(b"alias") + b"/a", False), (b":" + tests.path(b"alias") + b"/a", True),
-                            (outer + b"/a/b", True), (outer + b"/a/", False), (b"outer/a", True)):
+                            (outer + b"/a/b", True), (outer + b"/a/", False), (b":" + outer + b"/a/", False),
+                            (b":" + outer + b"/a//", True), (b"outer/a", True)):
         more = {b"GIT_CEILING_DIRECTORIES": ceilings}
         tests.compare(f"a ceiling {ceilings}", at, folder=b"outer/a/b", more=more, holds=holds)
 
