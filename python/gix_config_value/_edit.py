@@ -72,9 +72,9 @@ class EditedFile:
 def _opened_lock(name):
     """Makes the lock of this name, and opens it."""
     try:
-        return open(name, "xb")
-    except FileExistsError:
-        raise FileExistsError(errno.EEXIST, "the lock is held", os.fsdecode(name)) from None
+        return open(os.fsdecode(name), "xb")
+    except FileExistsError as error:
+        raise FileExistsError(errno.EEXIST, "the lock is held", error.filename) from None
 
 
 def _read(shown, name):

@@ -257,7 +257,7 @@ typedef struct gcv_known {
  * subsection as it is. A key without `=` has a null value, not an empty one. */
 typedef struct gcv_setting {
     const char *key; const char *value;
-    const char *file; size_t line; /* the name of its file, and the line of its entry, from 1 */
+    const char *file; size_t line; /* the name of its file, and the line on which its entry ends, from 1 */
     size_t source; /* the index in `names` of gcv_read_files of its file, or of the one that includes it */
 } gcv_setting;
 
@@ -318,7 +318,7 @@ typedef GCV_ENUM(gcv_role) {
 } gcv_role;
 typedef struct gcv_step {
     const char *file; size_t file_length; /* the name that gcv_enter was given for the file */
-    size_t line; /* the line of the entry, from 1 */
+    size_t line; /* the line on which the entry ends, from 1 */
     const char *key; const char *value; /* as in a gcv_setting */
     const char *included; gcv_status include; /* the name of the file that it includes, or null and why not */
     gcv_role role; size_t size; /* how many bytes of the buffer the three texts take */
