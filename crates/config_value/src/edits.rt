@@ -458,7 +458,9 @@ fn tell_refusal(
         EditError::File(error) => tell(rt, format_args!("{}:{error}", BStr::new(name))),
         EditError::Several => tell(
             rt,
-            format_args!("config_value: several entries have the key: use --all"),
+            format_args!(
+                "config_value: several entries have the key: choose one by --value, or all by --all"
+            ),
         ),
         EditError::Absent => match change {
             Change::Rename(section, _) | Change::Remove(section) => {

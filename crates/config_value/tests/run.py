@@ -446,7 +446,7 @@ def changes(tests):
     change(["set", "-f", "edit", "a.k", "w"], 3, b"[a]\n\tk = v\n[b", b"edit:4: bad config line\n")
     tests.write(b"edit", b"[a]\n\tk = 1\n\tk = 2\n")
     change(["set", "-f", "edit", "a.k", "w"], 5, b"[a]\n\tk = 1\n\tk = 2\n",
-           b"config_value: several entries have the key: use --all\n")
+           b"config_value: several entries have the key: choose one by --value, or all by --all\n")
     change(["set", "-f", "edit", "--type=int", "--append", "a.n", "10k"], 0, b"[a]\n\tk = 1\n\tk = 2\n\tn = 10240\n")
     change(["set", "-f", "edit", "--type=int", "a.n", "10kk"], 128, b"[a]\n\tk = 1\n\tk = 2\n\tn = 10240\n",
            b"config_value: 10kk: it is none of its type\n")
