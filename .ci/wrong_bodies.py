@@ -70,15 +70,20 @@ class Crate:
         found = [it for text in files.values() for it in FUNCTION.finditer(text)]
         kept = {function_of(place).rpartition("::")[2] for edit in edits for place, _ in edit.expected}
         kept |= {it[2] for it in found if any(old in it[0] for edit in edits for _, old, _ in edit.pairs)}
+        gone = set()
 
         def without(it):
-            # the body follows a brace alone on its line if there are clauses, and otherwise the head
-            head = re.match(rf"(?:.*\n)*?{it[1]}\{{\n", it[0]) or re.match(r"(?:.*\n)*?.*\{\n", it[0])
-            return it[0] if it[2] in kept else f"{head[0]}{it[1]}    unreachable!()\n{it[1]}}}"
+            # the body follows a brace alone on its line if there are clauses, and otherwise the head; a function of a
+            # trait may have none, and then another follows
+            head = re.match(rf".*\n(?:(?!.*\bfn |\}}).*\n)*?{it[1]}\{{\n", it[0]) or re.match(
+                r"(?:(?! *(?:ensures|requires)).*[^;\n]\n)*?(?! *(?:ensures|requires)).*\{\n", it[0])
+            if it[2] in kept or not head:
+                return it[0]
+            gone.add(it[2])
+            return f"{head[0]}{it[1]}    unreachable!()\n{it[1]}}}"
 
         for file, text in files.items():
             file.write_text(FUNCTION.sub(without, text), encoding="utf-8")
-        gone = {it[2] for it in found} - kept
         for file in self.room.glob("proofs/**/*.antt"):
             if file.name in ("Answers.antt", "Invariants.antt") and file.parent.name in gone:
                 file.unlink()
