@@ -183,11 +183,11 @@ def _found_in(asked, folder):
 
 
 def _ceilings():
-    """The folders of GIT_CEILING_DIRECTORIES, without links. Those after an empty one are taken as they are."""
+    """The folders of GIT_CEILING_DIRECTORIES, without links. Those after an empty one only lose a slash at the end."""
     folders, is_resolved = [], True
     for folder in (variable("GIT_CEILING_DIRECTORIES") or "").split(":"):
         is_resolved = is_resolved and folder != ""
-        folders.append((_real(folder) or folder) if is_resolved else folder)
+        folders.append((_real(folder) or folder) if is_resolved else folder.removesuffix("/") or folder)
     return folders
 
 

@@ -272,8 +272,9 @@ class AsGit(Files):
         for name, value in (("GIT_CONFIG_GLOBAL", "own"), ("GIT_CONFIG_SYSTEM", "own"), ("XDG_CONFIG_HOME", "x")):
             with self.subTest(name, value=value), mock.patch.dict(os.environ, {name: value}):
                 self.repository("deep", same_names=False, top="r")
-        os.environ["GIT_CEILING_DIRECTORIES"] = f"{self.root}/r"
-        self.assertEqual(len(self.repository("deep/er", same_names=False)), 2)
+        for ceilings in (f"{self.root}/r", f":{self.root}/r/"):
+            os.environ["GIT_CEILING_DIRECTORIES"] = ceilings
+            self.assertEqual(len(self.repository("deep/er", same_names=False)), 2, ceilings)
 
     def test_edits(self):
         for text, edits in AS_GIT:
