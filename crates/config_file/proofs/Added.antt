@@ -1,12 +1,11 @@
 -- Texts with one entry more.
 use Rattle.std.proofs.Common.{◌≡◌, ℕ, ◌<◌, Bool, true, false, List, [], ◌∷◌, ◌++◌, Option, Some}
 use Rattle.std.proofs.Common.{None, IsTrue, IfSome, MatchOption, ◌↔◌, length, map, refl, sym, ap, ◌∙◌, subst}
-use Rattle.std.proofs.Common.{append_assoc, append-nil, inl, inr, ◌⊎◌, true≢false}
+use Rattle.std.proofs.Common.{append_assoc, append-nil, inl, inr, ◌⊎◌, ◌&&◌, true≢false}
 use Rattle.std.specs.List.{list_all}
 use Rattle.std.specs.Char.{to_ascii_lowercase, is_ascii_alphabetic}
 use Rattle.std.proofs.lemmas.List.{append_cancel_right}
 use Rattle.std.proofs.lemmas.Bool.{and_parts}
-use Rattle.std.proofs.lemmas.Bool.Decides.{nat_tests}
 use Rattle.config_file.specs.declared.edit.setting.Insertion.{Insertion}
 use Rattle.config_file.specs.declared.edit.setting.Places.{Places}
 use Rattle.config_file.specs.declared.edit.write.End.{End}
@@ -16,7 +15,7 @@ use Rattle.config_file.specs.declared.edit.piece.Held.TheVariants as held
 use Rattle.config_file.specs.declared.edit.piece.Piece.{Piece}
 use Rattle.config_file.specs.declared.section.Section as code
 use Rattle.config_file.specs.Views.{section_of}
-use Rattle.config_file.specs.Bytes.{is_key_byte}
+use Rattle.config_file.specs.Bytes.{is_key_byte, is_blank, is_comment_sign}
 use Rattle.config_file.specs.Header.{Section}
 use Rattle.config_file.specs.Value as spells
 use Rattle.config_file.specs.Value.{SpellsValue, closed, line_feeds}
@@ -28,14 +27,15 @@ use Rattle.config_file.specs.Spelling.{SpellsOptional, SpellsSection}
 use Rattle.config_file.specs.Key.{Key, is_name, stem, dotted}
 use Rattle.config_file.specs.Edit as spec
 use Rattle.config_file.specs.Edit.{Content, IsIn, WithoutIn, NoneIn, SameEntry, IsLineEnd, AddsContent, PutsLine}
-use Rattle.config_file.specs.Edit.{entry_line, HasValue}
-use Rattle.config_file.specs.Reading.Edits.{Holds, Ends, Passed, anywhere, IsRead, IsMade, IsPiece}
+use Rattle.config_file.specs.Edit.{entry_line, HasValue, NoCommentNext, IsApart}
+use Rattle.config_file.specs.Reading.Edits.{Holds, Ends, Passed, anywhere, at_end, IsRead, IsMade, IsPiece}
 use Rattle.config_file.specs.Reading.Edits.{IsHeaderAt, contents_in, section_after, IsPast, IsEndOf, Closes}
-use Rattle.config_file.specs.Reading.Edits.{line_ends, is_item, IsPlace, IsPlaceSoFar, Placing, ArePlaces}
+use Rattle.config_file.specs.Reading.Edits.{line_ends, is_item, IsPlace, IsPlaceSoFar, Placing, ArePlaces, IsPast, ComesBehind}
 use Rattle.config_file.specs.Reading.Edits.{IsAdded, new_line}
 use Rattle.config_file.specs.Edit.{AreBlank, IsEntry, IsTail, absent}
 use Rattle.config_file.specs.Reading.Spellings.{is_section, is_spellable, spelled_section, git_spelled}
-use Rattle.config_file.proofs.Pieces.{header_holds, entry_holds, made_passed}
+use Rattle.config_file.proofs.Pieces.{header_holds, entry_holds, made_passed, first_of, first_blank, other_blanks, blank_no_sign}
+use Rattle.config_file.proofs.LineEnds.{not_none}
 use Rattle.config_file.proofs.SpelledHeaders.{header_spelled, letter_is_key_byte}
 use Rattle.config_file.proofs.Spellings.{git_spelling}
 use Rattle.config_file.proofs.Edits.{without_in_both, holds_nothing, holds_join, holds_end, passed_holds}
@@ -55,7 +55,7 @@ none_in_piece key held.Nothing section either = spec.none
 none_in_piece key held.Comment section either = spec.none
 
 -- the place of a new entry
-pub placing_begins : (key : Key) (text : List ℕ) → Placing key text text false None end.Line
+pub placing_begins : (key : Key) (text : List ℕ) → Placing key text text false false None end.Line
 placing_begins key text =
     record {
       front = [];
@@ -83,14 +83,84 @@ closes_more {rest = rest} {front = front} {contents = contents} {section = secti
       both_same contents contents (contents_in piece.held section) now (same_entries contents) same,
     )
 
-pub placing_here : {key : Key} {text rest : List ℕ} {inside : Option Insertion} {e f : End} (was is_inside : Bool)
-    (piece : Piece)
-    → (p : Placing key text rest was inside e) → IsPiece rest piece
+-- whether a line can come behind a piece
+nothing_next : (rest : List ℕ) → rest ≡ [] → NoCommentNext rest
+nothing_next rest none = λ blanks more b e all. absurd (not_none blanks more b (sym e ∙ none))
+
+tail_apart : {tail rest : List ℕ} {is_line : Bool} (lead : List ℕ) → IsTail tail rest is_line → IsApart (lead ++ tail) rest
+tail_apart {rest = rest} lead t = elim t.ends [
+  | inl line ↦ inl (
+    lead ++ (t.blanks ++ t.comment),
+    ap (λ x. lead ++ x) (line.1 ∙ sym (append_assoc t.blanks t.comment (10 ∷ [])))
+        ∙ sym (append_assoc lead (t.blanks ++ t.comment) (10 ∷ [])),
+  )
+  | inr end ↦ inr (nothing_next rest end.1)
+]
+
+apart_with : {bytes rest tail : List ℕ} {is_line : Bool} (front lead : List ℕ) → bytes ≡ lead ++ tail → IsTail tail rest is_line
+    → IsApart (front ++ bytes) rest
+apart_with {rest = rest} {tail = tail} front lead joined t =
+    subst (λ f. IsApart f rest) (append_assoc front lead tail ∙ ap (λ b. front ++ b) (sym joined)) (tail_apart (front ++ lead) t)
+
+piece_apart : (h : Held) (blanks bytes rest front : List ℕ) (is_line : Bool) → IsMade h blanks bytes rest is_line
+    → IsApart (front ++ bytes) rest ⊎ ((new : code.Section) × (h ≡ held.Header new))
+piece_apart (held.Entry parts) blanks bytes rest front is_line made =
+    inl (apart_with front (blanks ++ made.front) (made.joined ∙ sym (append_assoc blanks made.front made.tail)) made.is_tail)
+piece_apart (held.Header new) blanks bytes rest front is_line made = inr (new, refl)
+piece_apart held.Nothing blanks bytes rest front is_line (tail, joined, t, none) =
+    inl (apart_with front blanks joined t)
+piece_apart held.Comment blanks bytes rest front is_line (tail, joined, t) =
+    inl (apart_with front blanks joined t)
+
+either_way : (b : Bool) → (b ≡ true) ⊎ (b ≡ false)
+either_way true = inl refl
+either_way false = inr refl
+
+no_sign : (b : ℕ) → (is_comment_sign b ≡ true → ⊥) → is_comment_sign b ≡ false
+no_sign b other = elim (either_way (is_comment_sign b)) [ inl is ↦ absurd (other is) | inr is ↦ is ]
+
+no_comment_at : (before : List ℕ) (c : ℕ) (rest : List ℕ) → AreBlank before → is_blank c ≡ false
+    → is_comment_sign c ≡ false
+    → (blanks more : List ℕ) (b : ℕ) → before ++ c ∷ rest ≡ blanks ++ b ∷ more → AreBlank blanks
+    → is_comment_sign b ≡ false
+no_comment_at [] c rest all no_blank other blanks more b e also =
+    subst (λ x. is_comment_sign x ≡ false) (sym (first_of blanks more (sym e) also no_blank)) other
+no_comment_at (x ∷ before) c rest all no_blank other [] more b e also =
+    let same : x ≡ b = cc in
+    let blank : is_blank b ≡ true = subst (λ y. is_blank y ≡ true) same (first_blank x before all) in
+    no_sign b (blank_no_sign b blank)
+no_comment_at (x ∷ before) c rest all no_blank other (y ∷ blanks) more b e also =
+    let left : before ++ c ∷ rest ≡ blanks ++ b ∷ more = cc in
+    no_comment_at before c rest (other_blanks x before all) no_blank other blanks more b left (other_blanks y blanks also)
+
+pub header_next : {rest : List ℕ} (h : Held) (blanks bytes more : List ℕ) (is_line : Bool) (new : code.Section)
+    → h ≡ held.Header new → AreBlank blanks → IsMade h blanks bytes more is_line → rest ≡ bytes ++ more → NoCommentNext rest
+header_next h blanks bytes more is_line new e all made joined =
+    let at : IsHeaderAt (section_of new) blanks bytes = subst (λ x. IsMade x blanks bytes more is_line) e made in
+    subst (λ t. NoCommentNext t)
+    (sym (joined ∙ ap (λ b. b ++ more) at.joined ∙ append_assoc blanks (91 ∷ at.inner) more))
+    (no_comment_at blanks 91 (at.inner ++ more) all refl refl)
+
+-- where a text is passed, its reading comes
+past_comes : {text rest front : List ℕ} {contents : List Content} {section : Option Section}
+    → IsPast text rest front contents section → ComesBehind text contents rest
+past_comes {text = text} {front = front} {contents = contents} {section = section} past = elim past.passed [
+  | anywhere holds ↦ inl (section, (front, past.joined, holds))
+  | at_end none ends ↦ inr (
+    none,
+    subst (λ t. Ends None t contents) (sym (past.joined ∙ ap (λ r. front ++ r) none ∙ append-nil front)) ends,
+  )
+]
+
+pub placing_here : {key : Key} {text rest : List ℕ} {inside : Option Insertion} {e f : End}
+    (was before is_inside after : Bool) (piece : Piece)
+    → (p : Placing key text rest was before inside e) → IsPiece rest piece
     → length piece.rest.now < length rest → IsEndOf piece f
     → (IsTrue is_inside ↔ IsIn key (section_after piece.held p.section)) → is_inside ≡ true
+    → ((new : code.Section) → piece.held ≡ held.Header new → after ≡ true)
     → (here : Insertion) → here.rest.now ≡ piece.rest.now → here.end ≡ f
-    → Placing key text piece.rest.now is_inside (Some here) f
-placing_here {key = key} {text = text} was is_inside piece p is shorter end_is inside_is inside here rest_is here_is =
+    → Placing key text piece.rest.now is_inside after (Some here) f
+placing_here {key = key} {text = text} was before is_inside after piece p is shorter end_is inside_is inside header here rest_is here_is =
     let past = past_more piece p.past is shorter in
     let closes = closes_more piece p.past is shorter end_is in
     record {
@@ -108,6 +178,11 @@ placing_here {key = key} {text = text} was is_inside piece p is shorter end_is i
         there = section_after piece.held p.section;
         joined = past.joined ∙ ap (λ r. (p.front ++ piece.bytes.now) ++ r) (sym rest_is);
         cut = rest_is;
+        comes = subst (λ r. ComesBehind text (p.contents ++ contents_in piece.held p.section) r) (sym rest_is) (past_comes past);
+        apart = elim (piece_apart piece.held piece.blanks.now piece.bytes.now piece.rest.now p.front piece.is_line is.made) [
+          | inl apart ↦ inl (subst (λ r. IsApart (p.front ++ piece.bytes.now) r) (sym rest_is) apart)
+          | inr (new, held_is) ↦ inr (rest_is, rw (inside, header new held_is) refl)
+        ];
         closes = subst (λ x. Closes None (p.front ++ piece.bytes.now)
             (p.contents ++ contents_in piece.held p.section) (section_after piece.held p.section) x)
             (sym here_is) closes;
@@ -123,10 +198,6 @@ no_item_after (held.Header new) section none = absurd (true≢false none)
 no_item_after (held.Entry parts) section none = absurd (true≢false none)
 no_item_after held.Nothing section none = refl
 no_item_after held.Comment section none = refl
-
-either_way : (b : Bool) → (b ≡ true) ⊎ (b ≡ false)
-either_way true = inl refl
-either_way false = inr refl
 
 outside : {is_inside : Bool} (key : Key) (section : Option Section) → (IsTrue is_inside ↔ IsIn key section)
     → is_inside ≡ false → ¬ (IsIn key section)
@@ -144,20 +215,20 @@ still_outside key section was is_inside h before false_is after (inr no_item) =
     ]
 
 place_kept : (key : Key) (text rest : List ℕ) (contents : List Content) (section : Option Section)
-    (was is_inside : Bool) (inside : Option Insertion) (piece : Piece)
-    → IsPlaceSoFar key text rest contents section was inside → IsPiece rest piece
+    (was before is_inside after : Bool) (inside : Option Insertion) (piece : Piece)
+    → IsPlaceSoFar key text rest contents section was before inside → ((was && before) ≡ true → NoCommentNext rest) → IsPiece rest piece
     → length piece.rest.now < length rest
     → (IsTrue was ↔ IsIn key section) → (IsTrue is_inside ↔ IsIn key (section_after piece.held section))
     → (is_inside ≡ false) ⊎ (is_item piece.held ≡ false)
-    → IsPlaceSoFar key text piece.rest.now (contents ++ contents_in piece.held section) (section_after piece.held section) is_inside inside
-place_kept key text rest contents section was is_inside None piece (nothing, false_is) is shorter before after either =
+    → IsPlaceSoFar key text piece.rest.now (contents ++ contents_in piece.held section) (section_after piece.held section) is_inside after inside
+place_kept key text rest contents section was before_too is_inside after_too None piece (nothing, false_is) apart is shorter before after either =
     let now = still_outside key section was is_inside piece.held before false_is after either in (
       without_in_both contents contents nothing
           (none_in_piece key piece.held section
           (inl (outside key (section_after piece.held section) after now))),
       now,
     )
-place_kept key text rest contents section was is_inside (Some place) piece r is shorter before after either =
+place_kept key text rest contents section was before_too is_inside after_too (Some place) piece r apart is shorter before after either =
     let none = none_in_piece key piece.held section (elim either [
       | inl false_is ↦ inl (outside key (section_after piece.held section) after false_is)
       | inr no_item ↦ inr no_item
@@ -170,6 +241,11 @@ place_kept key text rest contents section was is_inside (Some place) piece r is 
       there = r.there;
       joined = r.joined;
       cut = joined_more place.rest.now r.between rest piece.bytes.now piece.rest.now r.cut is.joined;
+      comes = r.comes;
+      apart = elim r.apart [
+        | inl apart_is ↦ inl apart_is
+        | inr pending ↦ inl (inr (subst (λ t. NoCommentNext t) (sym pending.0) (apart pending.1)))
+      ];
       closes = r.closes;
       in_section = r.in_section;
       passed = passed_join (some_left rest piece.rest.now shorter) r.passed
@@ -179,13 +255,13 @@ place_kept key text rest contents section was is_inside (Some place) piece r is 
           ∙ append_assoc r.before r.after (contents_in piece.held section);
     }
 
-pub placing_kept : {key : Key} {text rest : List ℕ} {inside : Option Insertion} {e f : End} (was is_inside : Bool)
-    (piece : Piece)
-    → (p : Placing key text rest was inside e) → IsPiece rest piece
+pub placing_kept : {key : Key} {text rest : List ℕ} {inside : Option Insertion} {e f : End}
+    (was before is_inside after : Bool) (piece : Piece)
+    → (p : Placing key text rest was before inside e) → ((was && before) ≡ true → NoCommentNext rest) → IsPiece rest piece
     → length piece.rest.now < length rest → IsEndOf piece f
     → (IsTrue is_inside ↔ IsIn key (section_after piece.held p.section))
-    → (is_inside ≡ false) ⊎ (is_item piece.held ≡ false) → Placing key text piece.rest.now is_inside inside f
-placing_kept {key = key} {text = text} {rest = rest} {inside = inside} was is_inside piece p is shorter end_is inside_is either =
+    → (is_inside ≡ false) ⊎ (is_item piece.held ≡ false) → Placing key text piece.rest.now is_inside after inside f
+placing_kept {key = key} {text = text} {rest = rest} {inside = inside} was before is_inside after piece p apart is shorter end_is inside_is either =
     record {
       front = p.front ++ piece.bytes.now;
       contents = p.contents ++ contents_in piece.held p.section;
@@ -193,30 +269,53 @@ placing_kept {key = key} {text = text} {rest = rest} {inside = inside} was is_in
       past = past_more piece p.past is shorter;
       inside_is = inside_is;
       closes = closes_more piece p.past is shorter end_is;
-      place = place_kept key text rest p.contents p.section was is_inside inside piece p.place is shorter p.inside_is inside_is either;
+      place = place_kept key text rest p.contents p.section was before is_inside after inside piece p.place apart is shorter p.inside_is inside_is either;
     }
 
 places_at_end : (key : Key) (text : List ℕ) (contents : List Content) (section : Option Section)
-    (is_inside : Bool) (inside : Option Insertion)
-    → IsPlaceSoFar key text [] contents section is_inside inside
-    → MatchOption inside (NoneIn key contents) (λ place. IsPlace key text [] contents section place)
-places_at_end key text contents section is_inside None (nothing, false_is) = nothing
-places_at_end key text contents section is_inside (Some place) r = r
+    (is_inside after : Bool) (inside : Option Insertion)
+    → IsPlaceSoFar key text [] contents section is_inside after inside
+    → MatchOption inside (NoneIn key contents) (λ place. IsPlace key text [] contents section true place)
+places_at_end key text contents section is_inside after None (nothing, false_is) = nothing
+places_at_end key text contents section is_inside after (Some place) r =
+    record {
+      front = r.front;
+      between = r.between;
+      before = r.before;
+      after = r.after;
+      there = r.there;
+      joined = r.joined;
+      cut = r.cut;
+      comes = r.comes;
+      apart = elim r.apart [ inl apart ↦ inl apart | inr pending ↦ inr (pending.0, refl) ];
+      closes = r.closes;
+      in_section = r.in_section;
+      passed = r.passed;
+      last = r.last;
+      contents_are = r.contents_are;
+    }
 
-pub placing_ends : {key : Key} {text rest : List ℕ} {contents : List Content} {is_inside : Bool}
+place_apart : {key : Key} {text : List ℕ} {contents : List Content} {section : Option Section} {place : Insertion}
+    (r : IsPlace key text [] contents section true place) → IsApart r.front place.rest.now
+place_apart {place = place} r = elim r.apart [
+  | inl apart ↦ apart
+  | inr pending ↦ inr (nothing_next place.rest.now pending.0)
+]
+
+pub placing_ends : {key : Key} {text rest : List ℕ} {contents : List Content} {is_inside after : Bool}
     (places : Places)
-    → Placing key text rest is_inside places.inside places.end → Ends None text contents
+    → Placing key text rest is_inside after places.inside places.end → Ends None text contents
     → (rest ≡ []) ⊎ (¬ (IsRead rest)) → ArePlaces key text contents places
-placing_ends {key = key} {text = text} {contents = contents} {is_inside = is_inside} places p whole left =
+placing_ends {key = key} {text = text} {contents = contents} {is_inside = is_inside} {after = after} places p whole left =
     let (rest_is, text_is, contents_are) = all_passed p.past.joined p.past.passed whole left in
-    let place : IsPlaceSoFar key text [] contents p.section is_inside places.inside =
-    subst (λ r. IsPlaceSoFar key text r contents p.section is_inside places.inside) rest_is
-    (subst (λ c. IsPlaceSoFar key text _ c p.section is_inside places.inside) contents_are p.place) in
+    let place : IsPlaceSoFar key text [] contents p.section is_inside after places.inside =
+    subst (λ r. IsPlaceSoFar key text r contents p.section is_inside after places.inside) rest_is
+    (subst (λ c. IsPlaceSoFar key text _ c p.section is_inside after places.inside) contents_are p.place) in
     record {
       section = p.section;
       closes = subst (λ t. Closes None t contents p.section places.end) (sym text_is)
           (subst (λ c. Closes None p.front c p.section places.end) contents_are p.closes);
-      inside = places_at_end key text contents p.section is_inside places.inside place;
+      inside = places_at_end key text contents p.section is_inside after places.inside place;
     }
 
 -- the line of a new entry
@@ -284,7 +383,7 @@ are_ends end.Backslash feed = inr (inr refl)
 pub added_inside : {key : Key} (value text new feed front : List ℕ) {contents : List Content}
     {section : Option Section} {place : Insertion}
     → is_name key.name ≡ true → is_spellable value ≡ true
-    → IsPlace key text [] contents section place → IsLineEnd feed → text ≡ front ++ place.rest.now
+    → IsPlace key text [] contents section true place → IsLineEnd feed → text ≡ front ++ place.rest.now
     → new ≡ front ++ (line_ends place.end feed ++ (new_line key.name value feed ++ place.rest.now))
     → IsAdded key value text contents new
 added_inside {key = key} value text new feed front {contents = contents} {place = place} is_a_name spellable r is_feed cut new_is =
@@ -330,8 +429,10 @@ added_inside {key = key} value text new feed front {contents = contents} {place 
         new_is = new_is;
         is_feed = is_feed;
         are_ends = are_ends place.end feed;
+        place = r.comes;
+        apart = subst (λ f. IsApart f rest) (sym front_is) (place_apart r);
         is_header = inl refl;
-        spells = git_spelling value spellable;
+        spells = (git_spelling value spellable, refl);
       };
     }
 
@@ -372,10 +473,10 @@ pub added_behind : (key : Key) (value text new feed : List ℕ) (contents : List
     (section : Option Section) (e : End)
     → is_name key.name ≡ true → is_spellable value ≡ true
     → is_section key.section key.subsection ≡ true → NoneIn key contents → Closes None text contents section e
-    → IsLineEnd feed
+    → IsLineEnd feed → Ends None text contents
     → new ≡ text ++ (line_ends e feed ++ ((91 ∷ spelled_section key.section key.subsection) ++ (feed ++ new_line key.name value feed)))
     → IsAdded key value text contents new
-added_behind key value text new feed contents section e is_a_name spellable is_a_section nothing closes is_feed new_is =
+added_behind key value text new feed contents section e is_a_name spellable is_a_section nothing closes is_feed whole_text new_is =
     let ends = line_ends e feed in
     let line = new_line key.name value feed in
     let header = 91 ∷ spelled_section key.section key.subsection in
@@ -426,8 +527,10 @@ added_behind key value text new feed contents section e is_a_name spellable is_a
         new_is = bytes_are;
         is_feed = is_feed;
         are_ends = are_ends e feed;
-        is_header = inr (header, is_header, refl, refl, nothing);
-        spells = git_spelling value spellable;
+        place = inr (refl, whole_text);
+        apart = inr (nothing_next [] refl);
+        is_header = inr (header, (is_header, refl), refl, refl, nothing);
+        spells = (git_spelling value spellable, refl);
       };
     }
 
@@ -452,8 +555,8 @@ inside_after_other key section is_inside h other (there, back) =
     (λ is. subst (IsIn key) (sym same) (there is), λ is. back (subst (IsIn key) same is))
 
 pub place_within : (key : Key) (text rest : List ℕ) (contents : List Content) (section : Option Section)
-    (is_inside : Bool) (inside : Option Insertion)
-    → IsPlaceSoFar key text rest contents section is_inside inside
+    (is_inside after : Bool) (inside : Option Insertion)
+    → IsPlaceSoFar key text rest contents section is_inside after inside
     → IfSome inside (λ place. (front : List ℕ) × (text ≡ front ++ place.rest.now))
-place_within key text rest contents section is_inside None so_far = tt
-place_within key text rest contents section is_inside (Some place) r = (r.front, r.joined)
+place_within key text rest contents section is_inside after None so_far = tt
+place_within key text rest contents section is_inside after (Some place) r = (r.front, r.joined)

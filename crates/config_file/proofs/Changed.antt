@@ -16,7 +16,7 @@ use Rattle.config_file.specs.Value.{Ending, outside, inside, at_backslash, Spell
 use Rattle.config_file.specs.Value.{TakesValue, closed, open_end, EndsValue, line_feeds}
 use Rattle.config_file.specs.File.{TakesKey, TakesEntry, alone, valued}
 use Rattle.config_file.specs.Edit as spec
-use Rattle.config_file.specs.Edit.{HasValue, IsGap, ChangesValue, ChangesOne}
+use Rattle.config_file.specs.Edit.{HasValue, IsGap, PutsValue, value_bytes}
 use Rattle.config_file.specs.Reading.Edits.{IsPutIn, IsSet}
 use Rattle.config_file.specs.Edit.{AreBlank, IsTail, IsEntry, IsComment, absent, present}
 use Rattle.config_file.specs.Bytes.{BeginsWithLetter}
@@ -97,16 +97,10 @@ put_between lead rest core trail value spellable run some joined all last =
     let begins : (b : ℕ) (more : List ℕ) → core ≡ b ∷ more → is_blank b ≡ false =
     λ b more e. subst (StopsRun is_blank) (joined ∙ ap (λ c. c ++ trail) e) run.longest in
     record {
-      changes = record {
-        front = lead;
-        gone = core;
-        put = git_spelled value;
-        back = trail;
-        old_is = run.joined ∙ ap (λ r. lead ++ r) joined;
-        new_is = refl;
-        may = spec.another spelling (no_core trail rest run some joined all, begins, last);
-      };
       spells = spells_between lead trail run.pass all spelling.0;
+      puts = subst (λ r. PutsValue value (Some r) (lead ++ (git_spelled value ++ trail)))
+          (sym (run.joined ∙ ap (λ r. lead ++ r) joined))
+          (spec.in_place lead trail run.pass (no_core trail rest run some joined all, begins, last) all (spelling, refl));
     }
 
 gap_blank : (gap : List ℕ) → IsGap gap → AreBlank gap
@@ -135,18 +129,9 @@ put_in_blanks blanks lead trail gap later value spellable all joined is also =
     ∙ ap (λ x. lead ++ x) (ap (λ x. gap ++ x) (sym (append_assoc (git_spelled value) later trail)) ∙ sym
     (append_assoc gap (git_spelled value ++ later) trail)) in
     record {
-      changes = record {
-        front = lead;
-        gone = [];
-        put = gap ++
-            (git_spelled value ++ later);
-        back =
-            trail;
-        old_is = joined;
-        new_is = refl;
-        may = spec.first spelling is also;
-      };
       spells = subst (λ x. SpellsValue x value outside) same whole;
+      puts = subst (λ r. PutsValue value (Some r) (lead ++ ((gap ++ (git_spelled value ++ later)) ++ trail))) (sym joined)
+          (spec.in_blanks lead trail (subst AreBlank joined all) is (spelling, refl) also);
     }
 
 -- an entry with another value
@@ -211,25 +196,6 @@ front_cut {blanks = blanks} e front tail joined is =
     append_cancel_right front (blanks ++ e.front) e.tail
     (ap (λ t. front ++ t) (sym is) ∙ sym joined ∙ e.joined ∙ sym (append_assoc blanks e.front e.tail))
 
-pub change_in : {raw value put : List ℕ} (front back : List ℕ) → ChangesOne (ChangesValue value) raw put
-    → ChangesOne (ChangesValue value) (front ++ (raw ++ back)) (front ++ (put ++ back))
-change_in front back c =
-    record {
-      front = front ++ c.front;
-      gone = c.gone;
-      put = c.put;
-      back = c.back ++ back;
-      old_is = ap (λ x. front ++ (x ++ back)) c.old_is
-          ∙ ap (λ x. front ++ x) (append_assoc c.front (c.gone ++ c.back) back ∙ ap (λ x. c.front ++ x)
-          (append_assoc c.gone c.back back))
-          ∙ sym (append_assoc front c.front (c.gone ++ (c.back ++ back)));
-      new_is = ap (λ x. front ++ (x ++ back)) c.new_is
-          ∙ ap (λ x. front ++ x) (append_assoc c.front (c.put ++ c.back) back ∙ ap (λ x. c.front ++ x)
-          (append_assoc c.put c.back back))
-          ∙ sym (append_assoc front c.front (c.put ++ (c.back ++ back)));
-      may = c.may;
-    }
-
 pub value_changed : {parts : EntryParts} {piece : Piece} (raw value put start : List ℕ)
     → value_of parts.value ≡ Some raw
     → (e : IsEntry parts.key.now (value_of parts.value) parts.lines parts.rest.now piece.blanks.now piece.bytes.now piece.rest.now piece.is_line)
@@ -246,8 +212,6 @@ value_changed {parts = parts} {piece = piece} raw value put start held e bytes_i
     let start_is : blanks ++ inner ≡ start =
     append_cancel_right (blanks ++ inner) start raw
     (append_cancel_right ((blanks ++ inner) ++ raw) (start ++ raw) e.tail whole) in
-    let old_is : start ++ (raw ++ e.tail) ≡ piece.bytes.now = sym (append_assoc start raw e.tail)
-    ∙ sym bytes_is in
     record {
       raw = put;
       lines = line_feeds put;
@@ -263,10 +227,26 @@ value_changed {parts = parts} {piece = piece} raw value put start held e bytes_i
         joined = ap (λ s. s ++ (put ++ e.tail)) (sym start_is) ∙ append_assoc blanks inner (put ++ e.tail)
             ∙ ap (λ x. blanks ++ x) (sym (append_assoc inner put e.tail));
       };
-      bytes = inr (
+      given = inr (
         other,
-        subst (λ b. ChangesOne (ChangesValue value) b (start ++ (put ++ e.tail))) old_is
-            (change_in start e.tail is_put.changes),
+        record {
+          gone = e.front;
+          now = inner ++ put;
+          tail = e.tail;
+          bytes_are = e.joined;
+          put_is = ap (λ s. s ++ (put ++ e.tail)) (sym start_is) ∙ append_assoc blanks inner (put ++ e.tail)
+              ∙ ap (λ x. blanks ++ x) (sym (append_assoc inner put e.tail));
+          gives = record {
+            lines = parts.lines;
+            front = inner;
+            bytes = put;
+            begins = subst (λ a. BeginsWithLetter (e.front ++ a)) e.left e.begins;
+            takes = subst (λ a. TakesEntry (e.front ++ a) parts.key.now (value_of parts.value) parts.lines a) e.left e.takes;
+            gone_is = c.joined ∙ ap (λ w. inner ++ value_bytes w) (sym held);
+            put_is = refl;
+            puts = subst (λ w. PutsValue value w put) (sym held) is_put.puts;
+          };
+        },
       );
     }
 
@@ -406,16 +386,24 @@ value_given {parts = parts} {piece = piece} {value = value} {gap = gap} held e s
         is_tail = u.is_tail;
         joined = whole;
       };
-      bytes = inr (
+      given = inr (
         subst (λ v. ¬ (HasValue v value)) (sym held) (λ none. none),
         record {
-          front = blanks ++ e.front;
-          gone = [];
-          put = put;
-          back = e.tail;
-          old_is = e.joined ∙ sym (append_assoc blanks e.front e.tail);
-          new_is = refl;
-          may = spec.given spelling is_gap;
+          gone = e.front;
+          now = e.front ++ put;
+          tail = e.tail;
+          bytes_are = e.joined;
+          put_is = append_assoc blanks e.front (put ++ e.tail) ∙ ap (λ x. blanks ++ x) (sym (append_assoc e.front put e.tail));
+          gives = record {
+            lines = parts.lines;
+            front = e.front;
+            bytes = put;
+            begins = subst (λ a. BeginsWithLetter (e.front ++ a)) e.left e.begins;
+            takes = subst (λ a. TakesEntry (e.front ++ a) parts.key.now (value_of parts.value) parts.lines a) e.left e.takes;
+            gone_is = sym (append-nil e.front) ∙ ap (λ w. e.front ++ value_bytes w) (sym held);
+            put_is = refl;
+            puts = subst (λ w. PutsValue value w put) (sym held) (spec.behind_key is_gap (spelling, refl));
+          };
         },
       );
     }
@@ -452,19 +440,5 @@ value_kept {parts = parts} {piece = piece} {value = value} {raw = raw} {ending =
       at = parts.rest.now;
       has_value = has;
       entry = subst (λ v. IsEntry parts.key.now v parts.lines parts.rest.now piece.blanks.now piece.bytes.now piece.rest.now piece.is_line) held e;
-      bytes = inl (subst (λ v. HasValue v value) (sym held) has, refl);
-    }
-
--- a text with the mark of another
-pub change_behind : {May : List ℕ → List ℕ → Type 0} {old new : List ℕ} (mark : List ℕ)
-    → ChangesOne May old new → ChangesOne May (mark ++ old) (mark ++ new)
-change_behind mark c =
-    record {
-      front = mark ++ c.front;
-      gone = c.gone;
-      put = c.put;
-      back = c.back;
-      old_is = ap (λ x. mark ++ x) c.old_is ∙ sym (append_assoc mark c.front (c.gone ++ c.back));
-      new_is = ap (λ x. mark ++ x) c.new_is ∙ sym (append_assoc mark c.front (c.put ++ c.back));
-      may = c.may;
+      given = inl (subst (λ v. HasValue v value) (sym held) has, refl);
     }

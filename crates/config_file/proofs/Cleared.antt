@@ -10,14 +10,15 @@ use Rattle.config_file.specs.declared.section.Section as code
 use Rattle.config_file.specs.Key.{Key}
 use Rattle.config_file.specs.Header.{Section}
 use Rattle.config_file.specs.Edit as spec
-use Rattle.config_file.specs.Edit.{Content, IsIn, WithoutIn, NoneIn, Changes, LosesSection, IsEnd, AreBlank, IsBody, IsTail}
+use Rattle.config_file.specs.Edit.{Content, IsIn, WithoutIn, NoneIn, Becomes, LosesSection, MayRemove, IsEnd, AreBlank, IsBody, IsTail}
 use Rattle.config_file.specs.Reading.Edits.{Holds, Ends, Passed, anywhere, IsRead}
 use Rattle.config_file.specs.Reading.Edits.{IsPiece, IsMade, contents_in, section_after, IsPast, IsHead, IsCleared}
-use Rattle.config_file.specs.Reading.Edits.{IsKept, IsLost, Clearing, ClearsPiece, IsBefore}
+use Rattle.config_file.specs.Reading.Edits.{IsKept, IsLost, Clearing, ClearsPiece, IsBefore, Comes, IsComeTo}
 use Rattle.config_file.specs.Views.{section_of}
 use Rattle.config_file.proofs.Pieces.{made_passed}
 use Rattle.config_file.proofs.Edits.{without_in_both, holds_nothing, holds_join, passed_holds, passed_join}
-use Rattle.config_file.proofs.Edits.{passed_ends, all_passed, some_left, changes_both, all_kept}
+use Rattle.config_file.proofs.Edits.{passed_ends, all_passed, some_left}
+use Rattle.config_file.proofs.Becomes.{becomes_before, becomes_both}
 use Rattle.config_file.proofs.Replaced.{other_after, holds_then, past_begins, past_more, end_holds}
 use Rattle.config_file.proofs.Added.{none_in_piece}
 use Rattle.config_file.proofs.Removed.{header_may_go}
@@ -55,24 +56,28 @@ kept_before some r =
       untouched = r.untouched;
     }
 
-with_end : {key : Key} {gone : List ℕ} (end : List ℕ) → IsEnd end → LosesSection key gone []
-    → LosesSection key gone end
+with_end : {key : Key} {gone rest : List ℕ} (end : List ℕ) → IsEnd end → LosesSection key gone [] rest
+    → LosesSection key gone end rest
 with_end end is loses =
     record { blanks = loses.blanks; header = loses.header; body = loses.body; joined = loses.joined; are_blank = loses.are_blank; is_header = loses.is_header; is_body = loses.is_body; is_end = is }
 
 pub lost_before : {key : Key} {text rest new : List ℕ} {lost : Lost} {is_found : Bool} (end comments : List ℕ)
     → rest ≢ [] → IsLost key text rest new lost → is_found ≡ true → IsEnd end
     → lost.comments.now ≡ comments ++ rest → IsBefore key text rest (new ++ (end ++ comments)) is_found
-lost_before {key = key} {rest = rest} {new = new} end comments some r found is_end cut =
+lost_before {key = key} {text = text} {rest = rest} {new = new} end comments some r found is_end cut =
     let comments_is : comments ≡ r.comments =
     append_cancel_right comments r.comments rest (sym cut ∙ r.cut) in
     let are : Holds r.base comments [] r.base =
     subst (λ c. Holds r.base c [] r.base) (sym comments_is) (passed_holds some (r.are_comments r.base)) in
     let holds =
     holds_join new (end ++ comments) r.new_is (holds_join end comments (end_holds r.base end is_end) are) in
-    let put : Changes (LosesSection key) (r.gone ++ r.comments) (end ++ comments) =
-    subst (λ c. Changes (LosesSection key) (r.gone ++ r.comments) (end ++ c)) (sym comments_is)
-    (changes_both r.gone end (spec.changed spec.none (with_end end is_end r.loses)) (all_kept r.comments)) in
+    let (at, there, place) = r.begins in
+    let may : MayRemove key at there r.gone end (r.comments ++ rest) = with_end end is_end r.loses in
+    let goes : Becomes (Comes text) (MayRemove key) r.gone (r.comments ++ rest) end = spec.changed spec.none place may in
+    let stays : Becomes (Comes text) (MayRemove key) r.comments rest r.comments = spec.kept r.comments spec.none in
+    let put : Becomes (Comes text) (MayRemove key) (r.gone ++ r.comments) rest (end ++ comments) =
+    subst (λ c. Becomes (Comes text) (MayRemove key) (r.gone ++ r.comments) rest (end ++ c)) (sym comments_is)
+    (becomes_both r.gone end goes stays) in
     record {
       front = r.front ++ (r.gone ++ r.comments);
       old = r.old;
@@ -82,7 +87,7 @@ lost_before {key = key} {rest = rest} {new = new} end comments some r found is_e
       past = r.past;
       new_is = subst (λ c. Holds None (new ++ (end ++ comments)) c r.base) (append-nil r.now) holds;
       without = r.without;
-      changes = changes_both r.front new r.changes put;
+      changes = becomes_both r.front new r.changes put;
       untouched = λ none. absurd (true≢false (sym found ∙ none));
     }
 
@@ -99,8 +104,8 @@ header_lost {key = key} {text = text} {rest = rest} {new = new} piece lost r is 
     ∙ append-nil r.old in
     let past = past_more piece r.past is shorter in
     let bytes = piece.bytes.now in
-    let head : IsHead key bytes true =
-    header_may_go key piece.held header piece.blanks.now bytes piece.rest.now piece.is_line e is.blank is.made is_in true in
+    let head : IsHead key bytes piece.rest.now true =
+    header_may_go key piece.held header piece.blanks.now bytes piece.rest.now piece.is_line e is.blank is.made is_in true piece.rest.now in
     record {
       front = r.front;
       gone = bytes;
@@ -119,9 +124,14 @@ header_lost {key = key} {text = text} {rest = rest} {new = new} piece lost r is 
       are_comments = λ any. anywhere (holds_nothing any);
       is_body = spec.none;
       is_end = is_end;
-      loses = record { blanks = head.blanks; header = head.header; body = head.tail; joined = head.joined; are_blank = head.are_blank; is_header = head.is_header; is_body = subst IsBody (sym (head.alone refl)) spec.none; is_end = inl refl };
+      loses = record { blanks = head.blanks; header = head.header; body = head.tail; joined = head.joined; are_blank = head.are_blank; is_header = head.is_header; is_body = subst (λ b. IsBody b piece.rest.now) (sym (head.alone refl)) spec.none; is_end = inl refl };
       without = r.without;
-      changes = r.changes;
+      changes = becomes_before r.changes (is.joined ∙ ap (λ b. b ++ piece.rest.now) (sym (append-nil bytes)));
+      begins = (
+        r.old,
+        r.section,
+        (r.front, r.past.joined ∙ ap (λ x. r.front ++ x) is.joined, passed_holds (some_left rest piece.rest.now shorter) r.past.passed),
+      );
     }
 
 pub header_kept : {key : Key} {text rest new : List ℕ} {is_found : Bool} (piece : Piece)
@@ -153,7 +163,7 @@ header_kept {key = key} {text = text} {rest = rest} {new = new} piece r is short
           (subst (λ c. Passed None (new ++ piece.bytes.now) c
           (section_after piece.held r.base) piece.rest.now) now_is passed);
       without = r.without;
-      changes = spec.kept piece.bytes.now r.changes;
+      changes = spec.kept piece.bytes.now (becomes_before r.changes is.joined);
       untouched = r.untouched;
     }
 
@@ -176,7 +186,7 @@ piece_kept {key = key} {rest = rest} {new = new} piece r is shorter no_header =
           (made_passed piece.held piece.blanks.now piece.is_line is.blank is.made r.section);
       without = without_in_both r.old r.now r.without
           (none_in_piece key piece.held r.section (inl (λ is_in. r.outside (subst (IsIn key) same is_in))));
-      changes = spec.kept piece.bytes.now r.changes;
+      changes = spec.kept piece.bytes.now (becomes_before r.changes is.joined);
       untouched = λ none. ap (λ n. n ++ more) (r.untouched none);
     }
 
@@ -187,27 +197,38 @@ all_lost key (held.Header new) section is = spec.none
 all_lost key held.Nothing section is = spec.none
 all_lost key held.Comment section is = spec.none
 
-body_joined : {first second : List ℕ} → IsBody first → IsBody second → IsBody (first ++ second)
-body_joined {first = first} is spec.none = subst IsBody (sym (append-nil first)) is
-body_joined {first = first} is (spec.entry {body = body} {bytes = bytes} more entry) =
-    subst IsBody (append_assoc first body bytes) (spec.entry (body_joined is more) entry)
-body_joined {first = first} is (spec.line {body = body} {tail = tail} blanks more all t) =
-    subst IsBody (append_assoc first body (blanks ++ tail)) (spec.line blanks (body_joined is more) all t)
+body_before : {body rest other : List ℕ} → IsBody body rest → rest ≡ other → IsBody body other
+body_before {body = body} is same = subst (λ r. IsBody body r) same is
+
+body_joined : {first second rest : List ℕ} → IsBody first (second ++ rest) → IsBody second rest
+    → IsBody (first ++ second) rest
+body_joined {first = first} {rest = rest} is spec.none = subst (λ f. IsBody f rest) (sym (append-nil first)) is
+body_joined {first = first} {rest = rest} is (spec.entry {body = body} {bytes = bytes} more entry) =
+    subst (λ f. IsBody f rest) (append_assoc first body bytes)
+    (spec.entry (body_joined (body_before is (append_assoc body bytes rest)) more) entry)
+body_joined {first = first} {rest = rest} is (spec.line {body = body} {tail = tail} blanks more all t) =
+    subst (λ f. IsBody f rest) (append_assoc first body (blanks ++ tail))
+    (spec.line blanks (body_joined (body_before is (append_assoc body (blanks ++ tail) rest)) more) all t)
 
 line_body : {bytes tail rest : List ℕ} {is_line : Bool} (blanks : List ℕ) → AreBlank blanks
-    → bytes ≡ blanks ++ tail → IsTail tail rest is_line → IsBody bytes
-line_body blanks all joined t = subst IsBody (sym joined) (spec.line blanks spec.none all t)
+    → bytes ≡ blanks ++ tail → IsTail tail rest is_line → IsBody bytes rest
+line_body {rest = rest} blanks all joined t =
+    subst (λ b. IsBody b rest) (sym joined) (spec.line blanks spec.none all t)
 
 piece_body : (h : Held) (blanks rest : List ℕ) (is_line : Bool) {bytes : List ℕ}
     → ((header : code.Section) → h ≡ held.Header header → ⊥) → AreBlank blanks
-    → IsMade h blanks bytes rest is_line → IsBody bytes
+    → IsMade h blanks bytes rest is_line → IsBody bytes rest
 piece_body (held.Header header) blanks rest is_line no_header all made = absurd (no_header header refl)
 piece_body (held.Entry parts) blanks rest is_line no_header all made = spec.entry spec.none made
 piece_body held.Nothing blanks rest is_line no_header all (tail, joined, t, none) = line_body blanks all joined t
 piece_body held.Comment blanks rest is_line no_header all (tail, joined, t) = line_body blanks all joined t
 
-more_gone : {key : Key} {gone : List ℕ} (bytes : List ℕ) → IsBody bytes → LosesSection key gone []
-    → LosesSection key (gone ++ bytes) []
+loses_before : {key : Key} {gone put rest other : List ℕ} → LosesSection key gone put rest → rest ≡ other
+    → LosesSection key gone put other
+loses_before {key = key} {gone = gone} {put = put} loses same = subst (λ r. LosesSection key gone put r) same loses
+
+more_gone : {key : Key} {gone rest : List ℕ} (bytes : List ℕ) → IsBody bytes rest
+    → LosesSection key gone [] (bytes ++ rest) → LosesSection key (gone ++ bytes) [] rest
 more_gone bytes is_body loses =
     record {
       blanks = loses.blanks;
@@ -240,6 +261,13 @@ piece_lost {key = key} {text = text} {rest = rest} {new = new} {lost = lost} pie
     let without : WithoutIn key (r.old ++ more) r.now =
     subst (λ n. WithoutIn key (r.old ++ more) n) (append-nil r.now)
     (without_in_both r.old r.now r.without (all_lost key piece.held r.section r.inside)) in
+    let inner : r.gone ++ (r.comments ++ rest) ≡ (r.gone ++ r.comments) ++ rest = sym (append_assoc r.gone r.comments rest) in
+    let gone_left : (r.gone ++ r.comments) ++ rest ≡ (((r.gone ++ r.comments) ++ bytes) ++ []) ++ piece.rest.now =
+    ap (λ x. (r.gone ++ r.comments) ++ x) is.joined ∙ sym (append_assoc (r.gone ++ r.comments) bytes piece.rest.now)
+    ∙ ap (λ x. x ++ piece.rest.now) (sym (append-nil ((r.gone ++ r.comments) ++ bytes))) in
+    let kept_left : (r.gone ++ r.comments) ++ rest ≡ (r.gone ++ (r.comments ++ bytes)) ++ piece.rest.now =
+    ap (λ x. (r.gone ++ r.comments) ++ x) is.joined ∙ sym (append_assoc (r.gone ++ r.comments) bytes piece.rest.now)
+    ∙ ap (λ x. x ++ piece.rest.now) (append_assoc r.gone r.comments bytes) in
     let inside : IsIn key next = subst (IsIn key) (sym same) r.inside in
     elim either [
       | inl (comments_are, comment) ↦ record {
@@ -263,11 +291,12 @@ piece_lost {key = key} {text = text} {rest = rest} {new = new} {lost = lost} pie
             (subst (λ c. Passed any bytes c any piece.rest.now) none
             (subst (λ s. Passed any bytes (contents_in piece.held any) s piece.rest.now) stays
             (made_passed piece.held piece.blanks.now piece.is_line is.blank is.made any)));
-        is_body = body_joined r.is_body (piece_body piece.held piece.blanks.now piece.rest.now piece.is_line no_header is.blank is.made);
+        is_body = body_joined (body_before r.is_body is.joined) (piece_body piece.held piece.blanks.now piece.rest.now piece.is_line no_header is.blank is.made);
         is_end = is_end;
-        loses = r.loses;
+        loses = loses_before r.loses (ap (λ x. r.comments ++ x) is.joined ∙ sym (append_assoc r.comments bytes piece.rest.now));
         without = without;
-        changes = r.changes;
+        changes = becomes_before r.changes kept_left;
+        begins = subst (λ t. IsComeTo text t) (inner ∙ kept_left ∙ append_assoc r.gone (r.comments ++ bytes) piece.rest.now) r.begins;
       }
       | inr begins ↦ record {
         front = r.front;
@@ -286,9 +315,10 @@ piece_lost {key = key} {text = text} {rest = rest} {new = new} {lost = lost} pie
         are_comments = λ any. anywhere (holds_nothing any);
         is_body = spec.none;
         is_end = is_end;
-        loses = more_gone bytes (piece_body piece.held piece.blanks.now piece.rest.now piece.is_line no_header is.blank is.made) (more_gone r.comments r.is_body r.loses);
+        loses = more_gone bytes (piece_body piece.held piece.blanks.now piece.rest.now piece.is_line no_header is.blank is.made) (loses_before (more_gone r.comments r.is_body r.loses) is.joined);
         without = without;
-        changes = r.changes;
+        changes = becomes_before r.changes gone_left;
+        begins = subst (λ t. IsComeTo text t) (inner ∙ gone_left ∙ append_assoc ((r.gone ++ r.comments) ++ bytes) [] piece.rest.now) r.begins;
       }
     ]
 
@@ -358,25 +388,26 @@ kept_ends {key = key} {text = text} {new = new} r whole left =
       now = r.now;
       ends = passed_ends rest_is r.passed;
       without = subst (λ c. WithoutIn key c r.now) contents_are r.without;
-      changes = subst (λ t. Changes (LosesSection key) t new) (sym text_is) r.changes;
+      changes = subst (λ t. Becomes (Comes text) (MayRemove key) t [] new) (sym text_is) (becomes_before r.changes rest_is);
     }
 
 pub lost_ends : {key : Key} {text rest new : List ℕ} {contents : List Content} {lost : Lost} (end : List ℕ)
     → IsLost key text rest new lost → Ends None text contents → (rest ≡ []) ⊎ (¬ (IsRead rest))
     → IsEnd end → IsCleared key text contents (new ++ end)
-lost_ends {key = key} {text = text} {new = new} end r whole left is_end =
+lost_ends {key = key} {text = text} {rest = rest} {new = new} end r whole left is_end =
     let (rest_is, text_is, contents_are) = all_passed r.past.joined r.past.passed whole left in
     let holds = holds_join new end r.new_is (end_holds r.base end is_end) in
     let none : Passed None (new ++ end) r.now r.base [] =
     anywhere (subst (λ c. Holds None (new ++ end) c r.base) (append-nil r.now) holds) in
-    let put : Changes (LosesSection key) (r.gone ++ r.comments) end =
-    spec.changed spec.none (with_end end is_end (more_gone r.comments r.is_body r.loses)) in
+    let (at, there, place) = subst (λ t. IsComeTo text t) (sym (append_assoc r.gone r.comments rest)) r.begins in
+    let may : MayRemove key at there (r.gone ++ r.comments) end rest = with_end end is_end (more_gone r.comments r.is_body r.loses) in
+    let put : Becomes (Comes text) (MayRemove key) (r.gone ++ r.comments) rest end = spec.changed spec.none place may in
     record {
       now = r.now;
       ends = passed_ends refl none;
       without = subst (λ c. WithoutIn key c r.now) contents_are r.without;
-      changes = subst (λ t. Changes (LosesSection key) t (new ++ end)) (sym text_is)
-          (changes_both r.front new r.changes put);
+      changes = subst (λ t. Becomes (Comes text) (MayRemove key) t [] (new ++ end)) (sym text_is)
+          (becomes_before (becomes_both r.front new r.changes put) rest_is);
     }
 
 pub none_cleared : {key : Key} {text rest new : List ℕ} {contents : List Content} {is_found : Bool}

@@ -19,7 +19,7 @@ use Rattle.config_file.specs.Value.{closed, open_end, EndsValue, line_feeds}
 use Rattle.config_file.specs.File.{TakesKey, TakesEntry, alone, valued}
 use Rattle.config_file.specs.Edit.{Content, HasValue, SameValue, SameEntry, IsLineEnd}
 use Rattle.config_file.specs.Reading.Edits as edit
-use Rattle.config_file.specs.Reading.Edits.{Leads, Holds, IsMade, IsPiece, contents_in, section_after}
+use Rattle.config_file.specs.Reading.Edits.{Holds, IsMade, IsPiece, contents_in, section_after}
 use Rattle.config_file.specs.Reading.Edits.{IsOpenHeld, IsEndOf, line_ends, Closes}
 use Rattle.config_file.specs.Edit.{AreBlank, IsComment, absent, present, IsTail, IsEntry}
 use Rattle.config_file.specs.Bytes.{BeginsWithLetter}

@@ -1,7 +1,7 @@
 -- Texts in which entries have other keys and values.
 use Rattle.std.proofs.Common.{◌≡◌, ◌≢◌, ℕ, ◌+◌, ◌<◌, ◌≤◌, Bool, true, List, [], ◌∷◌, ◌++◌, Option, Some, None}
 use Rattle.std.proofs.Common.{length, drop, refl, sym, ap, ◌∙◌, subst, append_assoc, append-nil, ◌⊎◌, arith}
-use Rattle.std.proofs.Common.{option_copied, MatchOption}
+use Rattle.std.proofs.Common.{option_copied, MatchOption, inl, inr}
 use Rattle.std.proofs.lemmas.List.{append_cancel_left, append_cancel_right, length-append, length-drop}
 use Rattle.config_file.specs.declared.edit.Change.{Change}
 use Rattle.config_file.specs.declared.edit.piece.Held.{Held}
@@ -14,15 +14,17 @@ use Rattle.config_file.specs.File.{TakesKey, TakesEntry, alone, valued}
 use Rattle.config_file.specs.Value.{TakesValue, closed, open_end}
 use Rattle.config_file.specs.Key.{is_name}
 use Rattle.config_file.specs.Edit as spec
-use Rattle.config_file.specs.Edit.{Content, Changes, ChangesEach, MayChange, AreInOrder, IsChanged, IsEntry, Has}
+use Rattle.config_file.specs.Edit.{Content, Becomes, ChangesEach, ChangesValueTo, MayChange, AreInOrder, IsChanged, IsEntry}
+use Rattle.config_file.specs.Edit.{Has, HasValue, PutsValue, name_after, value_bytes}
 use Rattle.config_file.specs.Reading.Edits.{Ends, Passed, anywhere, IsRead, IsPiece, IsSet, IsChangedIn, IsValued}
 use Rattle.config_file.specs.Reading.Edits.{AreLater, AreWritable, Changing, IsEachChanged, contents_in}
-use Rattle.config_file.specs.Reading.Edits.{section_after, name_after, content_of}
+use Rattle.config_file.specs.Reading.Edits.{section_after, content_of, Comes, IsShaped, IsGiven}
 use Rattle.config_file.specs.Views.{value_of}
 use Rattle.config_file.proofs.Added.{name_parts}
 use Rattle.config_file.proofs.Pieces.{entry_passed, made_passed, key_joined}
 use Rattle.config_file.proofs.Edits.{holds_nothing, passed_join, passed_ends, all_passed, some_left}
-use Rattle.config_file.proofs.Edits.{joined_more}
+use Rattle.config_file.proofs.Edits.{joined_more, passed_holds, comes_blanks}
+use Rattle.config_file.proofs.Becomes.{becomes_before, becomes_piece}
 
 -- an entry with another key
 takes_named : {text key rest : List ℕ} (name : List ℕ) → is_name name ≡ true → (t : TakesKey text key rest)
@@ -87,16 +89,97 @@ named {key = key} {at = at} {blanks = blanks} name is e =
       },
     )
 
-pub valued_new : {value : List ℕ} {parts : EntryParts} {piece : Piece} {put : List ℕ} → IsSet parts piece value put
-    → IsValued (Some value) parts piece put
-valued_new s =
-    record { raw = Some s.raw; lines = s.lines; at = s.at; value_is = s.has_value; entry = s.entry; bytes = s.bytes }
+-- what precedes the value of an entry, and its bytes
+value_at_end : {text key rest : List ℕ} {value : Option (List ℕ)} {lines : ℕ} → TakesEntry text key value lines rest
+    → (between : List ℕ) × (text ≡ (key ++ (between ++ value_bytes value)) ++ rest)
+value_at_end (alone {key = key} {rest = rest} t end) = (
+  t.spaces,
+  key_joined rest t ∙ ap (λ s. (key ++ s) ++ rest) (sym (append-nil t.spaces)),
+)
+value_at_end (valued {b = b} {key = key} {after = after} {raw = raw} {rest = rest} t is_sign value) =
+    let before = t.spaces ++ b ∷ [] in
+    let bytes_are : t.spaces ++ b ∷ raw ≡ before ++ raw = sym (append_assoc t.spaces (b ∷ []) raw) in
+    let whole : t.spaced ≡ (before ++ raw) ++ rest =
+    t.space_run.joined ∙ ap (λ a. t.spaces ++ b ∷ a) (value_joined value)
+    ∙ sym (append_assoc t.spaces (b ∷ raw) rest) ∙ ap (λ x. x ++ rest) bytes_are in
+    (before, t.key_run.joined ∙ ap (λ s. key ++ s) whole ∙ sym (append_assoc key (before ++ raw) rest))
+
+-- an entry whose bytes stay
+shaped_old : {value : Option (List ℕ)} {parts : EntryParts} {piece : Piece}
+    → IsEntry parts.key.now (value_of parts.value) parts.lines parts.rest.now piece.blanks.now piece.bytes.now piece.rest.now piece.is_line
+    → MatchOption value (value_bytes (value_of parts.value) ≡ value_bytes (value_of parts.value))
+    (λ new. ChangesValueTo new (value_of parts.value) (value_bytes (value_of parts.value)))
+    → IsShaped parts.key.now value parts piece piece.bytes.now
+shaped_old {parts = parts} {piece = piece} e is_valued =
+    let key = parts.key.now in
+    let raw = value_bytes (value_of parts.value) in
+    let (between, text_is) = value_at_end e.takes in
+    let front_is : e.front ≡ key ++ (between ++ raw) =
+    append_cancel_right e.front (key ++ (between ++ raw)) parts.rest.now text_is in
+    let joined = e.joined ∙ ap (λ f. piece.blanks.now ++ (f ++ e.tail)) front_is in
+    record {
+      lines = parts.lines;
+      between = between;
+      bytes = raw;
+      tail = e.tail;
+      begins = subst (λ f. BeginsWithLetter (f ++ (e.tail ++ piece.rest.now))) front_is
+          (subst (λ a. BeginsWithLetter (e.front ++ a)) e.left e.begins);
+      takes = subst (λ f. TakesEntry (f ++ (e.tail ++ piece.rest.now)) key (value_of parts.value) parts.lines (e.tail ++ piece.rest.now)) front_is
+          (subst (λ a. TakesEntry (e.front ++ a) key (value_of parts.value) parts.lines a) e.left e.takes);
+      bytes_are = joined;
+      put_is = joined;
+      is_valued = is_valued;
+    }
+
+-- an entry of which only the bytes of the value change
+shaped_new : {value : List ℕ} {parts : EntryParts} {piece : Piece} {put : List ℕ}
+    → ¬ (HasValue (value_of parts.value) value) → IsGiven parts piece value put
+    → IsShaped parts.key.now (Some value) parts piece put
+shaped_new {parts = parts} {piece = piece} other g =
+    let key = parts.key.now in
+    let was = value_of parts.value in
+    let raw = value_bytes was in
+    let rest = g.tail ++ piece.rest.now in
+    let (between, text_is) = value_at_end g.gives.takes in
+    let gone_is : g.gone ≡ key ++ (between ++ raw) =
+    append_cancel_right g.gone (key ++ (between ++ raw)) rest text_is in
+    let front_is : g.gives.front ≡ key ++ between =
+    append_cancel_right g.gives.front (key ++ between) raw
+    (sym g.gives.gone_is ∙ gone_is ∙ sym (append_assoc key between raw)) in
+    let now_is : g.now ≡ key ++ (between ++ g.gives.bytes) =
+    g.gives.put_is ∙ ap (λ f. f ++ g.gives.bytes) front_is ∙ append_assoc key between g.gives.bytes in
+    record {
+      lines = g.gives.lines;
+      between = between;
+      bytes = g.gives.bytes;
+      tail = g.tail;
+      begins = subst (λ f. BeginsWithLetter (f ++ rest)) gone_is g.gives.begins;
+      takes = subst (λ f. TakesEntry (f ++ rest) key was g.gives.lines rest) gone_is g.gives.takes;
+      bytes_are = g.bytes_are ∙ ap (λ f. piece.blanks.now ++ (f ++ g.tail)) gone_is;
+      put_is = g.put_is ∙ ap (λ f. piece.blanks.now ++ (f ++ g.tail)) now_is;
+      is_valued = inr (other, g.gives.puts);
+    }
+
+shaped_set : {value : List ℕ} {parts : EntryParts} {piece : Piece} {put : List ℕ}
+    → IsEntry parts.key.now (value_of parts.value) parts.lines parts.rest.now piece.blanks.now piece.bytes.now piece.rest.now piece.is_line
+    → IsSet parts piece value put → IsShaped parts.key.now (Some value) parts piece put
+shaped_set {value = value} {parts = parts} {piece = piece} e s = elim s.given [
+  | inl same ↦ subst (λ p. IsShaped parts.key.now (Some value) parts piece p) (sym same.1)
+      (shaped_old {value = Some value} e (inl (same.0, refl)))
+  | inr other ↦ shaped_new other.0 other.1
+]
+
+pub valued_new : {value : List ℕ} {parts : EntryParts} {piece : Piece} {put : List ℕ}
+    → IsEntry parts.key.now (value_of parts.value) parts.lines parts.rest.now piece.blanks.now piece.bytes.now piece.rest.now piece.is_line
+    → IsSet parts piece value put → IsValued (Some value) parts piece put
+valued_new e s =
+    record { raw = Some s.raw; lines = s.lines; at = s.at; value_is = s.has_value; entry = s.entry; shaped = shaped_set e s }
 
 pub valued_old : {parts : EntryParts} {piece : Piece}
     → IsEntry parts.key.now (value_of parts.value) parts.lines parts.rest.now piece.blanks.now piece.bytes.now piece.rest.now piece.is_line
     → IsValued None parts piece piece.bytes.now
 valued_old {parts = parts} e =
-    record { raw = value_of parts.value; lines = parts.lines; at = parts.rest.now; value_is = refl; entry = e; bytes = refl }
+    record { raw = value_of parts.value; lines = parts.lines; at = parts.rest.now; value_is = refl; entry = e; shaped = shaped_old {value = None} e refl }
 
 pub named_old : {change : Change} {parts : EntryParts} {piece : Piece} {put : List ℕ}
     → (e : IsEntry parts.key.now (value_of parts.value) parts.lines parts.rest.now piece.blanks.now piece.bytes.now piece.rest.now piece.is_line)
@@ -109,19 +192,7 @@ named_old {change = change} {parts = parts} {piece = piece} {put = put} e none v
       at = v.at;
       value_is = v.value_is;
       entry = rw none v.entry;
-      bytes = record {
-        key = parts.key.now;
-        value = value_of parts.value;
-        lines = parts.lines;
-        at = parts.rest.now;
-        blanks = piece.blanks.now;
-        rest = piece.rest.now;
-        is_line = piece.is_line;
-        valued = put;
-        is_entry = e;
-        is_valued = v.bytes;
-        is_named = rw none refl;
-      };
+      shaped = rw none v.shaped;
     }
 
 pub named_new : {change : Change} {parts : EntryParts} {piece : Piece} {line : List ℕ} (name more : List ℕ)
@@ -135,24 +206,30 @@ named_new {change = change} {parts = parts} {piece = piece} {line = line} name m
     let blanks = piece.blanks.now in
     let same : m ≡ more = append_cancel_left (blanks ++ parts.key.now) m more
     (append_assoc blanks parts.key.now m ∙ sym joined ∙ line_is ∙ sym (append_assoc blanks parts.key.now more)) in
+    let shape = v.shaped in
+    let after = (shape.between ++ shape.bytes) ++ shape.tail in
+    let more_is : more ≡ after =
+    append_cancel_left (blanks ++ parts.key.now) more after
+    (append_assoc blanks parts.key.now more ∙ sym line_is ∙ shape.put_is
+    ∙ ap (λ x. blanks ++ x) (append_assoc parts.key.now (shape.between ++ shape.bytes) shape.tail)
+    ∙ sym (append_assoc blanks parts.key.now after)) in
     record {
       raw = v.raw;
       lines = v.lines;
       at = v.at;
       value_is = v.value_is;
       entry = rw (some, sym same) entry;
-      bytes = record {
-        key = parts.key.now;
-        value = value_of parts.value;
-        lines = parts.lines;
-        at = parts.rest.now;
-        blanks = blanks;
-        rest = piece.rest.now;
-        is_line = piece.is_line;
-        valued = line;
-        is_entry = e;
-        is_valued = v.bytes;
-        is_named = rw some (more, line_is, refl);
+      shaped = record {
+        lines = shape.lines;
+        between = shape.between;
+        bytes = shape.bytes;
+        tail = shape.tail;
+        begins = shape.begins;
+        takes = shape.takes;
+        bytes_are = shape.bytes_are;
+        put_is = rw some (ap (λ m. blanks ++ (name ++ m)) more_is
+            ∙ ap (λ x. blanks ++ x) (sym (append_assoc name (shape.between ++ shape.bytes) shape.tail)));
+        is_valued = shape.is_valued;
       };
     }
 
@@ -247,7 +324,7 @@ changing_passes {text = text} {rest = rest} {new = new} {index = index} piece r 
       split = r.split;
       each = each_kept piece.held r.section r.each;
       index_is = r.index_is ∙ sym (ap (λ c. length (r.old ++ c)) none ∙ ap (λ o. length o) (append-nil r.old));
-      bytes = spec.kept piece.bytes.now r.bytes;
+      bytes = spec.kept piece.bytes.now (becomes_before r.bytes is.joined);
       ordered = r.ordered;
       writable = r.writable;
       room = let room = r.room in omega arith;
@@ -275,7 +352,7 @@ changing_keeps {left = left} {text = text} {rest = rest} {new = new} {index = in
       each = each_kept piece.held r.section r.each;
       index_is = ap (λ i. i + 1) r.index_is
           ∙ sym (ap (λ c. length (r.old ++ c)) one ∙ one_longer r.old (content_of r.section parts));
-      bytes = spec.kept piece.bytes.now r.bytes;
+      bytes = spec.kept piece.bytes.now (becomes_before r.bytes is.joined);
       ordered = λ count order. order_kept left index count later (r.ordered count order);
       writable = r.writable;
       room = let room = r.room in omega arith;
@@ -301,6 +378,25 @@ changing_changes {changes = changes} {left = left} {more = more} {change = chang
     let made_now : Passed r.section put (y ∷ []) r.section piece.rest.now =
     entry_passed piece.blanks.now piece.is_line is.blank c.entry r.section in
     let split : changes ≡ r.done ++ change ∷ more = r.split ∙ ap (λ l. r.done ++ l) left_is in
+    let shape = c.shaped in
+    let was = value_of parts.value in
+    let gone = parts.key.now ++ (shape.between ++ value_bytes was) in
+    let put_now = name ++ (shape.between ++ shape.bytes) in
+    let cut : rest ≡ (piece.blanks.now ++ (gone ++ shape.tail)) ++ piece.rest.now =
+    is.joined ∙ ap (λ b. b ++ piece.rest.now) shape.bytes_are in
+    let inner : rest ≡ piece.blanks.now ++ (gone ++ (shape.tail ++ piece.rest.now)) =
+    cut ∙ append_assoc piece.blanks.now (gone ++ shape.tail) piece.rest.now
+    ∙ ap (λ x. piece.blanks.now ++ x) (append_assoc gone shape.tail piece.rest.now) in
+    let place : Comes text r.old r.section (gone ++ (shape.tail ++ piece.rest.now)) =
+    comes_blanks r.front piece.blanks.now (gone ++ (shape.tail ++ piece.rest.now)) r.joined inner is.blank (passed_holds some r.passed) in
+    let may : MayChange changes r.old r.section gone put_now (shape.tail ++ piece.rest.now) = (
+      change,
+      parts.key.now,
+      was,
+      (r.done, more, split),
+      due ∙ r.index_is,
+      record { lines = shape.lines; between = shape.between; bytes = shape.bytes; begins = shape.begins; takes = shape.takes; gone_is = refl; put_is = refl; is_valued = shape.is_valued },
+    ) in
     record {
       front = r.front ++ piece.bytes.now;
       done = r.done ++ change ∷ [];
@@ -313,7 +409,10 @@ changing_changes {changes = changes} {left = left} {more = more} {change = chang
       split = split ∙ sym (append_assoc r.done (change ∷ []) more);
       each = spec.changed change x y r.each (due ∙ r.index_is) (refl, name_is (option_copied change.name) parts.key.now, c.value_is);
       index_is = ap (λ i. i + 1) r.index_is ∙ sym (one_longer r.old x);
-      bytes = spec.changed r.bytes (change, (r.done, more, split), c.bytes);
+      bytes = subst (λ b. Becomes (Comes text) (MayChange changes) (r.front ++ b) piece.rest.now (new ++ put)) (sym shape.bytes_are)
+          (subst (λ p. Becomes (Comes text) (MayChange changes) (r.front ++ (piece.blanks.now ++ (gone ++ shape.tail))) piece.rest.now (new ++ p))
+          (sym shape.put_is)
+          (becomes_piece piece.blanks.now gone put_now shape.tail piece.rest.now (becomes_before r.bytes cut) place may));
       ordered = λ count order.
           order_done change more index count due (subst (λ l. AreInOrder index l count) left_is (r.ordered count order));
       writable = (subst AreWritable left_is r.writable).1;
@@ -332,7 +431,7 @@ each_changed {changes = changes} {text = text} {new = new} {contents = contents}
       ends = passed_ends rest_is r.passed_now;
       each = subst (λ c. ChangesEach changes c r.now) contents_are
           (subst (λ d. ChangesEach d r.old r.now) done_is r.each);
-      bytes = subst (λ t. Changes (MayChange changes) t new) (sym text_is) r.bytes;
+      bytes = subst (λ t. Becomes (Comes text) (MayChange changes) t [] new) (sym text_is) (becomes_before r.bytes rest_is);
     }
 
 pub not_in_order : {changes left : List Change} {text rest new : List ℕ} {index : ℕ} {contents : List Content}

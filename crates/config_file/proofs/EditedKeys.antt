@@ -10,24 +10,48 @@ use Rattle.config_file.specs.declared.edit.EditError.TheVariants as error
 use Rattle.config_file.specs.declared.key.KeyError.{KeyError}
 use Rattle.config_file.specs.Key.{Key, IsKey, RefusesKey}
 use Rattle.config_file.specs.Spelling.{HasNoHeader}
-use Rattle.config_file.specs.Edit.{Content, content, HasContents, Changes, ChangesBytes, ChangesKey}
-use Rattle.config_file.specs.Edit.{ReplacesKey, AddsKey, PutsLine, MayReplace, MayUnset}
-use Rattle.config_file.specs.Edit.{LosesOne, Without, NamesSection, LosesSection, RemovesSection}
-use Rattle.config_file.specs.Edit.{RenamesSection, NoneIn, LacksSection, LacksHeader, ChangesEntries, MayChange}
+use Rattle.config_file.specs.Header.{Section}
+use Rattle.config_file.specs.Edit.{Content, content, HasContents, Changes, ChangesAt, SetsBytes, ChangesKey}
+use Rattle.config_file.specs.Edit.{ReplacesKey, AddsKey, PutsLine, ReachesBehind, IsApart, MayUnset}
+use Rattle.config_file.specs.Edit.{LosesOne, Without, NamesSection, MayRemove, RemovesSection}
+use Rattle.config_file.specs.Edit.{RenamesSection, NoneIn, LacksSection, LacksHeader, ChangesEntries}
 use Rattle.config_file.specs.Reading.Edits.{IsSplit, IsReplaced, IsAdded, IsTaken, IsCleared, Counted, IsEachChanged}
+use Rattle.config_file.specs.Reading.Edits.{Ends, ChangesIn, SetsIn, ComesBehind}
 use Rattle.config_file.specs.Reading.Edits.{RefusesName}
 use Rattle.config_file.proofs.OneKey.{cut_same, not_both}
-use Rattle.config_file.proofs.Changed.{change_behind}
-use Rattle.config_file.proofs.Edits.{file_of, split_joined, changes_both, all_kept}
+use Rattle.config_file.proofs.Edits.{file_of, split_joined, reaches, reaches_behind, body_ends, becomes_marked}
 
-bytes_marked : {value old new : List ℕ} (was : Option (List ℕ)) (mark : List ℕ)
-    → ChangesBytes was value old new → ChangesBytes was value (mark ++ old) (mark ++ new)
-bytes_marked was mark (inl same) = inl (same.0, ap (λ x. mark ++ x) same.1)
-bytes_marked was mark (inr other) = inr (other.0, change_behind mark other.1)
+change_marked : {May : List ℕ → List ℕ → List ℕ → Type 0} {text mark body new : List ℕ} {contents before : List Content}
+    {section : Option Section}
+    → IsSplit text mark body → Ends None body contents → ChangesIn May before section body new
+    → ChangesAt May before section text (mark ++ new)
+change_marked {mark = mark} split ends c =
+    record {
+      front = mark ++ c.front;
+      gone = c.gone;
+      put = c.put;
+      rest = c.rest;
+      old_is = split_joined split ∙ ap (λ x. mark ++ x) c.old_is ∙ sym (append_assoc mark c.front (c.gone ++ c.rest));
+      new_is = ap (λ x. mark ++ x) c.new_is ∙ sym (append_assoc mark c.front (c.put ++ c.rest));
+      reaches = reaches c.front split ends c.old_is c.holds;
+      may = c.may;
+    }
 
-line_marked : {key : Key} {value old new : List ℕ} {contents : List Content} (mark : List ℕ)
-    → PutsLine key value contents old new → PutsLine key value contents (mark ++ old) (mark ++ new)
-line_marked {key = key} mark p =
+set_marked : {value text mark body new : List ℕ} {contents before : List Content} {x : Content}
+    → IsSplit text mark body → Ends None body contents → SetsIn value before x body new
+    → SetsBytes value before x text (mark ++ new)
+set_marked {mark = mark} split ends (inl same) =
+    inl (same.0, ap (λ x. mark ++ x) same.1 ∙ sym (split_joined split))
+set_marked split ends (inr other) = inr (other.0, change_marked split ends other.1)
+
+mark_apart : {front back : List ℕ} (mark : List ℕ) → IsApart front back → IsApart (mark ++ front) back
+mark_apart mark (inl (line, e)) = inl (mark ++ line, ap (λ x. mark ++ x) e ∙ sym (append_assoc mark line (10 ∷ [])))
+mark_apart mark (inr other) = inr other
+
+line_marked : {key : Key} {value text mark old new : List ℕ} {contents before : List Content}
+    → IsSplit text mark old → Ends None old contents → PutsLine (ComesBehind old) key value contents before old new
+    → PutsLine (ReachesBehind text) key value contents before (mark ++ old) (mark ++ new)
+line_marked {mark = mark} split ends p =
     record {
       front = mark ++ p.front;
       back = p.back;
@@ -39,6 +63,8 @@ line_marked {key = key} mark p =
       new_is = ap (λ x. mark ++ x) p.new_is ∙ sym (append_assoc mark p.front _);
       is_feed = p.is_feed;
       are_ends = p.are_ends;
+      place = reaches_behind split ends p.place;
+      apart = mark_apart mark p.apart;
       is_header = p.is_header;
       spells = p.spells;
     }
@@ -48,61 +74,56 @@ pub contents_of : {text : List ℕ} {entries : List Entry} → IsFile text entri
 contents_of {entries = entries} is_file = (entries, is_file, refl)
 
 pub changed_key : {key : Key} {value text mark body new : List ℕ} {contents : List Content} (several : Bool)
-    → IsSplit text mark body → IsReplaced key value body contents new several → several ≡ false
+    → IsSplit text mark body → Ends None body contents → IsReplaced key value body contents new several → several ≡ false
     → ChangesKey key value text contents (mark ++ new)
-changed_key {value = value} {mark = mark} {new = new} several split r one =
-    let (nothing, bytes) = r.single one in
-    let whole = bytes_marked r.replaces.x.2 mark bytes in (
+changed_key {value = value} {mark = mark} {new = new} several split ends r one =
+    let (nothing, bytes) = r.single one in (
       r.now,
       file_of split r.ends,
       r.replaces,
       nothing,
-      subst
-          (λ t. ChangesBytes r.replaces.x.2 value t (mark ++ new)) (sym (split_joined split)) whole,
+      set_marked split ends bytes,
     )
 
 pub replaced_key : {key : Key} {value text mark body new : List ℕ} {contents : List Content} {several : Bool}
-    → IsSplit text mark body → IsReplaced key value body contents new several
+    → IsSplit text mark body → Ends None body contents → IsReplaced key value body contents new several
     → ReplacesKey key value text contents (mark ++ new)
-replaced_key {key = key} {value = value} {mark = mark} {new = new} split r = (
+replaced_key split ends r = (
   r.now,
   file_of split r.ends,
   r.replaces,
-  subst (λ t. Changes (MayReplace key value) t (mark ++ new))
-      (sym (split_joined split)) (changes_both mark mark (all_kept mark) r.changes),
+  becomes_marked split ends r.changes,
 )
 
 pub added_key : {key : Key} {value text mark body new : List ℕ} {contents : List Content}
-    → IsSplit text mark body → IsAdded key value body contents new
+    → IsSplit text mark body → Ends None body contents → IsAdded key value body contents new
     → AddsKey key value text contents (mark ++ new)
-added_key {key = key} {value = value} {mark = mark} {new = new} {contents = contents} split r = (
+added_key {key = key} {value = value} {text = text} {mark = mark} {new = new} {contents = contents} split ends r = (
   r.now,
   file_of split r.ends,
   r.adds,
-  subst (λ t. PutsLine key value contents t (mark ++ new))
-      (sym (split_joined split)) (line_marked mark r.bytes),
+  subst (λ t. PutsLine (ReachesBehind text) key value contents r.adds.before t (mark ++ new))
+      (sym (split_joined split)) (line_marked split ends r.bytes),
 )
 
 pub taken_key : {key : Key} {text mark body : List ℕ} {contents : List Content} {taken : Taken}
-    → IsSplit text mark body → IsTaken key body contents taken
+    → IsSplit text mark body → Ends None body contents → IsTaken key body contents taken
     → (now : List Content) × HasContents (mark ++ taken.text.items) now × Without key contents now × Changes (MayUnset key) text (mark ++ taken.text.items)
-taken_key {key = key} {mark = mark} {taken = taken} split r = (
+taken_key split ends r = (
   r.now,
   file_of split r.ends,
   r.without,
-  subst (λ t. Changes (MayUnset key) t (mark ++ taken.text.items)) (sym (split_joined split))
-      (changes_both mark mark (all_kept mark) r.changes),
+  becomes_marked split ends r.changes,
 )
 
 pub one_taken : {key : Key} {text mark body : List ℕ} {contents : List Content} {taken : Taken}
-    → IsSplit text mark body → IsTaken key body contents taken → taken.count ≡ count.One
+    → IsSplit text mark body → Ends None body contents → IsTaken key body contents taken → taken.count ≡ count.One
     → (now : List Content) × HasContents (mark ++ taken.text.items) now × LosesOne key contents now × Changes (MayUnset key) text (mark ++ taken.text.items)
-one_taken {key = key} {mark = mark} {contents = contents} {taken = taken} split r one = (
+one_taken {key = key} {contents = contents} split ends r one = (
   r.now,
   file_of split r.ends,
   subst (λ n. Counted key contents r.now n) one r.counted,
-  subst (λ t. Changes (MayUnset key) t (mark ++ taken.text.items)) (sym (split_joined split))
-      (changes_both mark mark (all_kept mark) r.changes),
+  becomes_marked split ends r.changes,
 )
 
 -- a name of which no key is made names no section
@@ -116,9 +137,8 @@ pub section_removed : {text mark body new edited : List ℕ} (name : List ℕ) (
     → IsFile text entries None → IsSplit text mark body → NamesSection name key
     → IsCleared key body (map content entries) new → edited ≡ mark ++ new → RemovesSection name text edited
 section_removed {text = text} {mark = mark} {new = new} name entries key is_file split names r edited_is =
-    let whole : Changes (LosesSection key) text (mark ++ new) =
-    subst (λ t. Changes (LosesSection key) t (mark ++ new)) (sym (split_joined split))
-    (changes_both mark mark (all_kept mark) r.changes) in
+    let whole : Changes (MayRemove key) text (mark ++ new) =
+    becomes_marked split (body_ends is_file split) r.changes in
     rw edited_is (
       key,
       names,
@@ -171,13 +191,13 @@ same_name entries is_file same edited_is =
     (map content entries, (entries, is_file, refl), inl (same, edited_is))
 
 pub changed_entries : {changes : List Change} {text mark body new : List ℕ} {contents : List Content}
-    → HasContents text contents → IsSplit text mark body → IsEachChanged changes body contents new
+    → HasContents text contents → IsSplit text mark body → Ends None body contents → IsEachChanged changes body contents new
     → ChangesEntries changes text (mark ++ new)
-changed_entries {changes = changes} {mark = mark} {new = new} {contents = contents} has split r = (
+changed_entries {contents = contents} has split ends r = (
   contents,
   has,
   r.now,
   file_of split r.ends,
   r.each,
-  subst (λ t. Changes (MayChange changes) t (mark ++ new)) (sym (split_joined split)) (changes_both mark mark (all_kept mark) r.bytes),
+  becomes_marked split ends r.bytes,
 )

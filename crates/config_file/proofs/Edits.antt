@@ -17,22 +17,26 @@ use Rattle.config_file.specs.Listing.{IsListedSection}
 use Rattle.config_file.specs.Listing as listing
 use Rattle.config_file.specs.Spelling.{IsHeader}
 use Rattle.config_file.specs.Edit as spec
-use Rattle.config_file.specs.Edit.{Content, content, HasContents, IsIn, WithoutIn, NoneIn, Renames, Changes}
-use Rattle.config_file.specs.Edit.{RenamesHeader, NamesSection, RenamesSection}
+use Rattle.config_file.specs.Edit.{Content, content, HasContents, IsIn, WithoutIn, NoneIn, Renames}
+use Rattle.config_file.specs.Edit.{RenamesHeader, NamesSection, RenamesSection, Reaches, ReachesBehind, Becomes, Changes}
+use Rattle.config_file.specs.Reached.{Leads}
+use Rattle.config_file.specs.Reached as reached
 use Rattle.config_file.specs.Reading.Edits as edit
-use Rattle.config_file.specs.Reading.Edits.{Leads, Holds, Ends, Passed, anywhere, at_end, IsRead, IsMade}
+use Rattle.config_file.specs.Reading.Edits.{Holds, Ends, Passed, anywhere, at_end, IsRead, IsMade}
 use Rattle.config_file.specs.Reading.Edits.{IsPiece, IsHeaderAt, IsHeaderHeld, contents_in, section_after}
-use Rattle.config_file.specs.Reading.Edits.{IsSplit, Corresponds, Renaming}
+use Rattle.config_file.specs.Reading.Edits.{IsSplit, Corresponds, Renaming, Comes, ComesBehind}
 use Rattle.config_file.specs.Edit.{AreBlank}
+use Rattle.config_file.specs.Reading.Spellings.{spelled_section}
 use Rattle.config_file.specs.Views.{section_of, value_of}
 use Rattle.config_file.proofs.AddedEntries.{begins_no_mark, begins_unmarked, mark_is}
 use Rattle.config_file.proofs.EachReading.{are_read, not_empty}
 use Rattle.config_file.proofs.OneReading.{reads_once}
-use Rattle.config_file.proofs.Pieces.{compose, onward, made_passed, header_holds}
+use Rattle.config_file.proofs.Pieces.{compose, onward, made_passed, header_holds, blanks_lead}
+use Rattle.config_file.proofs.Becomes.{becomes_before, becomes_more, becomes_behind}
 
 -- texts one after the other
 pub holds_nothing : (section : Option Section) → Holds section [] [] section
-holds_nothing section = λ line other. (line, [], edit.here, refl)
+holds_nothing section = λ line other. (line, [], reached.here, refl)
 
 two_contents : (first second : List Entry) {xs ys : List Content} → map content first ≡ xs
     → map content second ≡ ys → map content (first ++ second) ≡ xs ++ ys
@@ -185,6 +189,20 @@ still_outside key (held.Entry parts) section other outside = outside
 still_outside key held.Nothing section other outside = outside
 still_outside key held.Comment section other outside = outside
 
+-- blanks before an entry
+pub holds_blanks : {section next : Option Section} {contents : List Content} (front blanks : List ℕ) → AreBlank blanks
+    → Holds section front contents next → Holds section (front ++ blanks) contents next
+holds_blanks {section = section} {next = next} {contents = contents} front blanks all holds =
+    subst (λ c. Holds section (front ++ blanks) c next) (append-nil contents)
+    (holds_join front blanks holds (λ line other. (line, [], blanks_lead blanks all reached.here, refl)))
+
+-- where the reading of a text comes, behind blanks
+pub comes_blanks : {text rest : List ℕ} {before : List Content} {section : Option Section} (front blanks inner : List ℕ)
+    → text ≡ front ++ rest → rest ≡ blanks ++ inner → AreBlank blanks → Holds None front before section
+    → Comes text before section inner
+comes_blanks {text = text} {rest = rest} front blanks inner joined cut all holds =
+    (front ++ blanks, joined_more text front rest blanks inner joined cut, holds_blanks front blanks all holds)
+
 -- a section gets another name
 pub renaming_begins : (from to : Key) (text : List ℕ) → ¬ (IsIn from None)
     → Renaming from to text text [] false
@@ -248,7 +266,7 @@ renaming_keeps {from = from} {text = text} {rest = rest} {new = new} piece r is 
           (made_passed piece.held piece.blanks.now piece.is_line is.blank is.made r.next);
       renames = renames;
       corresponds = corresponds;
-      changes = spec.kept piece.bytes.now r.changes;
+      changes = spec.kept piece.bytes.now (becomes_before r.changes is.joined);
       unfound = λ none.
           let (nothing, outside) = r.unfound none in
           let still = still_outside from piece.held r.section other outside in (
@@ -272,9 +290,9 @@ pub renaming_changes : {from to : Key} {text rest new : List ℕ} {is_found : Bo
     (put : List ℕ)
     → Renaming from to text rest new is_found → IsPiece rest piece
     → length piece.rest.now < length rest → IsHeaderHeld from piece.held
-    → IsHeader put to.section to.subsection
+    → IsHeader put to.section to.subsection → put ≡ 91 ∷ spelled_section to.section to.subsection
     → Renaming from to text piece.rest.now ((new ++ piece.blanks.now) ++ put) true
-renaming_changes {from = from} {to = to} {text = text} {rest = rest} {new = new} piece put r is shorter held_header (inner, section_now, put_is, names, header_now) =
+renaming_changes {from = from} {to = to} {text = text} {rest = rest} {new = new} piece put r is shorter held_header (inner, section_now, put_is, names, header_now) spelled =
     let some = some_left rest piece.rest.now shorter in
     let (section, at, is_in, unused, also) =
     header_at piece.held from piece.blanks.now piece.bytes.now piece.rest.now piece.is_line held_header is.made in
@@ -288,8 +306,12 @@ renaming_changes {from = from} {to = to} {text = text} {rest = rest} {new = new}
     anywhere (header_holds is.blank now r.next) in
     let whole = passed_join some r.passed here in
     let whole_now = passed_join some r.passed_now here_now in
-    let gone : RenamesHeader from to (91 ∷ at.inner) put =
-    ((at.inner, section, refl, at.header, is_in), (inner, section_now, put_is, names, header_now)) in
+    let cut : rest ≡ piece.blanks.now ++ ((91 ∷ at.inner) ++ piece.rest.now) =
+    is.joined ∙ ap (λ b. b ++ piece.rest.now) at.joined ∙ append_assoc piece.blanks.now (91 ∷ at.inner) piece.rest.now in
+    let place : Comes text r.old_contents r.section ((91 ∷ at.inner) ++ piece.rest.now) =
+    comes_blanks r.front piece.blanks.now ((91 ∷ at.inner) ++ piece.rest.now) r.joined cut is.blank (passed_holds some r.passed) in
+    let gone : RenamesHeader from to r.old_contents r.section (91 ∷ at.inner) put piece.rest.now =
+    ((at.inner, section, refl, at.header, is_in), ((inner, section_now, put_is, names, header_now), spelled)) in
     let front_is : (r.front ++ piece.blanks.now) ++ 91 ∷ at.inner ≡ r.front ++ piece.bytes.now =
     append_assoc r.front piece.blanks.now (91 ∷ at.inner) ∙ ap (λ x. r.front ++ x) (sym at.joined) in
     let new_is : new ++ (piece.blanks.now ++ put) ≡ (new ++ piece.blanks.now) ++ put =
@@ -308,20 +330,20 @@ renaming_changes {from = from} {to = to} {text = text} {rest = rest} {new = new}
           (Some section_now) piece.rest.now) new_contents_are whole_now);
       renames = r.renames;
       corresponds = edit.renamed is_in names;
-      changes = subst (λ f. Changes (RenamesHeader from to) f ((new ++ piece.blanks.now) ++ put)) front_is
-          (spec.changed (spec.kept piece.blanks.now r.changes) gone);
+      changes = subst (λ f. Becomes (Comes text) (RenamesHeader from to) f piece.rest.now ((new ++ piece.blanks.now) ++ put)) front_is
+          (spec.changed (spec.kept piece.blanks.now (becomes_before r.changes cut)) place gone);
       unfound = λ none. absurd (true≢false none);
     }
 
 pub renaming_ends : {from to : Key} {text rest new : List ℕ} {contents : List Content} {is_found : Bool}
     → Renaming from to text rest new is_found → Ends None text contents → (rest ≡ []) ⊎ (¬ (IsRead rest))
-    → (now : List Content) × Ends None new now × Renames from to contents now × Changes (RenamesHeader from to) text new
-renaming_ends {from = from} {to = to} {new = new} r whole left =
+    → (now : List Content) × Ends None new now × Renames from to contents now × Becomes (Comes text) (RenamesHeader from to) text [] new
+renaming_ends {from = from} {to = to} {text = text} {new = new} r whole left =
     let (none, text_is, contents_are) = all_passed r.joined r.passed whole left in (
       r.new_contents,
       passed_ends none r.passed_now,
       subst (λ c. Renames from to c r.new_contents) contents_are r.renames,
-      subst (λ t. Changes (RenamesHeader from to) t new) (sym text_is) r.changes,
+      subst (λ t. Becomes (Comes text) (RenamesHeader from to) t [] new) (sym text_is) (becomes_before r.changes none),
     )
 
 pub none_renamed : {from to : Key} {text rest new : List ℕ} {contents : List Content} {is_found : Bool}
@@ -401,37 +423,87 @@ file_of {new = new} (edit.marked is) ends =
     let (entries, reads, same) = ends 1 in
     (entries, record { line = 1; rest = new; begins = file.marked refl; reads = reads }, same)
 
+begins_one : (text : List ℕ) (entries : List Entry) → Reads None 1 text entries None → file.Begins text 1 text
+begins_one [] entries reads = file.unmarked refl (λ part. part)
+begins_one (b ∷ text) entries reads = begins_unmarked b text (begins_no_mark reads)
+
+pub split_begins : {text mark body : List ℕ} {contents : List Content} → IsSplit text mark body → Ends None body contents
+    → (line : ℕ) × file.Begins text line body
+split_begins {body = body} (edit.unmarked none) ends =
+    let (entries, reads, same) = ends 1 in (1, begins_one body entries reads)
+split_begins (edit.marked is) ends = (1, file.marked is)
+
+-- where a body is read up to, its text is
+pub reaches : {text mark body rest : List ℕ} (front : List ℕ) {contents before : List Content} {section : Option Section}
+    → IsSplit text mark body → Ends None body contents → body ≡ front ++ rest → Holds None front before section
+    → Reaches text before section rest
+reaches {body = body} {rest = rest} front {section = section} split ends joined holds =
+    let (line, begins) = split_begins split ends in
+    let (end, entries, leads, same) = holds line rest in
+    record {
+      line = line;
+      body = body;
+      end = end;
+      entries = entries;
+      begins = begins;
+      leads = subst (λ b. Leads None line b entries section end rest) (sym joined) leads;
+      contents_are = same;
+    }
+
 pub split_joined : {text mark body : List ℕ} → IsSplit text mark body → text ≡ mark ++ body
 split_joined (edit.unmarked none) = refl
 split_joined (edit.marked {text = text} {body = body} is) = mark_is text body is
 
-pub changes_both : {May : List ℕ → List ℕ → Type 0} {c d : List ℕ} (a b : List ℕ) → Changes May a b
-    → Changes May c d → Changes May (a ++ c) (b ++ d)
-changes_both {May = May} a b first spec.none =
-    subst (λ x. Changes May x (b ++ [])) (sym (append-nil a))
-    (subst (λ y. Changes May a y) (sym (append-nil b)) first)
-changes_both {May = May} a b first (spec.kept {old = old} {new = new} bytes c) =
-    subst (λ o. Changes May o (b ++ (new ++ bytes))) (append_assoc a old bytes)
-    (subst (λ n. Changes May ((a ++ old) ++ bytes) n) (append_assoc b new bytes)
-    (spec.kept bytes (changes_both a b first c)))
-changes_both {May = May} a b first (spec.changed {old = old} {new = new} {gone = gone} {put = put} c may) =
-    subst (λ o. Changes May o (b ++ (new ++ put))) (append_assoc a old gone)
-    (subst (λ n. Changes May ((a ++ old) ++ gone) n) (append_assoc b new put)
-    (spec.changed (changes_both a b first c) may))
+reads_lead : {section : Option Section} {line : ℕ} {text : List ℕ} {entries : List Entry}
+    → Reads section line text entries None
+    → (next : Option Section) × (end : ℕ) × Leads section line text entries next end []
+reads_lead {section = section} {line = line} file.ends = (section, line, reached.here)
+reads_lead (file.blank is h) = let (next, end, leads) = reads_lead h in (next, end, reached.blank is leads)
+reads_lead (file.line_end is h) = let (next, end, leads) = reads_lead h in (next, end, reached.line_end is leads)
+reads_lead (file.comment is run h) = let (next, end, leads) = reads_lead h in (next, end, reached.comment is run leads)
+reads_lead (file.header is header h) =
+    let (next, end, leads) = reads_lead h in (next, end, reached.header is header leads)
+reads_lead (file.entry letter takes h) =
+    let (next, end, leads) = reads_lead h in (next, end, reached.entry letter takes leads)
 
-pub all_kept : {May : List ℕ → List ℕ → Type 0} (bytes : List ℕ) → Changes May bytes bytes
-all_kept bytes = spec.kept bytes spec.none
+pub reaches_behind : {text mark body rest : List ℕ} {contents before : List Content}
+    → IsSplit text mark body → Ends None body contents → ComesBehind body before rest → ReachesBehind text before rest
+reaches_behind split ends (inl (section, (front, joined, holds))) = (section, reaches front split ends joined holds)
+reaches_behind {body = body} split ends (inr (none, whole)) =
+    let (line, begins) = split_begins split ends in
+    let (entries, reads, same) = whole line in
+    let (section, end, leads) = reads_lead reads in (
+      section,
+      record {
+        line = line;
+        body = body;
+        end = end;
+        entries = entries;
+        begins = begins;
+        leads = subst (λ r. Leads None line body entries section end r) (sym none) leads;
+        contents_are = same;
+      },
+    )
+
+-- a text with its mark, of whose body stretches change
+pub becomes_marked : {M : List Content → Option Section → List ℕ → List ℕ → List ℕ → Type 0} {text mark body new : List ℕ}
+    {contents : List Content}
+    → IsSplit text mark body → Ends None body contents → Becomes (Comes body) M body [] new
+    → Changes M text (mark ++ new)
+becomes_marked {M = M} {text = text} {mark = mark} {new = new} split ends h =
+    let moved = becomes_more {Q = Reaches text} (λ before section left (front, joined, holds). reaches front split ends joined holds)
+    (λ before section gone put left may. may) h in
+    subst (λ t. Becomes (Reaches text) M t [] (mark ++ new)) (sym (split_joined split)) (becomes_behind mark moved)
 
 pub section_renamed : {text mark body new edited old_name new_name : List ℕ} (entries : List Entry)
     (from to : Key)
     → IsFile text entries None → IsSplit text mark body
     → NamesSection old_name from → NamesSection new_name to
-    → (now : List Content) × Ends None new now × Renames from to (map content entries) now × Changes (RenamesHeader from to) body new
+    → (now : List Content) × Ends None new now × Renames from to (map content entries) now × Becomes (Comes body) (RenamesHeader from to) body [] new
     → edited ≡ mark ++ new → RenamesSection old_name new_name text edited
 section_renamed {text = text} {mark = mark} {body = body} {new = new} entries from to is_file split names names_now (now, ends, renames, changes) edited_is =
     let whole : Changes (RenamesHeader from to) text (mark ++ new) =
-    subst (λ t. Changes (RenamesHeader from to) t (mark ++ new)) (sym (split_joined split))
-    (changes_both mark mark (all_kept mark) changes) in
+    becomes_marked split (body_ends is_file split) changes in
     rw edited_is (
       map content entries,
       (entries, is_file, refl),

@@ -17,12 +17,15 @@ pub mod OneValue
 pub mod OneHeader
 pub mod OneEntry
 pub mod OneReading
+pub mod OnePlace
+pub mod WholeComments
 pub mod Plain
 pub mod Spellings
 pub mod SpelledHeaders
 pub mod LineEnds
 pub mod Shortest
 pub mod Appended
+pub mod Becomes
 pub mod AddedEntries
 pub mod EachValue
 pub mod EachReading
@@ -66,6 +69,7 @@ pub mod Replaced
 pub mod Closed
 pub mod Added
 pub mod EditedKeys
+pub mod KeptBehind
 pub mod EachEntry
 pub mod Removed
 pub mod Cleared

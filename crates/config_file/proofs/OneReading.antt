@@ -17,7 +17,7 @@ use Rattle.config_file.specs.File as file
 use Rattle.config_file.specs.File.{Entry, Reads, Begins, IsFile, begins_item, after_mark, IsPartOfMark}
 
 -- the kind of item that begins with a byte
-data Kind : Type 0 where
+pub data Kind : Type 0 where
   blank : Kind
   line_end : Kind
   comment : Kind
@@ -25,10 +25,10 @@ data Kind : Type 0 where
   entry : Kind
   nothing : Kind
 
-abbrev choose : Bool → Bool → Bool → Bool → Bool → Kind
+abbrev pub choose : Bool → Bool → Bool → Bool → Bool → Kind
 choose p q r s t = if p then blank else if q then line_end else if r then comment else if s then header else if t then entry else nothing
 
-abbrev kind : ℕ → Kind
+abbrev pub kind : ℕ → Kind
 kind b = choose (is_blank b) (b == 10) (is_comment_sign b) (b == 91) (is_ascii_alphabetic b)
 
 chosen_blank : (p q r s t : Bool) → p ≡ true → choose p q r s t ≡ blank
@@ -42,19 +42,19 @@ chosen_nothing : (p q r s t : Bool) → p ≡ false → q ≡ false → r ≡ fa
     → choose p q r s t ≡ nothing
 chosen_nothing p q r s t e f g h i = rw (e, f, g, h, i)
 
-kind_blank : (b : ℕ) → is_blank b ≡ true → kind b ≡ blank
+pub kind_blank : (b : ℕ) → is_blank b ≡ true → kind b ≡ blank
 kind_blank b is = chosen_blank _ (b == 10) (is_comment_sign b) (b == 91) (is_ascii_alphabetic b) is
 
-kind_line_end : (b : ℕ) → b ≡ 10 → kind b ≡ line_end
+pub kind_line_end : (b : ℕ) → b ≡ 10 → kind b ≡ line_end
 kind_line_end b is = rw is
 
-kind_header : (b : ℕ) → b ≡ 91 → kind b ≡ header
+pub kind_header : (b : ℕ) → b ≡ 91 → kind b ≡ header
 kind_header b is = rw is
 
 sign_cases : (b : ℕ) → is_comment_sign b ≡ true → (b ≡ 35) ⊎ (b ≡ 59)
 sign_cases b is = elim (cases_Bool (b == 35)) [ inl hash ↦ inl (eqb-true b 35 hash) | inr other ↦ inr (grind (arith, nat_tests)) ]
 
-kind_comment : (b : ℕ) → is_comment_sign b ≡ true → kind b ≡ comment
+pub kind_comment : (b : ℕ) → is_comment_sign b ≡ true → kind b ≡ comment
 kind_comment b is = elim (sign_cases b is) [ inl e ↦ rw e | inr e ↦ rw e ]
 
 letter_facts : (b : ℕ) → is_ascii_alphabetic b ≡ true
@@ -65,7 +65,7 @@ nothing_facts : (b : ℕ) → begins_item b ≡ false
     → (is_blank b ≡ false) × ((b == 10) ≡ false) × (is_comment_sign b ≡ false) × ((b == 91) ≡ false) × (is_ascii_alphabetic b ≡ false)
 nothing_facts b is = (grind (arith, nat_tests), grind (arith, nat_tests), grind (arith, nat_tests), grind (arith, nat_tests), grind (arith, nat_tests))
 
-kind_entry : (b : ℕ) → is_ascii_alphabetic b ≡ true → kind b ≡ entry
+pub kind_entry : (b : ℕ) → is_ascii_alphabetic b ≡ true → kind b ≡ entry
 kind_entry b is =
     let (not_blank, not_line_end, not_sign, not_bracket) = letter_facts b is in
     chosen_entry _ _ _ _ _ not_blank not_line_end not_sign not_bracket is
@@ -202,7 +202,7 @@ mark_is_whole (a ∷ b ∷ c ∷ text) rest e (is, inl end) =
 mark_is_whole (a ∷ b ∷ c ∷ text) rest e (is, inr (next, end)) =
     let (second, last) = mark_bytes a b c text rest e in no_end c text (omega arith) (omega arith) end
 
-begins_only : {text r s : List ℕ} {m n : ℕ} → Begins text m r → Begins text n s → (m ≡ n) × (r ≡ s)
+pub begins_only : {text r s : List ℕ} {m n : ℕ} → Begins text m r → Begins text n s → (m ≡ n) × (r ≡ s)
 begins_only (file.marked e) (file.marked f) = (refl, some_is (sym e ∙ f))
 begins_only (file.marked {text = text} {rest = rest} e) (file.part_of_mark h) = absurd (mark_is_whole text rest e h)
 begins_only (file.marked e) (file.unmarked f h) = absurd (none_is_not_some (sym f ∙ e))

@@ -16,8 +16,10 @@ use Rattle.config_file.specs.Header.{Section, Header, HeaderStops, plain, quoted
 use Rattle.config_file.specs.Value.{TakesValue, closed, open_end, EndsValue}
 use Rattle.config_file.specs.File as file
 use Rattle.config_file.specs.File.{Entry, entry_at, TakesKey, TakesEntry, EntryStops, alone, valued, Reads}
+use Rattle.config_file.specs.Reached.{Leads}
+use Rattle.config_file.specs.Reached as reached
 use Rattle.config_file.specs.Reading.Edits as edit
-use Rattle.config_file.specs.Reading.Edits.{Leads, Holds, Ends, Passed, anywhere, at_end, IsHeaderAt, IsMade}
+use Rattle.config_file.specs.Reading.Edits.{Holds, Ends, Passed, anywhere, at_end, IsHeaderAt, IsMade}
 use Rattle.config_file.specs.Reading.Edits.{IsRead, GoesOn, StartsLine, IsPiece, contents_in, section_after}
 use Rattle.config_file.specs.Edit.{AreBlank, IsComment, absent, present, IsTail, IsEntry}
 use Rattle.config_file.proofs.LineEnds.{not_none}
@@ -31,24 +33,24 @@ pub compose : {section next : Option Section} {line end : ℕ} {text rest : List
     {error : Option FileError}
     → Leads section line text entries next end rest → Reads next end rest later error
     → Reads section line text (entries ++ later) error
-compose edit.here h = h
-compose (edit.blank is leads) h = file.blank is (compose leads h)
-compose (edit.line_end is leads) h = file.line_end is (compose leads h)
-compose (edit.comment is run leads) h = file.comment is run (compose leads h)
-compose (edit.header is header leads) h = file.header is header (compose leads h)
-compose (edit.entry letter takes leads) h = file.entry letter takes (compose leads h)
+compose reached.here h = h
+compose (reached.blank is leads) h = file.blank is (compose leads h)
+compose (reached.line_end is leads) h = file.line_end is (compose leads h)
+compose (reached.comment is run leads) h = file.comment is run (compose leads h)
+compose (reached.header is header leads) h = file.header is header (compose leads h)
+compose (reached.entry letter takes leads) h = file.entry letter takes (compose leads h)
 
 -- two readings, one after the other
 pub onward : {section middle next : Option Section} {line half end : ℕ} {text at rest : List ℕ}
     {entries later : List Entry}
     → Leads section line text entries middle half at → Leads middle half at later next end rest
     → Leads section line text (entries ++ later) next end rest
-onward edit.here h = h
-onward (edit.blank is leads) h = edit.blank is (onward leads h)
-onward (edit.line_end is leads) h = edit.line_end is (onward leads h)
-onward (edit.comment is run leads) h = edit.comment is run (onward leads h)
-onward (edit.header is header leads) h = edit.header is header (onward leads h)
-onward (edit.entry letter takes leads) h = edit.entry letter takes (onward leads h)
+onward reached.here h = h
+onward (reached.blank is leads) h = reached.blank is (onward leads h)
+onward (reached.line_end is leads) h = reached.line_end is (onward leads h)
+onward (reached.comment is run leads) h = reached.comment is run (onward leads h)
+onward (reached.header is header leads) h = reached.header is header (onward leads h)
+onward (reached.entry letter takes leads) h = reached.entry letter takes (onward leads h)
 
 -- the second text can stand for the first after an item: it looks the same to whatever ends before it
 pub record Follows (rest other : List ℕ) : Type 0 where
@@ -210,7 +212,7 @@ pub blanks_lead : {section next : Option Section} {line end : ℕ} {text rest : 
     → Leads section line (blanks ++ text) entries next end rest
 blanks_lead [] all leads = leads
 blanks_lead (b ∷ blanks) all leads =
-    edit.blank (first_blank b blanks all) (blanks_lead blanks (other_blanks b blanks all) leads)
+    reached.blank (first_blank b blanks all) (blanks_lead blanks (other_blanks b blanks all) leads)
 
 pub blanks_read : {section : Option Section} {line : ℕ} {text : List ℕ} {entries : List Entry}
     {error : Option FileError} (blanks : List ℕ)
@@ -224,9 +226,9 @@ blanks_read (b ∷ blanks) all reads =
 comment_leads : {comment : List ℕ} → IsComment comment
     → (section : Option Section) (line : ℕ) (other : List ℕ)
     → Leads section line (comment ++ 10 ∷ other) [] section (line + 1) other
-comment_leads absent section line other = edit.line_end refl edit.here
+comment_leads absent section line other = reached.line_end refl reached.here
 comment_leads (present is all) section line other =
-    edit.comment is (record { joined = refl; pass = all; longest = refl }) (edit.line_end refl edit.here)
+    reached.comment is (record { joined = refl; pass = all; longest = refl }) (reached.line_end refl reached.here)
 
 comment_ends : {comment : List ℕ} → IsComment comment → (section : Option Section) (line : ℕ)
     → Reads section line comment [] None
@@ -278,7 +280,7 @@ pub header_holds : {new : Section} {blanks bytes : List ℕ} → AreBlank blanks
 header_holds {new = new} {blanks = blanks} {bytes = bytes} all h section = λ line other.
     let whole : bytes ++ other ≡ blanks ++ 91 ∷ (h.inner ++ other) = ap (λ x. x ++ other) h.joined
     ∙ append_assoc blanks (91 ∷ h.inner) other in
-    (line, [], rw whole (blanks_lead blanks all (edit.header refl (h.header other) edit.here)), refl)
+    (line, [], rw whole (blanks_lead blanks all (reached.header refl (h.header other) reached.here)), refl)
 
 -- an entry with what is left of its line
 with_rest : (tail rest prest : List ℕ) → prest ≡ tail ++ rest → (lead : List ℕ) → tail ≡ lead ++ 10 ∷ []
@@ -392,7 +394,7 @@ entry_holds {key = key} {at = at} {bytes = bytes} {rest = rest} {value = value} 
     subst (λ x. TakesEntry (x ++ (e.tail ++ other)) key value lines (e.tail ++ other)) front_is moved in
     let line_then = line + lines in
     let leads =
-    edit.entry {section = section} {line = line} letter here (tail_leads refl t section line_then other) in
+    reached.entry {section = section} {line = line} letter here (tail_leads refl t section line_then other) in
     let whole : bytes ++ other ≡ blanks ++ (b ∷ (inner ++ (e.tail ++ other))) =
     ap (λ x. x ++ other) e.joined ∙ append_assoc blanks (e.front ++ e.tail) other
     ∙ ap (λ x. blanks ++ x) (append_assoc e.front e.tail other ∙ ap (λ x. x ++ (e.tail ++ other)) front_is) in
@@ -464,7 +466,7 @@ entry_stops {lines = lines} {fault = fault} (b, more, begins, letter) stops sect
       (file.entry_refused letter (subst (λ x. EntryStops x lines fault) begins stops)),
 )
 
-first_of : (blanks more : List ℕ) {b c : ℕ} {rest : List ℕ} → blanks ++ b ∷ more ≡ c ∷ rest → AreBlank blanks
+pub first_of : (blanks more : List ℕ) {b c : ℕ} {rest : List ℕ} → blanks ++ b ∷ more ≡ c ∷ rest → AreBlank blanks
     → is_blank c ≡ false → b ≡ c
 first_of [] more e all no_blank = cc
 first_of (x ∷ blanks) more {c = c} e all no_blank =

@@ -15,17 +15,18 @@ use Rattle.config_file.specs.Header.{Section}
 use Rattle.config_file.specs.Key.{Key}
 use Rattle.config_file.specs.Edit as spec
 use Rattle.config_file.specs.Edit.{Content, IsTail, IsIn, IsOf, Without, HasNone, HasSeveral, LosesOne}
-use Rattle.config_file.specs.Edit.{Changes, MayUnset, LosesEntry, LosesHeader, IsLostTail, IsHeaderOf, IsEnd}
+use Rattle.config_file.specs.Edit.{Becomes, MayUnset, LosesEntry, LosesHeader, IsLostTail, IsHeaderOf, IsEnd}
 use Rattle.config_file.specs.Edit.{AreBlank, IsEntry}
 use Rattle.config_file.specs.Reading.Edits as edit
 use Rattle.config_file.specs.Reading.Edits.{Holds, Ends, Passed, anywhere, at_end, IsRead, IsMade, IsHeaderAt}
 use Rattle.config_file.specs.Reading.Edits.{IsPiece, contents_in, section_after, IsPast, IsEntryHeld}
 use Rattle.config_file.specs.Reading.Edits.{content_of, Counted, one_more, IsHead, IsGroup, Losing}
-use Rattle.config_file.specs.Reading.Edits.{IsFinished, IsPushed, IsTaken, is_blank_held}
+use Rattle.config_file.specs.Reading.Edits.{IsFinished, IsPushed, IsTaken, is_blank_held, Comes, IsComeTo}
 use Rattle.config_file.specs.Views.{section_of, value_of}
 use Rattle.config_file.proofs.Pieces.{made_passed}
 use Rattle.config_file.proofs.Edits.{holds_nothing, holds_join, passed_holds, passed_join, passed_ends}
-use Rattle.config_file.proofs.Edits.{all_passed, some_left, changes_both, all_kept}
+use Rattle.config_file.proofs.Edits.{all_passed, some_left}
+use Rattle.config_file.proofs.Becomes.{becomes_before, becomes_both}
 use Rattle.config_file.proofs.Changed.{both_blank}
 use Rattle.config_file.proofs.Replaced.{holds_then, other_after, past_begins, past_more, end_holds}
 use Rattle.config_file.proofs.Replaced.{without_both, none_in}
@@ -106,6 +107,7 @@ losing_begins key text g head_is body_is in_head has_lost is_kept =
       past = past_begins text;
       new_is = holds_nothing None;
       changes = spec.none;
+      begins = ([], None, ([], refl, holds_nothing None));
       group = record {
         passed = rw (head_is, body_is) (anywhere (holds_nothing None));
         in_head = λ is. absurd (true≢false (sym is ∙ in_head));
@@ -120,30 +122,33 @@ losing_begins key text g head_is body_is in_head has_lost is_kept =
     }
 
 -- a section that is finished
-finished : {key : Key} {g : Group} {put : List ℕ} (head_was body_was rest : List ℕ) (now : List Content)
+finished : {key : Key} {g : Group} {text put : List ℕ} (head_was body_was rest : List ℕ) (now : List Content)
     (base section : Option Section)
-    → IsGroup key g head_was body_was now base section rest → IsFinished g put
-    → (next : Option Section) × Passed base put now next rest × Changes (MayUnset key) (head_was ++ body_was) put
-finished {g = g} head_was body_was rest now base section group edit.whole =
-    (section, group.passed, changes_both head_was g.head.items group.head_changes group.body_changes)
-finished {key = key} {g = g} head_was body_was rest now base section group (edit.without_head {end = end} not_kept has_lost is_end) =
+    → IsComeTo text (head_was ++ (body_was ++ rest))
+    → IsGroup key g text head_was body_was now base section rest → IsFinished g put
+    → (next : Option Section) × Passed base put now next rest × Becomes (Comes text) (MayUnset key) (head_was ++ body_was) rest put
+finished {g = g} head_was body_was rest now base section begins group edit.whole =
+    (section, group.passed, becomes_both head_was g.head.items group.head_changes group.body_changes)
+finished {key = key} {g = g} {text = text} head_was body_was rest now base section (before, at, place) group (edit.without_head {end = end} not_kept has_lost is_end) =
     let (nothing, empty) = group.empty not_kept in
     let head = group.can_go not_kept (group.in_section has_lost) in
-    let gone : LosesHeader key head_was end =
+    let gone : LosesHeader key head_was end (body_was ++ rest) =
     record { blanks = head.blanks; header = head.header; tail = head.tail; joined = head.joined; are_blank = head.are_blank; is_header = head.is_header; is_tail = head.is_tail; is_end = is_end } in
     let passed : Passed base (end ++ g.body.items) [] base rest =
-    holds_then end g.body.items (end_holds base end is_end) (empty base) in (
+    holds_then end g.body.items (end_holds base end is_end) (empty base) in
+    let may : MayUnset key before at head_was end (body_was ++ rest) = inr gone in
+    let here : Becomes (Comes text) (MayUnset key) head_was (body_was ++ rest) end = spec.changed spec.none place may in (
       base,
       subst (λ c. Passed base (end ++ g.body.items) c base rest) (sym nothing) passed,
-      changes_both head_was end (spec.changed spec.none (inr gone)) group.body_changes,
+      becomes_both head_was end here group.body_changes,
     )
 
 -- another section begins
 pub header_may_go : (key : Key) (h : Held) (header : code.Section) (blanks bytes rest : List ℕ)
     (is_line : Bool)
     → h ≡ held.Header header → AreBlank blanks → IsMade h blanks bytes rest is_line
-    → IsIn key (Some (section_of header)) → (goes_on : Bool) → IsHead key bytes goes_on
-header_may_go key h header blanks bytes rest is_line e all made is goes_on =
+    → IsIn key (Some (section_of header)) → (goes_on : Bool) → (left : List ℕ) → IsHead key bytes left goes_on
+header_may_go key h header blanks bytes rest is_line e all made is goes_on left =
     let at : IsHeaderAt (section_of header) blanks bytes =
     subst (λ x. IsMade x blanks bytes rest is_line) e made in
     record {
@@ -170,7 +175,7 @@ losing_header {key = key} {text = text} {rest = rest} {new = new} {put = put} {s
     let more = contents_in piece.held section in
     let was = r.head_was ++ r.body_was in
     let (next, passed, changes) =
-    finished r.head_was r.body_was rest r.now_group r.base section r.group done in
+    finished r.head_was r.body_was rest r.now_group r.base section r.begins r.group done in
     let no_entry : HasNone key more =
     none_in piece.held section (λ entry. subst (IsEntryHeld key section) e entry) in
     let nothing : (s : Option Section) → contents_in piece.held s ≡ [] = λ s. ap (λ h. contents_in h s) e in
@@ -198,20 +203,26 @@ losing_header {key = key} {text = text} {rest = rest} {new = new} {put = put} {s
       past = subst (λ f. IsPast text piece.rest.now f (r.old ++ more)
           (section_after piece.held section)) front_is past;
       new_is = holds_join new put r.new_is (passed_holds some passed);
-      changes = changes_both r.front new r.changes changes;
+      changes = becomes_before (becomes_both r.front new r.changes changes)
+          (is.joined ∙ ap (λ b. b ++ piece.rest.now) (sym (append-nil bytes)));
+      begins = (
+        r.old,
+        section,
+        (r.front ++ was, r.past.joined ∙ ap (λ x. (r.front ++ was) ++ x) is.joined, passed_holds some r.past.passed),
+      );
       group = record {
         passed = subst (λ t. Passed next t more
             (section_after piece.held section) piece.rest.now) group_text group_passed;
         in_head = λ on. (body_is, refl);
-        head_changes = subst (λ h. Changes (MayUnset key) bytes h) (sym head_is) (all_kept bytes);
-        body_changes = subst (λ b. Changes (MayUnset key) [] b) (sym body_is) spec.none;
+        head_changes = subst (λ h. Becomes (Comes text) (MayUnset key) bytes piece.rest.now h) (sym head_is) (spec.kept bytes spec.none);
+        body_changes = subst (λ b. Becomes (Comes text) (MayUnset key) [] piece.rest.now b) (sym body_is) spec.none;
         in_section = λ lost. absurd (true≢false (sym lost ∙ has_lost));
         empty = λ not_kept. (
           nothing section,
           λ any. subst (λ b. Passed any b [] any piece.rest.now)
               (sym body_is) (anywhere (holds_nothing any)),
         );
-        can_go = λ not_kept is_in. header_may_go key piece.held header piece.blanks.now bytes piece.rest.now piece.is_line e is.blank is.made (subst (IsIn key) (after section) is_in) now.in_head;
+        can_go = λ not_kept is_in. header_may_go key piece.held header piece.blanks.now bytes piece.rest.now piece.is_line e is.blank is.made (subst (IsIn key) (after section) is_in) now.in_head piece.rest.now;
       };
       without = without_both r.old (r.now ++ r.now_group) r.without no_entry;
       counted = count_kept key r.old (r.now ++ r.now_group) more n r.counted no_entry;
@@ -250,6 +261,22 @@ was_joined front head_was body_was bytes (edit.to_body off head body) nothing =
     append_assoc front (head_was ++ body_was) bytes
     ∙ ap (λ h. front ++ h) (append_assoc head_was body_was bytes)
 
+-- what follows the front of a section, and its head, is the same text
+left_joined : {g now : Group} {put rest : List ℕ} (head_was body_was bytes more : List ℕ)
+    → (p : IsPushed g now put) → (g.in_head ≡ true → body_was ≡ []) → rest ≡ bytes ++ more
+    → (head_was ++ body_was) ++ rest ≡ (head_with p head_was bytes ++ body_with p body_was bytes) ++ more
+left_joined head_was body_was bytes more p nothing joined =
+    ap (λ x. (head_was ++ body_was) ++ x) joined ∙ sym (append_assoc (head_was ++ body_was) bytes more)
+    ∙ ap (λ x. x ++ more) (was_joined [] head_was body_was bytes p nothing)
+
+begun : {g now : Group} {put text rest : List ℕ} (head_was body_was bytes more : List ℕ)
+    → (p : IsPushed g now put) → (g.in_head ≡ true → body_was ≡ []) → rest ≡ bytes ++ more
+    → IsComeTo text (head_was ++ (body_was ++ rest))
+    → IsComeTo text (head_with p head_was bytes ++ (body_with p body_was bytes ++ more))
+begun {text = text} {rest = rest} head_was body_was bytes more p nothing joined come =
+    subst (λ t. IsComeTo text t) (sym (append_assoc head_was body_was rest) ∙ left_joined head_was body_was bytes more p nothing joined
+    ∙ append_assoc (head_with p head_was bytes) (body_with p body_was bytes) more) come
+
 -- a piece that stays
 is_kept_before : (kept blank : Bool) → (kept || not blank) ≡ false → (kept ≡ false) × (blank ≡ true)
 is_kept_before true blank e = absurd (true≢false e)
@@ -270,9 +297,9 @@ blank_holds_none held.Comment section blank = absurd (true≢false (sym blank))
 blank_holds_none (held.Header header) section blank = absurd (true≢false (sym blank))
 blank_holds_none (held.Entry parts) section blank = absurd (true≢false (sym blank))
 
-tail_is_lost : (key : Key) (bytes blanks rest : List ℕ) (is_line : Bool) → AreBlank blanks
-    → edit.IsBlankLine blanks bytes rest is_line → IsLostTail key bytes
-tail_is_lost key bytes blanks rest is_line all (tail, joined, t, none) =
+tail_is_lost : (key : Key) (section : Section) (bytes blanks rest : List ℕ) (is_line : Bool) → AreBlank blanks
+    → edit.IsBlankLine blanks bytes rest is_line → IsLostTail key section bytes rest
+tail_is_lost key section bytes blanks rest is_line all (tail, joined, t, none) =
     let both : AreBlank (blanks ++ t.blanks) = both_blank blanks t.blanks all t.are_blank in
     let whole : IsTail bytes rest is_line =
     record {
@@ -294,13 +321,14 @@ tail_is_lost key bytes blanks rest is_line all (tail, joined, t, none) =
         )
       ];
     } in
-    inr (inl (rest, is_line, whole, none))
+    inr (inl (is_line, whole, none))
 
 -- a head to which a piece is pushed that leaves it empty
-head_more : {key : Key} {g now : Group} {put bytes head_was : List ℕ} → (p : IsPushed g now put)
-    → IsHead key head_was g.in_head → IsLostTail key bytes → now.in_head ≡ false
-    → IsHead key (head_with p head_was bytes) now.in_head
-head_more {bytes = bytes} {head_was = head_was} (edit.to_head on h b) head lost off =
+head_more : {key : Key} {g now : Group} {put bytes head_was body_was rest more : List ℕ} → (p : IsPushed g now put)
+    → (head : IsHead key head_was (body_was ++ rest) g.in_head) → IsLostTail key head.is_header.1 bytes more
+    → (g.in_head ≡ true → body_was ≡ []) → rest ≡ bytes ++ more → now.in_head ≡ false
+    → IsHead key (head_with p head_was bytes) (body_with p body_was bytes ++ more) now.in_head
+head_more {key = key} {bytes = bytes} {head_was = head_was} {body_was = body_was} {more = more} (edit.to_head on h b) head lost nothing left off =
     let joined : head_was ++ bytes ≡ head.blanks ++ (head.header ++ bytes) =
     ap (λ w. w ++ bytes) (head.joined ∙ ap (λ t. head.blanks ++ (head.header ++ t)) (head.alone on) ∙ ap
     (λ h. head.blanks ++ h) (append-nil head.header))
@@ -312,10 +340,10 @@ head_more {bytes = bytes} {head_was = head_was} (edit.to_head on h b) head lost 
       joined = joined;
       are_blank = head.are_blank;
       is_header = head.is_header;
-      is_tail = lost;
+      is_tail = subst (λ w. IsLostTail key head.is_header.1 bytes (w ++ more)) (sym (nothing on)) lost;
       alone = λ still. absurd (true≢false (sym still ∙ off));
     }
-head_more (edit.to_body off_before h b) head lost off =
+head_more {key = key} {bytes = bytes} {body_was = body_was} {more = more} (edit.to_body off_before h b) head lost nothing left off =
     record {
       blanks = head.blanks;
       header = head.header;
@@ -323,27 +351,36 @@ head_more (edit.to_body off_before h b) head lost off =
       joined = head.joined;
       are_blank = head.are_blank;
       is_header = head.is_header;
-      is_tail = head.is_tail;
+      is_tail = subst (λ w. IsLostTail key head.is_header.1 head.tail w)
+          (ap (λ r. body_was ++ r) left ∙ sym (append_assoc body_was bytes more)) head.is_tail;
       alone = λ still. absurd (true≢false (sym still ∙ off));
     }
 
-head_changed : {key : Key} {g now : Group} {put : List ℕ} (bytes head_was : List ℕ) → (p : IsPushed g now put)
-    → Changes (MayUnset key) head_was g.head.items
-    → (Changes (MayUnset key) bytes put) → Changes (MayUnset key) (head_with p head_was bytes) now.head.items
-head_changed {key = key} {g = g} bytes head_was (edit.to_head on head body) before here =
-    subst (λ n. Changes (MayUnset key) (head_was ++ bytes) n) (sym head)
-    (changes_both head_was g.head.items before here)
-head_changed {key = key} bytes head_was (edit.to_body off head body) before here =
-    subst (λ n. Changes (MayUnset key) head_was n) (sym head) before
+head_changed : {key : Key} {text : List ℕ} {g now : Group} {put rest more : List ℕ} (bytes head_was body_was : List ℕ)
+    → (p : IsPushed g now put) → (g.in_head ≡ true → body_was ≡ []) → rest ≡ bytes ++ more
+    → Becomes (Comes text) (MayUnset key) head_was (body_was ++ rest) g.head.items
+    → Becomes (Comes text) (MayUnset key) bytes more put
+    → Becomes (Comes text) (MayUnset key) (head_with p head_was bytes) (body_with p body_was bytes ++ more) now.head.items
+head_changed {key = key} {text = text} {g = g} {rest = rest} {more = more} bytes head_was body_was (edit.to_head on head body) nothing left before here =
+    let first = becomes_before before (ap (λ w. w ++ rest) (nothing on) ∙ left) in
+    let whole = becomes_before (becomes_both head_was g.head.items first here) (ap (λ w. w ++ more) (sym (nothing on))) in
+    subst (λ n. Becomes (Comes text) (MayUnset key) (head_was ++ bytes) (body_was ++ more) n) (sym head) whole
+head_changed {key = key} {text = text} {more = more} bytes head_was body_was (edit.to_body off head body) nothing left before here =
+    subst (λ n. Becomes (Comes text) (MayUnset key) head_was ((body_was ++ bytes) ++ more) n) (sym head)
+    (becomes_before before (ap (λ r. body_was ++ r) left ∙ sym (append_assoc body_was bytes more)))
 
-body_changed : {key : Key} {g now : Group} {put : List ℕ} (bytes body_was : List ℕ) → (p : IsPushed g now put)
-    → Changes (MayUnset key) body_was g.body.items
-    → (Changes (MayUnset key) bytes put) → Changes (MayUnset key) (body_with p body_was bytes) now.body.items
-body_changed {key = key} bytes body_was (edit.to_head on head body) before here =
-    subst (λ n. Changes (MayUnset key) body_was n) (sym body) before
-body_changed {key = key} {g = g} bytes body_was (edit.to_body off head body) before here =
-    subst (λ n. Changes (MayUnset key) (body_was ++ bytes) n) (sym body)
-    (changes_both body_was g.body.items before here)
+body_changed : {key : Key} {text : List ℕ} {g now : Group} {put rest more : List ℕ} (bytes body_was : List ℕ)
+    → (p : IsPushed g now put) → (g.in_head ≡ true → body_was ≡ []) → (g.in_head ≡ true → g.body.items ≡ [])
+    → rest ≡ bytes ++ more
+    → Becomes (Comes text) (MayUnset key) body_was rest g.body.items
+    → Becomes (Comes text) (MayUnset key) bytes more put
+    → Becomes (Comes text) (MayUnset key) (body_with p body_was bytes) more now.body.items
+body_changed {key = key} {text = text} {more = more} bytes body_was (edit.to_head on head body) nothing empty left before here =
+    subst (λ n. Becomes (Comes text) (MayUnset key) body_was more n) (sym (body ∙ empty on))
+    (subst (λ o. Becomes (Comes text) (MayUnset key) o more []) (sym (nothing on)) spec.none)
+body_changed {key = key} {text = text} {g = g} {more = more} bytes body_was (edit.to_body off head body) nothing empty left before here =
+    subst (λ n. Becomes (Comes text) (MayUnset key) (body_was ++ bytes) more n) (sym body)
+    (becomes_both body_was g.body.items (becomes_before before left) here)
 
 empty_body : {g now : Group} {put rest more : List ℕ} → IsPushed g now put → rest ≢ []
     → (g.in_head ≡ true → g.body.items ≡ []) → (any : Option Section) → Passed any g.body.items [] any rest
@@ -374,7 +411,7 @@ losing_keeps {key = key} {text = text} {rest = rest} {new = new} {section = sect
     passed_join some group.passed
     (made_passed piece.held piece.blanks.now piece.is_line is.blank is.made section) in
     let past = past_more piece r.past is shorter in
-    let kept_changes : Changes (MayUnset key) bytes bytes = all_kept bytes in
+    let kept_changes : Becomes (Comes text) (MayUnset key) bytes piece.rest.now bytes = spec.kept bytes spec.none in
     record {
       front = r.front;
       head_was = head_with pushed r.head_was bytes;
@@ -386,13 +423,14 @@ losing_keeps {key = key} {text = text} {rest = rest} {new = new} {section = sect
       past = subst (λ f. IsPast text piece.rest.now f (r.old ++ more) (section_after piece.held section))
           (was_joined r.front r.head_was r.body_was bytes pushed was_nothing) past;
       new_is = r.new_is;
-      changes = r.changes;
+      changes = becomes_before r.changes (left_joined r.head_was r.body_was bytes piece.rest.now pushed was_nothing is.joined);
+      begins = begun r.head_was r.body_was bytes piece.rest.now pushed was_nothing is.joined r.begins;
       group = record {
         passed = subst (λ t. Passed r.base t (r.now_group ++ more)
             (section_after piece.held section) piece.rest.now) (pushed_text pushed nothing) passed;
         in_head = λ still. absurd (true≢false (sym still ∙ off));
-        head_changes = head_changed bytes r.head_was pushed group.head_changes kept_changes;
-        body_changes = body_changed bytes r.body_was pushed group.body_changes kept_changes;
+        head_changes = head_changed bytes r.head_was r.body_was pushed was_nothing is.joined group.head_changes kept_changes;
+        body_changes = body_changed bytes r.body_was pushed was_nothing nothing is.joined group.body_changes kept_changes;
         in_section = λ lost. subst (IsIn key) (sym same) (group.in_section (sym lost_is ∙ lost));
         empty = λ not_kept.
             let (before, blank) =
@@ -410,9 +448,10 @@ losing_keeps {key = key} {text = text} {rest = rest} {new = new} {section = sect
         can_go = λ not_kept is_in.
             let (before, blank) =
             is_kept_before g.is_kept (is_blank_held piece.held) (sym kept_is ∙ not_kept) in
-            head_more pushed (group.can_go before (subst (IsIn key) same is_in))
-            (tail_is_lost key bytes piece.blanks.now piece.rest.now piece.is_line is.blank
-            (blank_line piece.held piece.blanks.now bytes piece.rest.now piece.is_line blank is.made)) off;
+            let head = group.can_go before (subst (IsIn key) same is_in) in
+            head_more pushed head
+            (tail_is_lost key head.is_header.1 bytes piece.blanks.now piece.rest.now piece.is_line is.blank
+            (blank_line piece.held piece.blanks.now bytes piece.rest.now piece.is_line blank is.made)) was_nothing is.joined off;
       };
       without = subst (λ c. Without key (r.old ++ more) c) (append_assoc r.now r.now_group more)
           (without_both r.old (r.now ++ r.now_group) r.without no_entry);
@@ -425,12 +464,12 @@ entry_is_lost : (key : Key) (h : Held) (parts : EntryParts) (section : Option Se
     (is_line : Bool) (put : List ℕ)
     → h ≡ held.Entry parts → AreBlank blanks
     → IsMade h blanks bytes rest is_line → IsOf key (content_of section parts) → IsEnd put
-    → LosesEntry key bytes put
+    → LosesEntry key section bytes put rest
 entry_is_lost key h parts section blanks bytes rest is_line put e all made is end =
     let entry : IsEntry parts.key.now
     (value_of parts.value) parts.lines parts.rest.now blanks bytes rest is_line =
     subst (λ x. IsMade x blanks bytes rest is_line) e made in
-    (content_of section parts, parts.lines, parts.rest.now, blanks, rest, is_line, is, all, entry, end)
+    (parts.key.now, value_of parts.value, parts.lines, parts.rest.now, blanks, is_line, is, all, entry, end)
 
 pub losing_loses : {key : Key} {text rest new : List ℕ} {section : Option Section} {g : Group} {n : Count}
     (now : Group) (piece : Piece) (parts : EntryParts) (put : List ℕ)
@@ -460,9 +499,15 @@ losing_loses {key = key} {text = text} {rest = rest} {new = new} {section = sect
     (subst (λ c. Passed r.base ((g.head.items ++ g.body.items) ++ put) c section piece.rest.now)
     (append-nil r.now_group) (anywhere with_end))) in
     let past = past_more piece r.past is shorter in
-    let loses : LosesEntry key bytes put =
+    let loses : LosesEntry key section bytes put piece.rest.now =
     entry_is_lost key piece.held parts section piece.blanks.now bytes piece.rest.now piece.is_line put e is.blank is.made is_of is_end in
-    let here : Changes (MayUnset key) bytes put = spec.changed spec.none (inl loses) in
+    let place : Comes text r.old section (bytes ++ piece.rest.now) = (
+      r.front ++ (r.head_was ++ r.body_was),
+      r.past.joined ∙ ap (λ x. (r.front ++ (r.head_was ++ r.body_was)) ++ x) is.joined,
+      passed_holds some r.past.passed,
+    ) in
+    let may : MayUnset key r.old section bytes put piece.rest.now = inl loses in
+    let here : Becomes (Comes text) (MayUnset key) bytes piece.rest.now put = spec.changed spec.none place may in
     record {
       front = r.front;
       head_was = head_with pushed r.head_was bytes;
@@ -476,12 +521,13 @@ losing_loses {key = key} {text = text} {rest = rest} {new = new} {section = sect
           (subst (λ o. IsPast text piece.rest.now ((r.front ++ (r.head_was ++ r.body_was)) ++ bytes) o
           (section_after piece.held section)) old_is past);
       new_is = r.new_is;
-      changes = r.changes;
+      changes = becomes_before r.changes (left_joined r.head_was r.body_was bytes piece.rest.now pushed was_nothing is.joined);
+      begins = begun r.head_was r.body_was bytes piece.rest.now pushed was_nothing is.joined r.begins;
       group = record {
         passed = passed;
         in_head = λ still. absurd (true≢false (sym still ∙ off));
-        head_changes = head_changed bytes r.head_was pushed group.head_changes here;
-        body_changes = body_changed bytes r.body_was pushed group.body_changes here;
+        head_changes = head_changed bytes r.head_was r.body_was pushed was_nothing is.joined group.head_changes here;
+        body_changes = body_changed bytes r.body_was pushed was_nothing nothing is.joined group.body_changes here;
         in_section = λ lost. subst (IsIn key) (sym same) is_of.0;
         empty = λ not_kept.
             let (none, empty) = group.empty (sym kept_is ∙ not_kept) in (
@@ -490,8 +536,11 @@ losing_loses {key = key} {text = text} {rest = rest} {new = new} {section = sect
                   (anywhere (end_holds any put is_end)),
             );
         can_go = λ not_kept is_in.
-            head_more pushed (group.can_go (sym kept_is ∙ not_kept) (subst (IsIn key) same is_in))
-            (inr (inr (entry_is_lost key piece.held parts section piece.blanks.now bytes piece.rest.now piece.is_line [] e is.blank is.made is_of (inl refl)))) off;
+            let head = group.can_go (sym kept_is ∙ not_kept) (subst (IsIn key) same is_in) in
+            let of_head : IsOf key (content_of (Some head.is_header.1) parts) = (head.is_header.4, is_of.1) in
+            head_more pushed head
+            (inr (inr (entry_is_lost key piece.held parts (Some head.is_header.1) piece.blanks.now bytes piece.rest.now piece.is_line [] e is.blank is.made of_head (inl refl))))
+            was_nothing is.joined off;
       };
       without = spec.lost x r.without is_of;
       counted = count_more key r.old (r.now ++ r.now_group) n x r.counted is_of;
@@ -506,17 +555,17 @@ pub losing_ends : {key : Key} {text rest new put : List ℕ} {contents : List Co
 losing_ends {key = key} {text = text} {rest = rest} {new = new} {put = put} {contents = contents} {section = section} taken r whole left done text_now =
     let (rest_is, text_is, contents_are) = all_passed r.past.joined r.past.passed whole left in
     let (next, passed, changes) =
-    finished r.head_was r.body_was rest r.now_group r.base section r.group done in
+    finished r.head_was r.body_was rest r.now_group r.base section r.begins r.group done in
     let now = r.now ++ r.now_group in
-    let all = changes_both r.front new r.changes changes in
+    let all = becomes_before (becomes_both r.front new r.changes changes) rest_is in
     record {
       now = now;
       ends = subst (λ t. Ends None t now) (sym text_now)
           (passed_ends rest_is (holds_then new put r.new_is passed));
       without = subst (λ c. Without key c now) contents_are r.without;
       counted = subst (λ c. Counted key c now taken.count) contents_are r.counted;
-      changes = subst (λ t. Changes (MayUnset key) t taken.text.items) (sym text_is)
-          (subst (λ n. Changes (MayUnset key) (r.front ++ (r.head_was ++ r.body_was)) n) (sym text_now) all);
+      changes = subst (λ t. Becomes (Comes text) (MayUnset key) t [] taken.text.items) (sym text_is)
+          (subst (λ n. Becomes (Comes text) (MayUnset key) (r.front ++ (r.head_was ++ r.body_was)) [] n) (sym text_now) all);
     }
 
 -- what is no header

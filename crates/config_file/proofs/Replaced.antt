@@ -2,6 +2,7 @@
 use Rattle.std.proofs.Common.{◌≡◌, ◌≢◌, ℕ, ◌+◌, ◌<◌, Bool, false, List, [], ◌∷◌, ◌++◌, Option, Some}
 use Rattle.std.proofs.Common.{None, is_some, length, refl, sym, ap, ◌∙◌, subst, append_assoc, append-nil, inl}
 use Rattle.std.proofs.Common.{inr, ◌⊎◌, true≢false}
+use Rattle.config_file.specs.declared.entry.EntryParts.{EntryParts}
 use Rattle.config_file.specs.declared.edit.setting.Found.{Found}
 use Rattle.config_file.specs.declared.edit.piece.Held.{Held}
 use Rattle.config_file.specs.declared.edit.piece.Held.TheVariants as held
@@ -14,23 +15,24 @@ use Rattle.config_file.specs.Listing as listing
 use Rattle.config_file.specs.Listing.{IsListed}
 use Rattle.config_file.specs.Key.{Key, HasKey}
 use Rattle.config_file.specs.Edit as spec
-use Rattle.config_file.specs.Edit.{Content, content, Changes, LosesEntry, MayReplace, IsIn, IsOf, Without}
-use Rattle.config_file.specs.Edit.{HasNone, HasSeveral, Replaces, ChangesBytes, ChangesOne, ChangesValue}
+use Rattle.config_file.specs.Edit.{Content, content, Becomes, LosesEntry, MayReplace, IsIn, IsOf, Without}
+use Rattle.config_file.specs.Edit.{HasNone, HasSeveral, Replaces, GivesValue}
 use Rattle.config_file.specs.Edit.{HasValue}
-use Rattle.config_file.specs.Reading.Edits as edit
+use Rattle.config_file.specs.Reached as reached
 use Rattle.config_file.specs.Reading.Edits.{Holds, Ends, Passed, anywhere, at_end, IsRead, IsMade, IsPiece}
 use Rattle.config_file.specs.Reading.Edits.{IsSet, contents_in, section_after, IsListable, IsPast, content_of}
 use Rattle.config_file.specs.Reading.Edits.{IsEntryHeld, IsFound, Replacing, IsReplaced, IsLeft}
 use Rattle.config_file.specs.Edit.{AreBlank, IsEntry, IsEnd}
+use Rattle.config_file.specs.Reading.Edits.{IsGiven, ChangesIn, SetsIn, Comes, MayLose}
 use Rattle.config_file.specs.Views.{value_of}
 use Rattle.std.proofs.lemmas.List.{append_cancel_right}
 use Rattle.config_file.proofs.EachReading.{not_empty}
 use Rattle.config_file.proofs.LineEnds.{rest_none}
-use Rattle.config_file.proofs.Changed.{change_in}
 use Rattle.config_file.proofs.Pieces.{entry_passed, made_passed}
 use Rattle.config_file.proofs.Edits.{holds_nothing, holds_join, holds_end, passed_holds, passed_join}
 use Rattle.config_file.proofs.Edits.{passed_ends, ends_once, not_read, some_left, joined_more}
-use Rattle.config_file.proofs.Edits.{header_listed, changes_both, all_kept}
+use Rattle.config_file.proofs.Edits.{header_listed, holds_blanks, comes_blanks}
+use Rattle.config_file.proofs.Becomes.{becomes_before, becomes_more, becomes_end, becomes_piece}
 
 -- texts one after the other
 pub holds_then : {section middle next : Option Section} {rest : List ℕ} (a b : List ℕ) {xs ys : List Content}
@@ -59,9 +61,9 @@ passed_then {rest = rest} a (b ∷ more) (at_end none first) second = absurd (no
 pub end_holds : (section : Option Section) (bytes : List ℕ) → IsEnd bytes → Holds section bytes [] section
 end_holds section bytes (inl none) = rw none (holds_nothing section)
 end_holds section bytes (inr (inl feed)) =
-    rw feed (λ line other. (line + 1, [], edit.line_end refl edit.here, refl))
+    rw feed (λ line other. (line + 1, [], reached.line_end refl reached.here, refl))
 end_holds section bytes (inr (inr return)) =
-    rw return (λ line other. (line + 1, [], edit.blank refl (edit.line_end refl edit.here), refl))
+    rw return (λ line other. (line + 1, [], reached.blank refl (reached.line_end refl reached.here), refl))
 
 -- entries of a key
 pub is_listed : (section : Option Section) (key : List ℕ) → IsListable section
@@ -214,7 +216,8 @@ replacing_finds key text rest start new section several None f left between (fro
       is_entry = is_entry_held f.piece.held f e is.made;
       is_of = is_of;
       others = nothing;
-      changes = subst (λ n. Changes (LosesEntry key) front n) (sym new_now) (spec.kept front spec.none);
+      changes = subst (λ n. Becomes (Comes text) (MayLose key) front (f.piece.bytes.now ++ f.piece.rest.now) n)
+          (sym new_now) (spec.kept front spec.none);
       between_is = anywhere (holds_nothing section);
       last = spec.none;
       listable = past.listable;
@@ -236,6 +239,20 @@ replacing_finds key text rest start new section several (Some g) f left between 
     let put_is : Holds r.at put r.after section =
     holds_join left between (end_holds r.at left left_is)
     (subst (λ b. Holds r.at b r.after section) (sym between_is) gap) in
+    let left_over = f.piece.bytes.now ++ f.piece.rest.now in
+    let loses : LosesEntry key r.at g.piece.bytes.now left start = (
+      g.parts.key.now,
+      value_of g.parts.value,
+      g.parts.lines,
+      g.parts.rest.now,
+      g.piece.blanks.now,
+      g.piece.is_line,
+      r.is_of,
+      r.blank,
+      subst (λ s. IsEntry g.parts.key.now (value_of g.parts.value) g.parts.lines g.parts.rest.now g.piece.blanks.now g.piece.bytes.now s g.piece.is_line)
+          (sym r.start_is) r.is_entry,
+      left_is,
+    ) in
     record {
       front = r.front ++ before_text;
       between = [];
@@ -258,12 +275,12 @@ replacing_finds key text rest start new section several (Some g) f left between 
       is_of = is_of;
       others = without_both r.before r.left r.others
           (without_both (x ∷ []) [] (spec.lost x spec.none r.is_of) r.last);
-      changes = subst (λ f. Changes (LosesEntry key) f (new ++ put))
+      changes = subst (λ f. Becomes (Comes text) (MayLose key) f left_over (new ++ put))
           (append_assoc r.front g.piece.bytes.now r.between)
-          (subst (λ n. Changes (LosesEntry key) ((r.front ++ g.piece.bytes.now) ++ r.between) n)
+          (subst (λ n. Becomes (Comes text) (MayLose key) ((r.front ++ g.piece.bytes.now) ++ r.between) left_over n)
           (ap (λ b. (new ++ left) ++ b) (sym between_is) ∙ append_assoc new left between)
-          (spec.kept r.between (spec.changed r.changes
-          (x, g.parts.lines, g.parts.rest.now, g.piece.blanks.now, g.piece.rest.now, g.piece.is_line, r.is_of, r.blank, r.is_entry, left_is))));
+          (spec.kept r.between (becomes_before (spec.changed r.changes (r.front, r.joined, r.before_is) loses)
+          (r.cut ∙ ap (λ s. r.between ++ s) is.joined))));
       between_is = anywhere (holds_nothing section);
       last = spec.none;
       listable = r.listable;
@@ -281,26 +298,29 @@ replacing_finds key text rest start new section several (Some g) f left between 
       );
     }
 
--- stretches that change
-pub changes_more : {May Other : List ℕ → List ℕ → Type 0} {old new : List ℕ}
-    → ((gone put : List ℕ) → May gone put → Other gone put) → Changes May old new → Changes Other old new
-changes_more also spec.none = spec.none
-changes_more also (spec.kept bytes c) = spec.kept bytes (changes_more also c)
-changes_more also (spec.changed {gone = gone} {put = put} c may) =
-    spec.changed (changes_more also c) (also gone put may)
-
-changes_with : {May : List ℕ → List ℕ → Type 0} {gone put : List ℕ} (front new back : List ℕ)
-    → Changes May front new → Changes May gone put
-    → Changes May (front ++ (gone ++ back)) (new ++ (put ++ back))
-changes_with front new back before here = changes_both front new before (spec.kept back here)
-
-change_once : {May Other : List ℕ → List ℕ → Type 0} {old new : List ℕ}
-    → ((gone put : List ℕ) → May gone put → Other gone put) → ChangesOne May old new → Changes Other old new
-change_once {Other = Other} {new = new} also c =
-    subst (λ o. Changes Other o new) (sym c.old_is)
-    (subst (λ n. Changes Other (c.front ++ (c.gone ++ c.back)) n) (sym c.new_is)
-    (changes_both c.front c.front (all_kept c.front)
-    (spec.kept c.back (spec.changed spec.none (also c.gone c.put c.may)))))
+-- only the bytes of a value change
+pub given_in : {value put start : List ℕ} {before : List Content} {section : Option Section} {parts : EntryParts}
+    {piece : Piece} (front : List ℕ)
+    → Holds None (front ++ piece.blanks.now) before section → IsGiven parts piece value put
+    → start ≡ piece.rest.now
+    → ChangesIn (GivesValue value parts.key.now (value_of parts.value)) before section
+    (front ++ (piece.bytes.now ++ start)) (front ++ (put ++ start))
+given_in {value = value} {put = put} {start = start} {parts = parts} {piece = piece} front holds g start_is =
+    let blanks = piece.blanks.now in
+    let moved : (bytes : List ℕ) → front ++ ((blanks ++ (bytes ++ g.tail)) ++ start) ≡ (front ++ blanks) ++ (bytes ++ (g.tail ++ start)) =
+    λ bytes. ap (λ x. front ++ x) (append_assoc blanks (bytes ++ g.tail) start ∙ ap (λ x. blanks ++ x)
+    (append_assoc bytes g.tail start))
+    ∙ sym (append_assoc front blanks (bytes ++ (g.tail ++ start))) in
+    record {
+      front = front ++ blanks;
+      gone = g.gone;
+      put = g.now;
+      rest = g.tail ++ start;
+      old_is = ap (λ b. front ++ (b ++ start)) g.bytes_are ∙ moved g.gone;
+      new_is = ap (λ p. front ++ (p ++ start)) g.put_is ∙ moved g.now;
+      holds = holds;
+      may = subst (λ r. GivesValue value parts.key.now (value_of parts.value) g.gone g.now (g.tail ++ r)) (sym start_is) g.gives;
+    }
 
 -- at the end of the text
 pub none_replaced : (key : Key) (text rest start new : List ℕ) (section : Option Section) (several : Bool)
@@ -309,6 +329,40 @@ pub none_replaced : (key : Key) (text rest start new : List ℕ) (section : Opti
 none_replaced key text rest start new section several (front, contents, past, nothing, start_is, new_is, several_is) none =
     let text_is : text ≡ front = past.joined ∙ ap (λ r. front ++ r) none ∙ append-nil front in
     (contents, subst (λ t. Ends None t contents) (sym text_is) (passed_ends none past.passed), nothing)
+
+-- the piece of the last entry of the key stays, or only the bytes of its value change
+replaced_here : {key : Key} {text rest start new value put : List ℕ} {section : Option Section} {several : Bool} {f : Found}
+    (r : IsFound key text rest start new section f several)
+    → (put ≡ f.piece.bytes.now) ⊎ (IsGiven f.parts f.piece value put)
+    → Becomes (Comes text) (MayReplace key value) (r.front ++ (f.piece.bytes.now ++ start)) [] (new ++ (put ++ start))
+replaced_here {key = key} {text = text} {start = start} {new = new} {value = value} {put = put} {f = f} r (inl same) =
+    subst (λ p. Becomes (Comes text) (MayReplace key value) (r.front ++ (f.piece.bytes.now ++ start)) [] (new ++ (p ++ start)))
+    (sym same)
+    (becomes_end (f.piece.bytes.now ++ start)
+    (becomes_more (λ before at left place. place) (λ before at gone now left loses. inl loses) r.changes))
+replaced_here {key = key} {text = text} {start = start} {new = new} {value = value} {put = put} {f = f} r (inr g) =
+    let blanks = f.piece.blanks.now in
+    let before : Becomes (Comes text) (MayReplace key value) r.front ((blanks ++ (g.gone ++ g.tail)) ++ start) new =
+    becomes_before (becomes_more (λ before at left place. place) (λ before at gone now left loses. inl loses) r.changes)
+    (ap (λ b. b ++ start) g.bytes_are) in
+    let inner : (blanks ++ (g.gone ++ g.tail)) ++ start ≡ blanks ++ (g.gone ++ (g.tail ++ start)) =
+    append_assoc blanks (g.gone ++ g.tail) start ∙ ap (λ x. blanks ++ x) (append_assoc g.gone g.tail start) in
+    let place : Comes text r.before r.at (g.gone ++ (g.tail ++ start)) =
+    comes_blanks r.front blanks (g.gone ++ (g.tail ++ start)) r.joined (ap (λ b. b ++ start) g.bytes_are ∙ inner) r.blank r.before_is in
+    let gives : MayReplace key value r.before r.at g.gone g.now (g.tail ++ start) = inr (
+      f.parts.key.now,
+      value_of f.parts.value,
+      r.is_of,
+      subst (λ s. GivesValue value f.parts.key.now (value_of f.parts.value) g.gone g.now (g.tail ++ s)) (sym r.start_is) g.gives,
+    ) in
+    let step = becomes_piece blanks g.gone g.now g.tail start before place gives in
+    let whole = becomes_end start step in
+    let old_is : (r.front ++ (blanks ++ (g.gone ++ g.tail))) ++ start ≡ r.front ++ (f.piece.bytes.now ++ start) =
+    append_assoc r.front (blanks ++ (g.gone ++ g.tail)) start ∙ ap (λ b. r.front ++ (b ++ start)) (sym g.bytes_are) in
+    let new_is : (new ++ (blanks ++ (g.now ++ g.tail))) ++ start ≡ new ++ (put ++ start) =
+    append_assoc new (blanks ++ (g.now ++ g.tail)) start ∙ ap (λ p. new ++ (p ++ start)) (sym g.put_is) in
+    subst (λ o. Becomes (Comes text) (MayReplace key value) o [] (new ++ (put ++ start))) old_is
+    (subst (λ n. Becomes (Comes text) (MayReplace key value) ((r.front ++ (blanks ++ (g.gone ++ g.tail))) ++ start) [] n) new_is whole)
 
 pub one_replaced : {key : Key} {text rest start new value put : List ℕ}
     {section : Option Section} {several : Bool} {f : Found}
@@ -359,22 +413,23 @@ one_replaced {key = key} {text = text} {rest = rest} {start = start} {new = new}
           has_value = set.has_value;
           new_is = refl;
         };
-        changes = subst (λ t. Changes (MayReplace key value) t (new ++ (put ++ start))) (sym r.joined)
-            (changes_with r.front new start (changes_more (λ gone put loses. inl loses) r.changes)
-            (elim set.bytes [
-              | inl same ↦ subst (λ p. Changes (MayReplace key value) f.piece.bytes.now p) (sym same.1)
-                  (all_kept f.piece.bytes.now)
-              | inr other ↦ change_once (λ gone put may. inr may) other.1
+        changes = subst (λ t. Becomes (Comes text) (MayReplace key value) t [] (new ++ (put ++ start))) (sym r.joined)
+            (replaced_here r (elim set.given [
+              | inl same ↦ inl same.1
+              | inr other ↦ inr other.1
             ]));
         single = λ one.
             let (new_is, left_is) = r.single one in (
               subst (λ l. Without key r.before l) left_is r.others,
-              subst (λ n. ChangesBytes (value_of f.parts.value) value text (n ++ (put ++ start))) (sym new_is)
-                  (subst (λ t. ChangesBytes (value_of f.parts.value) value t (r.front ++ (put ++ start)))
-                  (sym r.joined)
-                  (elim set.bytes [
+              subst (λ n. SetsIn value r.before x text (n ++ (put ++ start))) (sym new_is)
+                  (subst (λ t. SetsIn value r.before x t (r.front ++ (put ++ start))) (sym r.joined)
+                  (elim set.given [
                     | inl same ↦ inl (same.0, ap (λ p. r.front ++ (p ++ start)) same.1)
-                    | inr other ↦ inr (other.0, change_in r.front start other.1)
+                    | inr other ↦ inr (
+                      other.0,
+                      given_in r.front (holds_blanks r.front f.piece.blanks.now r.blank r.before_is) other.1
+                          r.start_is,
+                    )
                   ])),
             );
         many = λ yes.

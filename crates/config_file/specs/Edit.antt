@@ -10,8 +10,10 @@ use Rattle.config_file.specs.Bytes.{tab, line_feed, carriage_return, dot, space,
 use Rattle.config_file.specs.Bytes.{is_blank, is_comment_sign, is_comment_byte}
 use Rattle.config_file.specs.Header.{Section, Header}
 use Rattle.config_file.specs.Value.{Ending, SpellsValue}
+use Rattle.config_file.specs.Reading.Spellings.{git_spelled, spelled_section}
 use Rattle.config_file.specs.Spelling.{SpellsSection, IsHeader, IsSpelling, HasNoHeader, LacksSpelling}
-use Rattle.config_file.specs.File.{Entry, TakesEntry, IsFile}
+use Rattle.config_file.specs.File.{Entry, TakesEntry, Begins, IsFile}
+use Rattle.config_file.specs.Reached.{Leads}
 use Rattle.config_file.specs.Bytes.{BeginsWithLetter}
 use Rattle.config_file.specs.Listing.{IsListedSection}
 use Rattle.config_file.specs.declared.key.KeyError.{KeyError}
@@ -45,22 +47,49 @@ pub data Renames (from to : Key) : List Content → List Content → Type 0 wher
       → Renames from to old new → ¬ (IsIn from x.0)
       → Renames from to (old ++ x ∷ []) (new ++ x ∷ [])
 
--- the new text is the old one, of which stretches have changed as this allows
-pub data Changes (May : List ℕ → List ℕ → Type 0) : List ℕ → List ℕ → Type 0 where
-  none : Changes May [] []
-  kept : {old new : List ℕ} (bytes : List ℕ) → Changes May old new → Changes May (old ++ bytes) (new ++ bytes)
-  changed : {old new gone put : List ℕ}
-      → Changes May old new → May gone put
-      → Changes May (old ++ gone) (new ++ put)
+-- The reading of this text comes to this rest: before it are entries of these contents, and it is in this section.
+pub record Reaches (text : List ℕ) (before : List Content) (section : Option Section) (rest : List ℕ) : Type 0 where
+  pub line : ℕ
+  pub body : List ℕ
+  pub end : ℕ
+  pub entries : List Entry
+  pub begins : Begins text line body
+  pub leads : Leads None line body entries section end rest
+  pub contents_are : map content entries ≡ before
+
+-- the reading of the text comes to this rest, in any section
+abbrev pub ReachesBehind : List ℕ → List Content → List ℕ → Type 0
+ReachesBehind text before rest = (section : Option Section) × Reaches text before section rest
+
+-- Before this rest, the old text becomes the new one: its bytes stay, or stretches of them change as this allows. Each begins at
+-- a place that the reading comes to, behind these contents and in this section.
+pub data Becomes (Place : List Content → Option Section → List ℕ → Type 0)
+    (May : List Content → Option Section → List ℕ → List ℕ → List ℕ → Type 0) : List ℕ → List ℕ → List ℕ → Type 0 where
+  none : {rest : List ℕ} → Becomes Place May [] rest []
+  kept : {old new rest : List ℕ} (bytes : List ℕ)
+      → Becomes Place May old (bytes ++ rest) new → Becomes Place May (old ++ bytes) rest (new ++ bytes)
+  changed : {old new gone put rest : List ℕ} {before : List Content} {section : Option Section}
+      → Becomes Place May old (gone ++ rest) new → Place before section (gone ++ rest)
+      → May before section gone put rest
+      → Becomes Place May (old ++ gone) rest (new ++ put)
+
+-- the new text is the old one, of which stretches have changed as this allows, each where it stands
+abbrev pub Changes : (List Content → Option Section → List ℕ → List ℕ → List ℕ → Type 0) → List ℕ → List ℕ → Type 0
+Changes May old new = Becomes (Reaches old) May old [] new
 
 -- whatever follows them, these bytes are a header of a section of the key
 abbrev pub IsHeaderOf : Key → List ℕ → Type 0
 IsHeaderOf key bytes = (inner : List ℕ) × (section : Section) × (bytes ≡ left_bracket ∷ inner)
     × ((other : List ℕ) → Header (inner ++ other) section other) × IsIn key (Some section)
 
+-- these bytes are the header of the section of the key that is written
+abbrev pub IsWrittenHeader : Key → List ℕ → Type 0
+IsWrittenHeader key bytes = IsHeader bytes key.section key.subsection
+    × (bytes ≡ left_bracket ∷ spelled_section key.section key.subsection)
+
 -- a header of the first key may become one of the second
-abbrev pub RenamesHeader : Key → Key → List ℕ → List ℕ → Type 0
-RenamesHeader from to gone put = IsHeaderOf from gone × IsHeader put to.section to.subsection
+abbrev pub RenamesHeader : Key → Key → List Content → Option Section → List ℕ → List ℕ → List ℕ → Type 0
+RenamesHeader from to before section gone put rest = IsHeaderOf from gone × IsWrittenHeader to put
 
 -- the section of this name is that of the key
 abbrev pub NamesSection : List ℕ → Key → Type 0
@@ -167,31 +196,33 @@ pub record IsEntry
   pub is_tail : IsTail tail rest is_line
   pub joined : bytes ≡ blanks ++ (front ++ tail)
 
--- an entry of the key goes with its line, of which the line end may stay, if a header precedes the entry on it
-abbrev pub LosesEntry : Key → List ℕ → List ℕ → Type 0
-LosesEntry key gone put = (x : Content) × (lines : ℕ) × (at blanks rest : List ℕ) × (is_line : Bool)
-    × IsOf key x × AreBlank blanks × IsEntry x.1 x.2 lines at blanks gone rest is_line × IsEnd put
+-- In this section and before this rest, an entry of the key goes with its line. The line end may stay, if a header precedes the
+-- entry on it.
+abbrev pub LosesEntry : Key → Option Section → List ℕ → List ℕ → List ℕ → Type 0
+LosesEntry key section gone put rest =
+    (name : List ℕ) × (value : Option (List ℕ)) × (lines : ℕ) × (at blanks : List ℕ) × (is_line : Bool)
+    × IsOf key (section, name, value) × AreBlank blanks × IsEntry name value lines at blanks gone rest is_line × IsEnd put
 
--- nothing, blanks up to the end of a line, or an entry of the key
-abbrev pub IsLostTail : Key → List ℕ → Type 0
-IsLostTail key bytes =
-    (bytes ≡ []) ⊎ ((rest : List ℕ) × (is_line : Bool) × (t : IsTail bytes rest is_line) × (t.comment ≡ []))
-    ⊎ LosesEntry key bytes []
+-- before this rest: nothing, blanks up to the end of a line, or an entry of the key in this section
+abbrev pub IsLostTail : Key → Section → List ℕ → List ℕ → Type 0
+IsLostTail key section bytes rest =
+    (bytes ≡ []) ⊎ ((is_line : Bool) × (t : IsTail bytes rest is_line) × (t.comment ≡ []))
+    ⊎ LosesEntry key (Some section) bytes [] rest
 
 -- a header of a section of the key goes, alone or with what its line has left: blanks, or an entry of the key
-pub record LosesHeader (key : Key) (gone put : List ℕ) : Type 0 where
+pub record LosesHeader (key : Key) (gone put rest : List ℕ) : Type 0 where
   pub blanks : List ℕ
   pub header : List ℕ
   pub tail : List ℕ
   pub joined : gone ≡ blanks ++ (header ++ tail)
   pub are_blank : AreBlank blanks
   pub is_header : IsHeaderOf key header
-  pub is_tail : IsLostTail key tail
+  pub is_tail : IsLostTail key is_header.1 tail rest
   pub is_end : IsEnd put
 
 -- an entry of the key goes, or the header of a section that has none left
-abbrev pub MayUnset : Key → List ℕ → List ℕ → Type 0
-MayUnset key gone put = LosesEntry key gone put ⊎ LosesHeader key gone put
+abbrev pub MayUnset : Key → List Content → Option Section → List ℕ → List ℕ → List ℕ → Type 0
+MayUnset key before section gone put rest = LosesEntry key section gone put rest ⊎ LosesHeader key gone put rest
 
 -- nothing, or a space
 abbrev pub IsGap : List ℕ → Type 0
@@ -202,36 +233,63 @@ abbrev pub IsCore : List ℕ → Type 0
 IsCore bytes = (bytes ≢ []) × ((b : ℕ) (more : List ℕ) → bytes ≡ b ∷ more → is_blank b ≡ false)
     × ((more : List ℕ) (b : ℕ) → bytes ≡ more ++ b ∷ [] → is_blank b ≡ false)
 
--- The bytes of a value without the blanks around them become a spelling of another; so does nothing, where the value was
--- empty or only a key stood.
-pub data ChangesValue (value : List ℕ) : List ℕ → List ℕ → Type 0 where
-  another : {core spelling : List ℕ} → IsSpelling spelling value → IsCore core → ChangesValue value core spelling
-  first : {lead spelling trail : List ℕ}
-      → IsSpelling spelling value → IsGap lead → IsGap trail
-      → ChangesValue value [] (lead ++ (spelling ++ trail))
-  given : {lead spelling : List ℕ}
-      → IsSpelling spelling value → IsGap lead
-      → ChangesValue value [] (lead ++ equals_sign ∷ space ∷ spelling)
-
--- the new text is the old one, of which one stretch has changed as this allows
-pub record ChangesOne (May : List ℕ → List ℕ → Type 0) (old new : List ℕ) : Type 0 where
+-- The new text is the old one, of which one stretch has changed as this allows. It begins where the reading comes behind
+-- these contents, in this section.
+pub record ChangesAt (May : List ℕ → List ℕ → List ℕ → Type 0) (before : List Content) (section : Option Section)
+    (old new : List ℕ) : Type 0 where
   pub front : List ℕ
   pub gone : List ℕ
   pub put : List ℕ
-  pub back : List ℕ
-  pub old_is : old ≡ front ++ (gone ++ back)
-  pub new_is : new ≡ front ++ (put ++ back)
-  pub may : May gone put
+  pub rest : List ℕ
+  pub old_is : old ≡ front ++ (gone ++ rest)
+  pub new_is : new ≡ front ++ (put ++ rest)
+  pub reaches : Reaches old before section (gone ++ rest)
+  pub may : May gone put rest
 
--- In the text of these contents, an entry of the key has another value. If it had this value, the text stays, and otherwise
--- only bytes of the value change.
-abbrev pub ChangesBytes : Option (List ℕ) → List ℕ → List ℕ → List ℕ → Type 0
-ChangesBytes was value old new =
-    (HasValue was value × (new ≡ old)) ⊎ (¬ (HasValue was value) × ChangesOne (ChangesValue value) old new)
+-- the bytes of a value, of which there are none if only a key stands
+abbrev pub value_bytes : Option (List ℕ) → List ℕ
+value_bytes None = []
+value_bytes (Some raw) = raw
 
--- an entry of the key goes, or bytes of a value become a spelling of another
-abbrev pub MayReplace : Key → List ℕ → List ℕ → List ℕ → Type 0
-MayReplace key value gone put = LosesEntry key gone put ⊎ ChangesValue value gone put
+-- these bytes are the spelling of the value that Git writes
+abbrev pub IsGitSpelling : List ℕ → List ℕ → Type 0
+IsGitSpelling spelling value = IsSpelling spelling value × (spelling ≡ git_spelled value)
+
+-- The bytes of a value become those of another one: blanks around it stay. If the old one has only blanks, all of them stay,
+-- and behind a key alone a sign comes before the value.
+pub data PutsValue (value : List ℕ) : Option (List ℕ) → List ℕ → Type 0 where
+  in_place : {core spelling : List ℕ} (lead trail : List ℕ)
+      → AreBlank lead → IsCore core → AreBlank trail → IsGitSpelling spelling value
+      → PutsValue value (Some (lead ++ (core ++ trail))) (lead ++ (spelling ++ trail))
+  in_blanks : {gap spelling later : List ℕ} (lead trail : List ℕ)
+      → AreBlank (lead ++ trail) → IsGap gap → IsGitSpelling spelling value → IsGap later
+      → PutsValue value (Some (lead ++ trail)) (lead ++ ((gap ++ (spelling ++ later)) ++ trail))
+  behind_key : {gap spelling : List ℕ}
+      → IsGap gap → IsGitSpelling spelling value
+      → PutsValue value None (gap ++ equals_sign ∷ space ∷ spelling)
+
+-- before this rest, an entry of this key and this value gets another value: all that precedes the old one stays
+pub record GivesValue (value key : List ℕ) (was : Option (List ℕ)) (gone put rest : List ℕ) : Type 0 where
+  pub lines : ℕ
+  pub front : List ℕ
+  pub bytes : List ℕ
+  pub begins : BeginsWithLetter (gone ++ rest)
+  pub takes : TakesEntry (gone ++ rest) key was lines rest
+  pub gone_is : gone ≡ front ++ value_bytes was
+  pub put_is : put ≡ front ++ bytes
+  pub puts : PutsValue value was bytes
+
+-- The entry of this content, behind these others, has this value, and the text stays; or the bytes of its value have become
+-- those of this one, and all other bytes stay.
+abbrev pub SetsBytes : List ℕ → List Content → Content → List ℕ → List ℕ → Type 0
+SetsBytes value before x old new =
+    (HasValue x.2 value × (new ≡ old))
+    ⊎ (¬ (HasValue x.2 value) × ChangesAt (GivesValue value x.1 x.2) before x.0 old new)
+
+-- an entry of the key goes, or the bytes of its value become those of this one
+abbrev pub MayReplace : Key → List ℕ → List Content → Option Section → List ℕ → List ℕ → List ℕ → Type 0
+MayReplace key value before section gone put rest = LosesEntry key section gone put rest
+    ⊎ ((name : List ℕ) × (was : Option (List ℕ)) × IsOf key (section, name, was) × GivesValue value name was gone put rest)
 
 -- the values have the same bytes, or spell the same text
 abbrev pub SameValue : Option (List ℕ) → Option (List ℕ) → Type 0
@@ -277,12 +335,22 @@ entry_line name spelling feed = tab ∷ (name ++ (space ∷ equals_sign ∷ spac
 -- a header of the key and a line end, at the end of a text without entries in that section; or nothing
 abbrev pub IsNewHeader : Key → List Content → List ℕ → List ℕ → List ℕ → Type 0
 IsNewHeader key contents back feed bytes =
-    (bytes ≡ []) ⊎ ((header : List ℕ) × IsHeader header key.section key.subsection
+    (bytes ≡ []) ⊎ ((header : List ℕ) × IsWrittenHeader key header
     × (bytes ≡ header ++ feed) × (back ≡ []) × NoneIn key contents)
 
--- The new text is the old one with one line more, which has the key and the value: a line end is put before it where
--- one is missing, or two if a backslash ends the text, and a header if the key has no section.
-pub record PutsLine (key : Key) (value : List ℕ) (contents : List Content) (old new : List ℕ) : Type 0 where
+-- after any blanks, the text has no comment
+abbrev pub NoCommentNext : List ℕ → Type 0
+NoCommentNext text =
+    (blanks more : List ℕ) (b : ℕ) → text ≡ blanks ++ b ∷ more → AreBlank blanks → is_comment_sign b ≡ false
+
+-- the front ends a line, or no comment follows it on its line
+abbrev pub IsApart : List ℕ → List ℕ → Type 0
+IsApart front back = ((line : List ℕ) × (front ≡ line ++ line_feed ∷ [])) ⊎ NoCommentNext back
+
+-- The new text is the old one with one line more, which has the key and the value, at a place behind these contents: a line
+-- end is put before it where one is missing, or two if a backslash ends the text, and a header if the key has no section.
+pub record PutsLine (Place : List Content → List ℕ → Type 0) (key : Key) (value : List ℕ) (contents before : List Content)
+    (old new : List ℕ) : Type 0 where
   pub front : List ℕ
   pub back : List ℕ
   pub feed : List ℕ
@@ -293,34 +361,42 @@ pub record PutsLine (key : Key) (value : List ℕ) (contents : List Content) (ol
   pub new_is : new ≡ front ++ (ends ++ (header ++ (entry_line key.name spelling feed ++ back)))
   pub is_feed : IsLineEnd feed
   pub are_ends : (ends ≡ []) ⊎ (ends ≡ feed) ⊎ (ends ≡ feed ++ feed)
+  pub place : Place before back
+  pub apart : IsApart front back
   pub is_header : IsNewHeader key contents back feed header
-  pub spells : IsSpelling spelling value
+  pub spells : IsGitSpelling spelling value
 
--- entries, comments and blanks, each up to the end of its line, and no header
-pub data IsBody : List ℕ → Type 0 where
-  none : IsBody []
+-- before this rest: entries, comments and blanks, each up to the end of its line, and no header
+pub data IsBody : List ℕ → List ℕ → Type 0 where
+  none : {rest : List ℕ} → IsBody [] rest
   entry : {body key at blanks bytes rest : List ℕ} {value : Option (List ℕ)} {lines : ℕ} {is_line : Bool}
-      → IsBody body → IsEntry key value lines at blanks bytes rest is_line → IsBody (body ++ bytes)
+      → IsBody body (bytes ++ rest) → IsEntry key value lines at blanks bytes rest is_line
+      → IsBody (body ++ bytes) rest
   line : {body tail rest : List ℕ} {is_line : Bool} (blanks : List ℕ)
-      → IsBody body → AreBlank blanks → IsTail tail rest is_line → IsBody (body ++ (blanks ++ tail))
+      → IsBody body ((blanks ++ tail) ++ rest) → AreBlank blanks → IsTail tail rest is_line
+      → IsBody (body ++ (blanks ++ tail)) rest
 
 -- a header of a section of the key goes, with what precedes the next header
-pub record LosesSection (key : Key) (gone put : List ℕ) : Type 0 where
+pub record LosesSection (key : Key) (gone put rest : List ℕ) : Type 0 where
   pub blanks : List ℕ
   pub header : List ℕ
   pub body : List ℕ
   pub joined : gone ≡ blanks ++ (header ++ body)
   pub are_blank : AreBlank blanks
   pub is_header : IsHeaderOf key header
-  pub is_body : IsBody body
+  pub is_body : IsBody body rest
   pub is_end : IsEnd put
+
+-- a section of the key goes
+abbrev pub MayRemove : Key → List Content → Option Section → List ℕ → List ℕ → List ℕ → Type 0
+MayRemove key before section gone put rest = LosesSection key gone put rest
 
 -- The new text is a file without the entries of the sections of this name, and those sections are gone.
 abbrev pub RemovesSection : List ℕ → List ℕ → List ℕ → Type 0
 RemovesSection name old new =
     (key : Key) × NamesSection name key × (contents : List Content) × HasContents old contents
     × (now : List Content) × HasContents new now × WithoutIn key contents now
-    × Changes (LosesSection key) old new
+    × Changes (MayRemove key) old new
 
 -- The text has no entry in a section of this name, which may be the name of none.
 abbrev pub LacksSection : List ℕ → List ℕ → Type 0
@@ -370,12 +446,12 @@ RefusesEdit Several Absent key value text error.Absent =
 -- the new text has one entry more
 abbrev pub AddsKey : Key → List ℕ → List ℕ → List Content → List ℕ → Type 0
 AddsKey key value old contents new = (now : List Content) × HasContents new now
-    × AddsContent key value contents now × PutsLine key value contents old new
+    × (a : AddsContent key value contents now) × PutsLine (ReachesBehind old) key value contents a.before old new
 
 -- the key had one entry, which has the value now
 abbrev pub ChangesKey : Key → List ℕ → List ℕ → List Content → List ℕ → Type 0
 ChangesKey key value old contents new = (now : List Content) × HasContents new now
-    × (r : Replaces key value contents now) × HasNone key r.before × ChangesBytes r.x.2 value old new
+    × (r : Replaces key value contents now) × HasNone key r.before × SetsBytes value r.before r.x old new
 
 -- the key had entries, of which the last one has the value now, and the others are gone
 abbrev pub ReplacesKey : Key → List ℕ → List ℕ → List Content → List ℕ → Type 0
@@ -442,24 +518,32 @@ AreInOrder from [] count = ⊤
 AreInOrder from (change ∷ changes) count =
     (from ≤ change.entry) × (change.entry < count) × AreInOrder (change.entry + 1) changes count
 
--- in an entry, bytes of the value become a spelling of the one of the change, and then the key becomes another
-pub record ChangesEntry (change : Change) (gone put : List ℕ) : Type 0 where
-  pub key : List ℕ
-  pub value : Option (List ℕ)
-  pub lines : ℕ
-  pub at : List ℕ
-  pub blanks : List ℕ
-  pub rest : List ℕ
-  pub is_line : Bool
-  pub valued : List ℕ
-  pub is_entry : IsEntry key value lines at blanks gone rest is_line
-  pub is_valued : MatchOption (option_copied change.value) (valued ≡ gone) (λ new. ChangesBytes value new gone valued)
-  pub is_named : MatchOption (option_copied change.name) (put ≡ valued)
-      (λ name. (more : List ℕ) × (valued ≡ blanks ++ (key ++ more)) × (put ≡ blanks ++ (name ++ more)))
+-- the last part of a key after a change
+abbrev pub name_after : Option (List ℕ) → List ℕ → List ℕ
+name_after None key = key
+name_after (Some name) key = name
 
--- an entry changes as one of the changes asks
-abbrev pub MayChange : List Change → List ℕ → List ℕ → Type 0
-MayChange changes gone put = (change : Change) × Has changes change × ChangesEntry change gone put
+-- The bytes of a value after a change: they stay if they spell the new one, and otherwise become it.
+abbrev pub ChangesValueTo : List ℕ → Option (List ℕ) → List ℕ → Type 0
+ChangesValueTo value was bytes =
+    (HasValue was value × (bytes ≡ value_bytes was)) ⊎ (¬ (HasValue was value) × PutsValue value was bytes)
+
+-- before this rest, an entry of this key and this value gets the key and the value of the change: what is between them stays
+pub record ChangesEntry (change : Change) (key : List ℕ) (was : Option (List ℕ)) (gone put rest : List ℕ) : Type 0 where
+  pub lines : ℕ
+  pub between : List ℕ
+  pub bytes : List ℕ
+  pub begins : BeginsWithLetter (gone ++ rest)
+  pub takes : TakesEntry (gone ++ rest) key was lines rest
+  pub gone_is : gone ≡ key ++ (between ++ value_bytes was)
+  pub put_is : put ≡ name_after (option_copied change.name) key ++ (between ++ bytes)
+  pub is_valued : MatchOption (option_copied change.value) (bytes ≡ value_bytes was) (λ value. ChangesValueTo value was bytes)
+
+-- an entry changes as the change of it asks
+abbrev pub MayChange : List Change → List Content → Option Section → List ℕ → List ℕ → List ℕ → Type 0
+MayChange changes before section gone put rest =
+    (change : Change) × (key : List ℕ) × (was : Option (List ℕ)) × Has changes change
+    × (change.entry ≡ length before) × ChangesEntry change key was gone put rest
 
 -- what `change_entries` makes: the entries that the changes name are changed, and no other bytes
 abbrev pub ChangesEntries : List Change → List ℕ → List ℕ → Type 0

@@ -7,6 +7,7 @@ pub mod Shown
 pub mod Scope
 pub mod Value
 pub mod File
+pub mod Reached
 pub mod Listing
 pub mod Key
 pub mod KeyView

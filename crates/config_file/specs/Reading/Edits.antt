@@ -1,6 +1,6 @@
 -- Pieces of a text, each of which holds the same wherever it stands.
 use Rattle.std.specs.Prelude.{◌≡◌, ◌≢◌, ℕ, ◌+◌, Bool, true, false, List, [], ◌∷◌, ◌++◌, Option, Some, None}
-use Rattle.std.specs.Prelude.{map, ◌⊎◌, ◌↔◌, ⊤, IsTrue, MatchOption, ◌≤◌, length, option_copied}
+use Rattle.std.specs.Prelude.{map, ◌&&◌, ◌⊎◌, ◌↔◌, ⊤, IsTrue, MatchOption, ◌≤◌, length, option_copied}
 use Rattle.std.specs.List.{AllZip}
 use Rattle.std.specs.Char.{is_ascii_alphabetic}
 use Rattle.config_file.specs.declared.entry.EntryParts.{EntryParts}
@@ -20,55 +20,36 @@ use Rattle.config_file.specs.declared.edit.write.End.TheVariants as end
 use Rattle.config_file.specs.declared.edit.piece.Held.{Held}
 use Rattle.config_file.specs.declared.edit.piece.Held.TheVariants as held
 use Rattle.config_file.specs.declared.edit.piece.Piece.{Piece}
-use Rattle.config_file.specs.Bytes.{line_feed, left_bracket, is_blank, is_comment_sign, is_comment_byte}
-use Rattle.config_file.specs.Runs.{Run}
+use Rattle.config_file.specs.Bytes.{line_feed, left_bracket, is_blank, is_comment_sign}
+use Rattle.config_file.specs.Reached.{Leads}
 use Rattle.config_file.specs.Header.{Section, Header}
-use Rattle.config_file.specs.File.{Entry, entry_at, TakesEntry, Reads, IsFile, after_mark}
+use Rattle.config_file.specs.File.{Entry, TakesEntry, Reads, IsFile, after_mark}
 use Rattle.config_file.specs.declared.edit.EditError.{EditError}
 use Rattle.config_file.specs.declared.edit.EditError.TheVariants as error
 use Rattle.config_file.specs.Key.{Key, IsKey, RefusesKey, is_name}
 use Rattle.config_file.specs.Spelling.{SpellsSection, HasNoHeader}
 use Rattle.config_file.specs.Value.{outside, SpellsValue, line_feeds}
-use Rattle.config_file.specs.Edit.{Content, content, WithoutIn, LosesSection, LosesOne, IsHeaderOf, IsBody}
+use Rattle.config_file.specs.Edit.{Content, content, WithoutIn, LosesSection, MayRemove, LosesOne, IsHeaderOf, IsBody}
 use Rattle.config_file.specs.Edit.{IsLostTail, MayUnset, AreBlank, IsTail, IsEntry, IsEnd}
 use Rattle.config_file.specs.Edit.{LosesEntry, MayReplace, IsIn, IsOf, HasValue, Renames, Without, HasNone}
-use Rattle.config_file.specs.Edit.{HasSeveral, Replaces, Changes, ChangesOne, ChangesValue, ChangesBytes}
+use Rattle.config_file.specs.Edit.{HasSeveral, Replaces}
 use Rattle.config_file.specs.Edit.{RenamesHeader, SameEntry, NoneIn, IsLineEnd, AddsContent, PutsLine, entry_line}
+use Rattle.config_file.specs.Bytes.{BeginsWithLetter}
+use Rattle.config_file.specs.Edit.{PutsValue, GivesValue, Becomes, IsApart}
 use Rattle.config_file.specs.Listing.{IsListedSection}
-use Rattle.config_file.specs.Edit.{ChangesEach, ChangesEntry, MayChange, AreInOrder}
+use Rattle.config_file.specs.Edit.{ChangesEach, ChangesValueTo, MayChange, AreInOrder, name_after, value_bytes}
 use Rattle.config_file.specs.Reading.Spellings.{git_spelled, is_spellable}
 use Rattle.config_file.specs.Views.{section_of, value_of}
-
--- read in this section and from this line on, the text has these entries, and then the reading is in this next
--- section, on this line, before this rest
-pub data Leads : Option Section → ℕ → List ℕ → List Entry → Option Section → ℕ → List ℕ → Type 0 where
-  here : {section : Option Section} {line : ℕ} {text : List ℕ} → Leads section line text [] section line text
-  blank : {section next : Option Section} {line end b : ℕ} {text rest : List ℕ} {entries : List Entry}
-      → is_blank b ≡ true → Leads section line text entries next end rest
-      → Leads section line (b ∷ text) entries next end rest
-  line_end : {section next : Option Section} {line end b : ℕ} {text rest : List ℕ} {entries : List Entry}
-      → b ≡ line_feed → Leads section (line + 1) text entries next end rest
-      → Leads section line (b ∷ text) entries next end rest
-  comment : {section next : Option Section} {line end b : ℕ} {text comment after rest : List ℕ}
-      {entries : List Entry}
-      → is_comment_sign b ≡ true → Run is_comment_byte text comment after
-      → Leads section line after entries next end rest
-      → Leads section line (b ∷ text) entries next end rest
-  header : {section next : Option Section} {new : Section} {line end b : ℕ} {text after rest : List ℕ}
-      {entries : List Entry}
-      → b ≡ left_bracket → Header text new after → Leads (Some new) line after entries next end rest
-      → Leads section line (b ∷ text) entries next end rest
-  entry : {section next : Option Section} {line lines end b : ℕ} {text key after rest : List ℕ}
-      {value : Option (List ℕ)} {entries : List Entry}
-      → is_ascii_alphabetic b ≡ true → TakesEntry (b ∷ text) key value lines after
-      → Leads section (line + lines) after entries next end rest
-      → Leads section line (b ∷ text) (entry_at section key value (line + lines) ∷ entries) next end rest
 
 -- whatever line it is on and whatever follows it, the text leads from the first section to the second one, with these
 -- contents of entries
 abbrev pub Holds : Option Section → List ℕ → List Content → Option Section → Type 0
 Holds section text contents next = (line : ℕ) (other : List ℕ) → (end : ℕ) × (entries : List Entry)
     × Leads section line (text ++ other) entries next end other × (map content entries ≡ contents)
+
+-- the reading of this text comes to this rest
+abbrev pub Comes : List ℕ → List Content → Option Section → List ℕ → Type 0
+Comes text before section rest = (front : List ℕ) × (text ≡ front ++ rest) × Holds None front before section
 
 -- whatever line it is on, the text is read to its end, with these contents of entries
 abbrev pub Ends : Option Section → List ℕ → List Content → Type 0
@@ -168,7 +149,7 @@ pub record Renaming (from to : Key) (text rest new : List ℕ) (is_found : Bool)
   pub passed_now : Passed None new new_contents next rest
   pub renames : Renames from to old_contents new_contents
   pub corresponds : Corresponds from to section next
-  pub changes : Changes (RenamesHeader from to) front new
+  pub changes : Becomes (Comes text) (RenamesHeader from to) front rest new
   pub unfound : is_found ≡ false → NoneIn from old_contents × ¬ (IsIn from section)
 
 -- the text is its byte order mark, or nothing, and this body
@@ -191,10 +172,19 @@ RefusesText text _ = ⊥
 abbrev pub new_line : List ℕ → List ℕ → List ℕ → List ℕ
 new_line key value feed = entry_line key (git_spelled value) feed
 
--- these bytes spell the value, and are those of the other value but for one stretch between its blanks
+-- these bytes spell the value, and are what becomes of those of the other value
 pub record IsPutIn (raw value put : List ℕ) : Type 0 where
-  pub changes : ChangesOne (ChangesValue value) raw put
   pub spells : SpellsValue put value outside
+  pub puts : PutsValue value (Some raw) put
+
+-- the bytes of a piece, and what becomes of them if only the bytes of the value of its entry change
+pub record IsGiven (parts : EntryParts) (piece : Piece) (value put : List ℕ) : Type 0 where
+  pub gone : List ℕ
+  pub now : List ℕ
+  pub tail : List ℕ
+  pub bytes_are : piece.bytes.now ≡ piece.blanks.now ++ (gone ++ tail)
+  pub put_is : put ≡ piece.blanks.now ++ (now ++ tail)
+  pub gives : GivesValue value parts.key.now (value_of parts.value) gone now (tail ++ piece.rest.now)
 
 -- In the place of the piece of an entry, these bytes are an entry of the same key with this value. They are those of the
 -- piece if the entry has the value already.
@@ -204,8 +194,26 @@ pub record IsSet (parts : EntryParts) (piece : Piece) (value put : List ℕ) : T
   pub at : List ℕ
   pub has_value : HasValue (Some raw) value
   pub entry : IsEntry parts.key.now (Some raw) lines at piece.blanks.now put piece.rest.now piece.is_line
-  pub bytes : (HasValue (value_of parts.value) value × (put ≡ piece.bytes.now))
-      ⊎ (¬ (HasValue (value_of parts.value) value) × ChangesOne (ChangesValue value) piece.bytes.now put)
+  pub given : (HasValue (value_of parts.value) value × (put ≡ piece.bytes.now))
+      ⊎ (¬ (HasValue (value_of parts.value) value) × IsGiven parts piece value put)
+
+-- the new body is the old one, of which one stretch has changed as this allows, behind these contents and in this section
+pub record ChangesIn (May : List ℕ → List ℕ → List ℕ → Type 0) (before : List Content) (section : Option Section)
+    (old new : List ℕ) : Type 0 where
+  pub front : List ℕ
+  pub gone : List ℕ
+  pub put : List ℕ
+  pub rest : List ℕ
+  pub old_is : old ≡ front ++ (gone ++ rest)
+  pub new_is : new ≡ front ++ (put ++ rest)
+  pub holds : Holds None front before section
+  pub may : May gone put rest
+
+-- in a body, the entry has the value now
+abbrev pub SetsIn : List ℕ → List Content → Content → List ℕ → List ℕ → Type 0
+SetsIn value before x old new =
+    (HasValue x.2 value × (new ≡ old))
+    ⊎ (¬ (HasValue x.2 value) × ChangesIn (GivesValue value x.1 x.2) before x.0 old new)
 
 -- Git can list the section
 abbrev pub IsListable : Option Section → Type 0
@@ -227,6 +235,10 @@ abbrev pub IsEntryHeld : Key → Option Section → Held → Type 0
 IsEntryHeld key section (held.Entry parts) = IsOf key (content_of section parts)
 IsEntryHeld key section _ = ⊥
 
+-- an entry of the key goes
+abbrev pub MayLose : Key → List Content → Option Section → List ℕ → List ℕ → List ℕ → Type 0
+MayLose key before section gone put rest = LosesEntry key section gone put rest
+
 -- an entry of the key was the last so far: what precedes it has become this new text, and this start follows it
 pub record IsFound (key : Key) (text rest start new : List ℕ) (section : Option Section) (f : Found) (several : Bool) : Type 0 where
   pub front : List ℕ
@@ -245,7 +257,7 @@ pub record IsFound (key : Key) (text rest start new : List ℕ) (section : Optio
       f.piece.blanks.now f.piece.bytes.now f.piece.rest.now f.piece.is_line
   pub is_of : IsOf key (content_of at f.parts)
   pub others : Without key before left
-  pub changes : Changes (LosesEntry key) front new
+  pub changes : Becomes (Comes text) (MayLose key) front (f.piece.bytes.now ++ start) new
   pub between_is : Passed at between after section rest
   pub last : HasNone key after
   pub listable : IsListable section
@@ -264,8 +276,8 @@ pub record IsReplaced (key : Key) (value text : List ℕ) (contents : List Conte
   pub now : List Content
   pub ends : Ends None new now
   pub replaces : Replaces key value contents now
-  pub changes : Changes (MayReplace key value) text new
-  pub single : several ≡ false → HasNone key replaces.before × ChangesBytes replaces.x.2 value text new
+  pub changes : Becomes (Comes text) (MayReplace key value) text [] new
+  pub single : several ≡ false → HasNone key replaces.before × SetsIn value replaces.before replaces.x text new
   pub many : several ≡ true → HasSeveral key contents
 
 -- what becomes of a text in which a key gets a value
@@ -312,8 +324,13 @@ is_item (held.Header section) = true
 is_item (held.Entry parts) = true
 is_item _ = false
 
+-- the reading of a text comes to this rest, or it ends the text
+abbrev pub ComesBehind : List ℕ → List Content → List ℕ → Type 0
+ComesBehind text before rest =
+    ((section : Option Section) × Comes text before section rest) ⊎ ((rest ≡ []) × Ends None text before)
+
 -- before this place the text has these contents in a section of the key, and then this text, in which none is in it
-pub record IsPlace (key : Key) (text rest : List ℕ) (contents : List Content) (section : Option Section) (place : Insertion) : Type 0 where
+pub record IsPlace (key : Key) (text rest : List ℕ) (contents : List Content) (section : Option Section) (pending : Bool) (place : Insertion) : Type 0 where
   pub front : List ℕ
   pub between : List ℕ
   pub before : List Content
@@ -321,6 +338,8 @@ pub record IsPlace (key : Key) (text rest : List ℕ) (contents : List Content) 
   pub there : Option Section
   pub joined : text ≡ front ++ place.rest.now
   pub cut : place.rest.now ≡ between ++ rest
+  pub comes : ComesBehind text before place.rest.now
+  pub apart : IsApart front place.rest.now ⊎ ((place.rest.now ≡ rest) × (pending ≡ true))
   pub closes : Closes None front before there place.end
   pub in_section : IsIn key there
   pub passed : Passed there between after section rest
@@ -328,34 +347,34 @@ pub record IsPlace (key : Key) (text rest : List ℕ) (contents : List Content) 
   pub contents_are : contents ≡ before ++ after
 
 -- the last place so far, if an entry or a header was in a section of the key
-abbrev pub IsPlaceSoFar : Key → List ℕ → List ℕ → List Content → Option Section → Bool → Option Insertion → Type 0
-IsPlaceSoFar key text rest contents section is_inside None = NoneIn key contents × (is_inside ≡ false)
-IsPlaceSoFar key text rest contents section is_inside (Some place) =
-    IsPlace key text rest contents section place
+abbrev pub IsPlaceSoFar : Key → List ℕ → List ℕ → List Content → Option Section → Bool → Bool → Option Insertion → Type 0
+IsPlaceSoFar key text rest contents section is_inside after None = NoneIn key contents × (is_inside ≡ false)
+IsPlaceSoFar key text rest contents section is_inside after (Some place) =
+    IsPlace key text rest contents section (is_inside && after) place
 
 -- what precedes this rest of a text, in which a place for an entry of the key is looked for
-pub record Placing (key : Key) (text rest : List ℕ) (is_inside : Bool) (inside : Option Insertion) (end : End) : Type 0 where
+pub record Placing (key : Key) (text rest : List ℕ) (is_inside after : Bool) (inside : Option Insertion) (end : End) : Type 0 where
   pub front : List ℕ
   pub contents : List Content
   pub section : Option Section
   pub past : IsPast text rest front contents section
   pub inside_is : IsTrue is_inside ↔ IsIn key section
   pub closes : Closes None front contents section end
-  pub place : IsPlaceSoFar key text rest contents section is_inside inside
+  pub place : IsPlaceSoFar key text rest contents section is_inside after inside
 
 -- the places of a whole text
 pub record ArePlaces (key : Key) (text : List ℕ) (contents : List Content) (places : Places) : Type 0 where
   pub section : Option Section
   pub closes : Closes None text contents section places.end
   pub inside : MatchOption places.inside (NoneIn key contents)
-      (λ place. IsPlace key text [] contents section place)
+      (λ place. IsPlace key text [] contents section true place)
 
 -- the text has one entry more, in its section
 pub record IsAdded (key : Key) (value text : List ℕ) (contents : List Content) (new : List ℕ) : Type 0 where
   pub now : List Content
   pub ends : Ends None new now
   pub adds : AddsContent key value contents now
-  pub bytes : PutsLine key value contents text new
+  pub bytes : PutsLine (ComesBehind text) key value contents adds.before text new
 
 -- whether a piece has only blanks
 abbrev pub is_blank_held : Held → Bool
@@ -373,26 +392,30 @@ Counted key old new count.One = LosesOne key old new
 Counted key old new count.Several = HasSeveral key old
 
 -- a header that may go with what its line has left, of which nothing is read if the line goes on
-pub record IsHead (key : Key) (bytes : List ℕ) (goes_on : Bool) : Type 0 where
+pub record IsHead (key : Key) (bytes rest : List ℕ) (goes_on : Bool) : Type 0 where
   pub blanks : List ℕ
   pub header : List ℕ
   pub tail : List ℕ
   pub joined : bytes ≡ blanks ++ (header ++ tail)
   pub are_blank : AreBlank blanks
   pub is_header : IsHeaderOf key header
-  pub is_tail : IsLostTail key tail
+  pub is_tail : IsLostTail key is_header.1 tail rest
   pub alone : goes_on ≡ true → tail ≡ []
 
 -- A section on its way: its head and its body are what these bytes became. The head may go if nothing is left in the
 -- section, so its body holds the same in any.
-pub record IsGroup (key : Key) (g : Group) (head_was body_was : List ℕ) (now : List Content) (base section : Option Section) (rest : List ℕ) : Type 0 where
+pub record IsGroup (key : Key) (g : Group) (text head_was body_was : List ℕ) (now : List Content) (base section : Option Section) (rest : List ℕ) : Type 0 where
   pub passed : Passed base (g.head.items ++ g.body.items) now section rest
   pub in_head : g.in_head ≡ true → (g.body.items ≡ []) × (body_was ≡ [])
-  pub head_changes : Changes (MayUnset key) head_was g.head.items
-  pub body_changes : Changes (MayUnset key) body_was g.body.items
+  pub head_changes : Becomes (Comes text) (MayUnset key) head_was (body_was ++ rest) g.head.items
+  pub body_changes : Becomes (Comes text) (MayUnset key) body_was rest g.body.items
   pub in_section : g.has_lost ≡ true → IsIn key section
   pub empty : g.is_kept ≡ false → (now ≡ []) × ((any : Option Section) → Passed any g.body.items [] any rest)
-  pub can_go : g.is_kept ≡ false → IsIn key section → IsHead key head_was g.in_head
+  pub can_go : g.is_kept ≡ false → IsIn key section → IsHead key head_was (body_was ++ rest) g.in_head
+
+-- the reading of this text comes to this rest
+abbrev pub IsComeTo : List ℕ → List ℕ → Type 0
+IsComeTo text rest = (before : List Content) × (section : Option Section) × Comes text before section rest
 
 -- what precedes this rest of a text, in which entries of the key are left out
 pub record Losing (key : Key) (text rest new : List ℕ) (section : Option Section) (g : Group) (count : Count) : Type 0 where
@@ -405,8 +428,9 @@ pub record Losing (key : Key) (text rest new : List ℕ) (section : Option Secti
   pub base : Option Section
   pub past : IsPast text rest (front ++ (head_was ++ body_was)) old section
   pub new_is : Holds None new now base
-  pub changes : Changes (MayUnset key) front new
-  pub group : IsGroup key g head_was body_was now_group base section rest
+  pub changes : Becomes (Comes text) (MayUnset key) front ((head_was ++ body_was) ++ rest) new
+  pub begins : IsComeTo text (head_was ++ (body_was ++ rest))
+  pub group : IsGroup key g text head_was body_was now_group base section rest
   pub without : Without key old (now ++ now_group)
   pub counted : Counted key old (now ++ now_group) count
 
@@ -428,14 +452,14 @@ pub record IsTaken (key : Key) (text : List ℕ) (contents : List Content) (take
   pub ends : Ends None taken.text.items now
   pub without : Without key contents now
   pub counted : Counted key contents now taken.count
-  pub changes : Changes (MayUnset key) text taken.text.items
+  pub changes : Becomes (Comes text) (MayUnset key) text [] taken.text.items
 
 -- the text is left without the sections of the key
 pub record IsCleared (key : Key) (text : List ℕ) (contents : List Content) (new : List ℕ) : Type 0 where
   pub now : List Content
   pub ends : Ends None new now
   pub without : WithoutIn key contents now
-  pub changes : Changes (LosesSection key) text new
+  pub changes : Becomes (Comes text) (MayRemove key) text [] new
 
 -- before this rest of a text, what is in no section of the key has become this new text; all of it if none is found
 pub record IsKept (key : Key) (text rest new : List ℕ) (is_found : Bool) : Type 0 where
@@ -447,7 +471,7 @@ pub record IsKept (key : Key) (text rest new : List ℕ) (is_found : Bool) : Typ
   pub outside : ¬ (IsIn key section)
   pub passed : Passed None new now section rest
   pub without : WithoutIn key old now
-  pub changes : Changes (LosesSection key) front new
+  pub changes : Becomes (Comes text) (MayRemove key) front rest new
   pub untouched : is_found ≡ false → now ≡ old
 
 -- before this rest is a section of the key, of which only these comments may stay
@@ -464,11 +488,12 @@ pub record IsLost (key : Key) (text rest new : List ℕ) (lost : Lost) : Type 0 
   pub new_is : Holds None new now base
   pub cut : lost.comments.now ≡ comments ++ rest
   pub are_comments : (any : Option Section) → Passed any comments [] any rest
-  pub is_body : IsBody comments
+  pub is_body : IsBody comments rest
   pub is_end : IsEnd lost.line_end.now
-  pub loses : LosesSection key gone []
+  pub loses : LosesSection key gone [] (comments ++ rest)
   pub without : WithoutIn key old now
-  pub changes : Changes (LosesSection key) front new
+  pub changes : Becomes (Comes text) (MayRemove key) front ((gone ++ comments) ++ rest) new
+  pub begins : IsComeTo text (gone ++ (comments ++ rest))
 
 abbrev pub Clearing : Key → List ℕ → List ℕ → List ℕ → Bool → Option Lost → Type 0
 Clearing key text rest new is_found None = IsKept key text rest new is_found
@@ -490,7 +515,7 @@ pub record IsBefore (key : Key) (text rest new : List ℕ) (is_found : Bool) : T
   pub past : IsPast text rest front old section
   pub new_is : Holds None new now base
   pub without : WithoutIn key old now
-  pub changes : Changes (LosesSection key) front new
+  pub changes : Becomes (Comes text) (MayRemove key) front rest new
   pub untouched : is_found ≡ false → now ≡ old
 
 -- a change that can be written: the new last part is one of a key, and the new value has a spelling
@@ -514,6 +539,20 @@ abbrev pub AreLater : List Change → ℕ → Type 0
 AreLater [] index = ⊤
 AreLater (change ∷ changes) index = change.entry ≢ index
 
+-- the bytes of a piece, and what becomes of them if its entry gets this key and this value, or keeps the old value
+pub record IsShaped (name : List ℕ) (value : Option (List ℕ)) (parts : EntryParts) (piece : Piece) (put : List ℕ) : Type 0 where
+  pub lines : ℕ
+  pub between : List ℕ
+  pub bytes : List ℕ
+  pub tail : List ℕ
+  pub begins : BeginsWithLetter ((parts.key.now ++ (between ++ value_bytes (value_of parts.value))) ++ (tail ++ piece.rest.now))
+  pub takes : TakesEntry ((parts.key.now ++ (between ++ value_bytes (value_of parts.value))) ++ (tail ++ piece.rest.now))
+      parts.key.now (value_of parts.value) lines (tail ++ piece.rest.now)
+  pub bytes_are : piece.bytes.now ≡ piece.blanks.now ++ ((parts.key.now ++ (between ++ value_bytes (value_of parts.value))) ++ tail)
+  pub put_is : put ≡ piece.blanks.now ++ ((name ++ (between ++ bytes)) ++ tail)
+  pub is_valued : MatchOption value (bytes ≡ value_bytes (value_of parts.value))
+      (λ new. ChangesValueTo new (value_of parts.value) bytes)
+
 -- in the place of the piece of an entry, these bytes are an entry of the same key with this value, or with the old one
 pub record IsValued (value : Option (List ℕ)) (parts : EntryParts) (piece : Piece) (put : List ℕ) : Type 0 where
   pub raw : Option (List ℕ)
@@ -521,12 +560,7 @@ pub record IsValued (value : Option (List ℕ)) (parts : EntryParts) (piece : Pi
   pub at : List ℕ
   pub value_is : MatchOption value (raw ≡ value_of parts.value) (HasValue raw)
   pub entry : IsEntry parts.key.now raw lines at piece.blanks.now put piece.rest.now piece.is_line
-  pub bytes : MatchOption value (put ≡ piece.bytes.now) (λ new. ChangesBytes (value_of parts.value) new piece.bytes.now put)
-
--- the last part of a key after a change
-abbrev pub name_after : Option (List ℕ) → List ℕ → List ℕ
-name_after None key = key
-name_after (Some name) key = name
+  pub shaped : IsShaped parts.key.now value parts piece put
 
 -- in the place of the piece of an entry, these bytes are the entry after the change
 pub record IsChangedIn (change : Change) (parts : EntryParts) (piece : Piece) (put : List ℕ) : Type 0 where
@@ -536,7 +570,7 @@ pub record IsChangedIn (change : Change) (parts : EntryParts) (piece : Piece) (p
   pub value_is : MatchOption (option_copied change.value) (raw ≡ value_of parts.value) (HasValue raw)
   pub entry : IsEntry (name_after (option_copied change.name) parts.key.now) raw lines at
       piece.blanks.now put piece.rest.now piece.is_line
-  pub bytes : ChangesEntry change piece.bytes.now put
+  pub shaped : IsShaped (name_after (option_copied change.name) parts.key.now) (option_copied change.value) parts piece put
 
 -- what precedes this rest of a text has become this new text: the changes that are not left are made
 pub record Changing (changes : List Change) (text rest : List ℕ) (left : List Change) (new : List ℕ) (index : ℕ) : Type 0 where
@@ -551,7 +585,7 @@ pub record Changing (changes : List Change) (text rest : List ℕ) (left : List 
   pub split : changes ≡ done ++ left
   pub each : ChangesEach done old now
   pub index_is : index ≡ length old
-  pub bytes : Changes (MayChange changes) front new
+  pub bytes : Becomes (Comes text) (MayChange changes) front rest new
   pub ordered : (count : ℕ) → AreInOrder 0 changes count → AreInOrder index left count
   pub writable : AreWritable left
   pub room : index + length rest ≤ length text
@@ -561,4 +595,4 @@ pub record IsEachChanged (changes : List Change) (text : List ℕ) (contents : L
   pub now : List Content
   pub ends : Ends None new now
   pub each : ChangesEach changes contents now
-  pub bytes : Changes (MayChange changes) text new
+  pub bytes : Becomes (Comes text) (MayChange changes) text [] new

@@ -1,11 +1,11 @@
 //! Sections that get another name, or are taken out.
-ghost use Rattle.std.specs.Prelude.{◌≡◌, ◌↔◌, ◌⊎◌, ◌++◌, ◌∷◌, ℕ, List, true, false, IsTrue, IfOk, IfSome, MatchOption, OnOk, None, Some};
-ghost use Rattle.config_file.specs.Edit.{Content, Renames, Changes, RenamesHeader, IsEnd, IsIn, NoneIn};
+ghost use Rattle.std.specs.Prelude.{[], ◌≡◌, ◌↔◌, ◌⊎◌, ◌++◌, ◌∷◌, ℕ, List, true, false, IsTrue, IfOk, IfSome, MatchOption, OnOk, None, Some};
+ghost use Rattle.config_file.specs.Edit.{Content, Renames, Becomes, RenamesHeader, IsEnd, IsIn, NoneIn};
 ghost use Rattle.config_file.specs.Listing.{IsListedSection};
 ghost use Rattle.config_file.specs.Views.{section_of};
 ghost use Rattle.config_file.specs.declared.edit.piece.Held.TheVariants.{Comment};
 ghost use Rattle.config_file.specs.KeyView.{key_of};
-ghost use Rattle.config_file.specs.Reading.Edits.{Ends, IsCleared, IsPiece, IsHeaderHeld};
+ghost use Rattle.config_file.specs.Reading.Edits.{Comes, Ends, IsCleared, IsHeaderHeld, IsPiece};
 ghost use Rattle.config_file.specs.Reading.Spellings.{is_section};
 
 use crate::bytes::before;
@@ -38,7 +38,7 @@ pub(crate) fn renamed(
         → IfOk result (λ found. MatchOption found (NoneIn (key_of from.now) contents)
         (λ new. (now : List Content) × Ends None new.items now
         × Renames (key_of from.now) (key_of to.now) contents now
-        × Changes (RenamesHeader (key_of from.now) (key_of to.now)) text.now new.items)) }
+        × Becomes (Comes text.now) (RenamesHeader (key_of from.now) (key_of to.now)) text.now [] new.items)) }
 {
     let mut header = Vec::new(alloc);
     push_header(&mut header, to.section(), to.subsection())?;

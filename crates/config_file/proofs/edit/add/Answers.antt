@@ -11,7 +11,7 @@ returns c =
     let (entries, is_file) = c.in_ok-check_file.ensures in
     let contents = map content entries in
     let whole =
-    added_key c.split_mark.ensures
+    added_key c.split_mark.ensures (body_ends is_file c.split_mark.ensures)
     (c.in_ok-added.ensures contents (body_ends is_file c.split_mark.ensures)) in (
       key,
       c.in_ok-key.ensures.0,

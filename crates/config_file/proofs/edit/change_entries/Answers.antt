@@ -16,7 +16,7 @@ returns-in_ok-marked-in-Some c =
     subst (λ f. MatchOption f (¬ (AreInOrder 0 changes (length contents)))
     (λ new. IsEachChanged changes body contents new.items)) c.in-Some.is found in
     subst (λ n. ChangesEntries changes c.args.text.now n) (sym c.in_ok-marked-in-Some.ensures)
-    (changed_entries (contents_of is_file) c.split_mark.ensures each)
+    (changed_entries (contents_of is_file) c.split_mark.ensures (body_ends is_file c.split_mark.ensures) each)
 
 pub returns-in-None : goal.returns-in-None
 returns-in-None c =

@@ -13,7 +13,7 @@ returns-in_ok-marked-in-Done c =
     let split = c.split_mark.ensures in
     let (contents, ends, r) =
     subst (IsReplacement key value c.split_mark.result.1.now) c.in-Done.is c.in_ok-replaced.ensures in
-    let whole = replaced_key split r in (
+    let whole = replaced_key split ends r in (
       key,
       c.in_ok-key.ensures.0,
       contents,
@@ -29,7 +29,7 @@ returns-in_ok-marked-in-Nothing c =
     let split = c.split_mark.ensures in
     let (contents, ends, nothing) =
     subst (IsReplacement key value c.split_mark.result.1.now) c.in-Nothing.is c.in_ok-replaced.ensures in
-    let whole = added_key split (c.in_ok-added-in-Nothing.ensures contents ends) in (
+    let whole = added_key split ends (c.in_ok-added-in-Nothing.ensures contents ends) in (
       key,
       c.in_ok-key.ensures.0,
       contents,

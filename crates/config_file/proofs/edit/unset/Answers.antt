@@ -29,7 +29,7 @@ returns-in_ok-marked-in-One c =
       contents_of is_file,
       subst (λ n. (now : List Content) × HasContents n now × LosesOne key contents now × Changes
           (MayUnset key) c.args.text.now n)
-          (sym c.in_ok-marked-in-One.ensures) (one_taken c.split_mark.ensures taken c.in-One.is),
+          (sym c.in_ok-marked-in-One.ensures) (one_taken c.split_mark.ensures (body_ends is_file c.split_mark.ensures) taken c.in-One.is),
     )
 
 pub returns-in-Several : goal.returns-in-Several

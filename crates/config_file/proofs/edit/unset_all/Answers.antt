@@ -29,5 +29,5 @@ returns-in_ok-marked-in-One c =
       contents_of is_file,
       subst (λ n. (now : List Content) × HasContents n now × Without key contents now × Changes
           (MayUnset key) c.args.text.now n)
-          (sym c.in_ok-marked-in-One.ensures) (taken_key c.split_mark.ensures taken),
+          (sym c.in_ok-marked-in-One.ensures) (taken_key c.split_mark.ensures (body_ends is_file c.split_mark.ensures) taken),
     )

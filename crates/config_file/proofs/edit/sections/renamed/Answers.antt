@@ -34,7 +34,7 @@ pieces-preserved c =
           subst (λ b. IsHeader b to.section to.subsection) (sym header_is)
           (header_spelled to.section to.subsection c.requires) in
           let step =
-          renaming_changes piece c.push_header.new.spelling.items renaming c.in-Some.ensures.piece c.in-Some.ensures.shorter held put in
+          renaming_changes piece c.push_header.new.spelling.items renaming c.in-Some.ensures.piece c.in-Some.ensures.shorter held put header_is in
           let new_is : c.if-is_header_of.new.items ≡
           (c.pieces.new.items ++ piece.blanks.now) ++ c.push_header.new.spelling.items = search rules in (
             rw w.is_found-is (subst (λ n. Renaming from to text piece.rest.now n true)

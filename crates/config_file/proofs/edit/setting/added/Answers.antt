@@ -1,4 +1,4 @@
-use Rattle.std.proofs.Common.{◌≡◌, ◌∙◌, ap, subst, IfSome, MatchOption, List, ℕ, [], ◌∷◌, ◌++◌}
+use Rattle.std.proofs.Common.{◌≡◌, ◌∙◌, ap, subst, IfSome, MatchOption, List, ℕ, [], ◌∷◌, ◌++◌, true}
 use Rattle.config_file.specs.KeyView.{key_of}
 use Rattle.config_file.specs.Edit.{NoneIn}
 use Rattle.config_file.specs.Reading.Edits.{IsPlace, line_ends, new_line}
@@ -25,9 +25,9 @@ returns c = λ contents ends.
           let (front, feed, is_feed, cut, pushed) = w.in_ok-push_inside-in-Some.ensures in
           let place = w.in-Some.place in
           let put = front ++ (line_ends place.end feed ++ (new_line key.name value feed ++ place.rest.now)) in
-          let is_place : IsPlace key text [] contents p.section place =
+          let is_place : IsPlace key text [] contents p.section true place =
           subst (λ inside. MatchOption inside (NoneIn key contents)
-          (λ place. IsPlace key text [] contents p.section place)) w.in-Some.is p.inside in
+          (λ place. IsPlace key text [] contents p.section true place)) w.in-Some.is p.inside in
           added_inside value text c.match-places.new.items feed front {section = p.section} {place = place} c.requires.name c.requires.spellable is_place is_feed cut (ap (λ n. n.items) w.new-is ∙ pushed ∙ ap (λ n. n ++ put) c.in_ok-new.ensures.items)
       | in-None+in_ok-push_behind-in-None w ↦
           let (feed, is_feed, pushed) = w.in_ok-push_behind-in-None.ensures in
@@ -37,6 +37,6 @@ returns c = λ contents ends.
           (feed ++ new_line key.name value feed))) in
           let nothing : NoneIn key contents =
           subst (λ inside. MatchOption inside (NoneIn key contents)
-          (λ place. IsPlace key text [] contents p.section place)) w.in-None.is p.inside in
-          added_behind key value text c.match-places.new.items feed contents p.section c.find_places-places.result.end c.requires.name c.requires.spellable c.requires.section nothing p.closes is_feed (ap (λ n. n.items) w.new-is ∙ pushed ∙ ap (λ n. n ++ put) c.in_ok-new.ensures.items)
+          (λ place. IsPlace key text [] contents p.section true place)) w.in-None.is p.inside in
+          added_behind key value text c.match-places.new.items feed contents p.section c.find_places-places.result.end c.requires.name c.requires.spellable c.requires.section nothing p.closes is_feed ends (ap (λ n. n.items) w.new-is ∙ pushed ∙ ap (λ n. n ++ put) c.in_ok-new.ensures.items)
     ]

@@ -1,12 +1,15 @@
-use Rattle.std.proofs.Common.{◌≡◌, ◌⊎◌, ◌∙◌, inl, inr, sym, false, IsTrue}
+use Rattle.std.proofs.Common.{◌≡◌, ◌⊎◌, ◌∙◌, inl, inr, sym, false, IsTrue, ◌&&◌, true}
 use Rattle.std.proofs.Common.{◌↔◌, refl, true≢false}
 use Rattle.config_file.specs.declared.edit.setting.Insertion.{Insertion}
 use Rattle.config_file.specs.declared.edit.setting.Places.{Places}
 use Rattle.config_file.specs.KeyView.{key_of}
-use Rattle.config_file.specs.Edit.{IsIn}
+use Rattle.config_file.specs.declared.section.Section as code
+use Rattle.config_file.specs.declared.edit.piece.Held.TheVariants as held
+use Rattle.config_file.specs.Edit.{IsIn, NoCommentNext}
+use Rattle.std.proofs.lemmas.Bool.{and_parts}
 use Rattle.config_file.specs.Reading.Edits.{section_after, is_item}
 use Rattle.config_file.proofs.Added.{placing_begins, placing_here, placing_kept, placing_ends, place_within}
-use Rattle.config_file.proofs.Added.{inside_after_header, inside_after_other}
+use Rattle.config_file.proofs.Added.{inside_after_header, inside_after_other, header_next}
 use Rattle.config_file.proofs.edit.setting.find_places.Goals as goal
 use Rattle.config_file.proofs.edit.setting.find_places.Goals.{in-Header, in_default-held}
 use Rattle.config_file.proofs.edit.setting.find_places.Goals.{else-is_inside-via-then-is_inside+else-is_item}
@@ -31,7 +34,12 @@ pieces-preserved-then-is_item c =
           (inside_after_other key p.section c.pieces.is_inside piece.held w.in_default-held.not-Header p.inside_is)
     ] in
     let here : Insertion = record { rest = piece.rest; end = c.of-end.result } in
-    placing_here c.pieces.is_inside m.is_inside piece p is c.in-Some.ensures.shorter c.of-end.ensures inside c.if-is_inside.true here refl refl
+    let header : (new : code.Section) → piece.held ≡ held.Header new → m.is_header ≡ true =
+    λ new e. elim c.match-piece.branch [
+      | in-Header w ↦ w.is_header-is
+      | in_default-held w ↦ absurd (w.in_default-held.not-Header new e)
+    ] in
+    placing_here c.pieces.is_inside c.pieces.after_header m.is_inside m.is_header piece p is c.in-Some.ensures.shorter c.of-end.ensures inside c.if-is_inside.true header here refl refl
 
 pub pieces-preserved : goal.pieces-preserved
 pieces-preserved c =
@@ -56,7 +64,21 @@ pieces-preserved c =
       ]
       | else-is_inside-via-else-is_inside w ↦ inl w.if-is_inside.false
     ] in
-    placing_kept c.pieces.is_inside m.is_inside piece p is c.in-Some.ensures.shorter c.of-end.ensures inside either
+    let no_comment : (c.pieces.is_inside && c.pieces.after_header) ≡ true → NoCommentNext c.pieces.rest.now =
+    λ pending.
+    let (was, behind) = and_parts c.pieces.is_inside c.pieces.after_header pending in
+    elim c.else-is_inside.branch [
+      | else-is_inside-via-then-is_inside+else-is_item w ↦ elim w.if-after_header.branch [
+        | then-after_header v ↦ absurd
+            (true≢false (sym v.if-after_header.true ∙ sym v.value-is ∙ w.if-is_item.false))
+        | else-after_header v ↦ absurd (true≢false (sym behind ∙ v.if-after_header.false))
+      ]
+      | else-is_inside-via-else-is_inside w ↦ elim c.match-piece.branch [
+        | in-Header v ↦ header_next piece.held piece.blanks.now piece.bytes.now piece.rest.now piece.is_line v.in-Header.section v.in-Header.is is.blank is.made is.joined
+        | in_default-held v ↦ absurd (true≢false (sym was ∙ sym v.is_inside-is ∙ w.if-is_inside.false))
+      ]
+    ] in
+    placing_kept c.pieces.is_inside c.pieces.after_header m.is_inside m.is_header piece p no_comment is c.in-Some.ensures.shorter c.of-end.ensures inside either
 
 pub returns-clause-places : goal.returns-clause-places
 returns-clause-places c = λ contents ends.
@@ -66,4 +88,4 @@ returns-clause-places c = λ contents ends.
 pub returns-clause-within : goal.returns-clause-within
 returns-clause-within c =
     let p = c.pieces.invariant in
-    place_within (key_of c.args.key.now) c.args.text.now c.pieces.rest.now p.contents p.section c.pieces.is_inside c.pieces.inside p.place
+    place_within (key_of c.args.key.now) c.args.text.now c.pieces.rest.now p.contents p.section c.pieces.is_inside c.pieces.after_header c.pieces.inside p.place

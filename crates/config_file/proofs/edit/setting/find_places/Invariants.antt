@@ -4,7 +4,7 @@ use Rattle.config_file.specs.Reading.Edits.{Placing}
 use Rattle.config_file.proofs.edit.setting.find_places.Given as goal
 
 abbrev pub invariant-pieces : goal.invariant-pieces
-invariant-pieces l = Placing (key_of l.fn.key) l.fn.text l.rest l.is_inside l.inside l.end
+invariant-pieces l = Placing (key_of l.fn.key) l.fn.text l.rest l.is_inside l.after_header l.inside l.end
 
 abbrev pub decreases-pieces : goal.decreases-pieces
 decreases-pieces l = length l.rest
