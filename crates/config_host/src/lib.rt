@@ -8,7 +8,8 @@
 //! - [`sources`] lists what Git reads, with the settings of a command, and [`reading`] follows includes.
 //! - [`surroundings`] holds what includes ask about, and [`users`] knows whose home directories there are.
 //!   [`shown`] writes messages without control characters.
-//! - [`terminal`] tells whether to write colors, and how many.
+//! - [`options`] reads a command line as Git does. [`terminal`] tells whether to write colors, and how many.
+//!   [`text`] builds what a program writes.
 #![tactic(auto)]
 
 mod command;
@@ -22,6 +23,7 @@ pub mod laws;
 mod lines;
 pub mod locked;
 pub mod names;
+pub mod options;
 mod owner;
 pub mod reading;
 mod reftable;
@@ -31,6 +33,7 @@ pub mod shown;
 pub mod sources;
 pub mod surroundings;
 pub mod terminal;
+pub mod text;
 pub mod users;
 
 pub use crate::disk::{Disk, ReadError};

@@ -1,127 +1,69 @@
-//! Reads values of Git's configuration: from files, or from the lines of standard input.
+//! Answers lines of standard input, each of which has a kind, a space and a text, as [`program::run`] says.
 #![tactic(auto)]
 
-mod answers;
-mod arguments;
-mod dates;
-mod edits;
-mod files;
-mod options;
-mod output;
-mod request;
-mod selected;
-mod shown;
-mod sources;
-mod wanted;
-mod words;
-
-use crate::options::word_command;
-use crate::words::{Misuse, Word, Words, words_of};
-use clap::Command;
-use clap::error::ErrorKind;
-use config_host::environment::arguments as arguments_of;
 use gix_config_value::program;
-use std::alloc::AllocError;
-use std::fmt;
+use std::env::{Env, FillError};
+use std::io::{self, Write};
 use std::process::ExitCode;
 
-/// The status of a run that cannot read its arguments, print its usage or get memory for them.
+/// What `--help` prints.
+const HELP: &[u8] = b"\
+Answers each line of standard input, which is a kind, a space and a text
+
+Usage: config_value
+
+The kinds are suffix, integer, amount, boolean, name, attribute and color. An answer is `ok` and the one way in
+which the value is written, or `refused` for a text without a value of the kind, or `unknown kind`.
+
+Options:
+      --help     Print help
+      --version  Print version
+
+Exit status:
+  0  each line is ok
+  1  a line is not
+  2  the input cannot be read, the output cannot be written, memory is refused, or there is another argument
+
+Example:
+  echo 'color bold brightred' | config_value
+";
+
+/// What `--version` prints.
+const VERSION: &[u8] = b"config_value 0.2.0\n";
+
+/// What an argument that is none of the options gets.
+const MISUSED: &[u8] = b"config_value: there are no arguments but --help and --version\n";
+
+/// The status of a run that cannot do what it is asked for.
 const FAILED: u8 = 2;
 
-/// The status after a wrong usage, which is Git's.
-const MISUSED: u8 = 129;
-
-/// Prints the usage, or what is wrong with the arguments.
-fn print_usage(rt: &HostRuntime, error: &clap::Error) -> u8 {
-    match error.print(rt) {
-        Ok(()) if error.kind() == ErrorKind::OutOfMemory => FAILED,
-        Ok(()) if error.use_stderr() => MISUSED,
+/// The status after a text is written.
+fn written(outcome: io::Result<()>) -> u8 {
+    match outcome {
         Ok(()) => 0,
         Err(_) => FAILED,
     }
 }
 
-/// Prints why the arguments cannot be read.
-fn refuse<M: fmt::Display + Drop>(rt: &HostRuntime, message: M) -> u8 {
-    let _ = output::tell(rt, format_args!("config_value: {message}"));
-    FAILED
-}
-
-/// Prints what is wrong with the arguments of a word.
-fn misuse(rt: &HostRuntime, misuse: Misuse) -> u8 {
-    match output::tell(rt, format_args!("config_value: {misuse}")) {
-        Ok(()) => misuse.status(),
-        Err(_) => FAILED,
-    }
-}
-
-/// Lists entries or prints values, as a word asks.
-fn run_word(rt: &HostRuntime, words: &Words<'_>) -> Result<u8, AllocError> {
-    let command = word_command(rt.alloc(), words.word)?;
-    let matches = match command.try_get_matches_from(&words.rest) {
-        Ok(matches) => matches,
-        Err(error) => return Ok(print_usage(rt, &error)),
-    };
-    Ok(
-        match words::request_of(words.word, &matches, &words.commands) {
-            Ok(request) => files::run(rt, &request),
-            Err(why) => misuse(rt, why),
-        },
-    )
-}
-
-/// Answers the lines of standard input if no file, no key and no list is asked for. Otherwise lists entries,
-/// or prints one value.
-fn run_plain(rt: &HostRuntime, words: &Words<'_>) -> Result<u8, AllocError> {
-    let command: Command<'_> = arguments::command(rt.alloc())?;
-    let matches = match command.try_get_matches_from(&words.rest) {
-        Ok(matches) => matches,
-        Err(error) => return Ok(print_usage(rt, &error)),
-    };
-    Ok(match arguments::request_of(&matches, &words.commands) {
-        Some(request) => files::run(rt, &request),
-        None => {
-            let outcome = program::run(rt.alloc(), &mut rt.stdin(), &mut rt.stdout());
-            program::status(&outcome)
+/// Does what the first argument asks.
+fn answer(rt: &HostRuntime, argument: &[u8]) -> u8 {
+    match argument {
+        b"--help" => written(rt.stdout().write_all(HELP)),
+        b"--version" => written(rt.stdout().write_all(VERSION)),
+        _ => {
+            let _ = rt.stderr().write_all(MISUSED);
+            FAILED
         }
-    })
-}
-
-/// Changes a file, as a word asks.
-fn run_change(rt: &HostRuntime, words: &Words<'_>) -> Result<u8, AllocError> {
-    let command = edits::change_command(rt.alloc())?;
-    let matches = match command.try_get_matches_from(&words.rest) {
-        Ok(matches) => matches,
-        Err(error) => return Ok(print_usage(rt, &error)),
-    };
-    let word = match words.rest.as_slice() {
-        [word, ..] => *word,
-        [] => "",
-    };
-    Ok(match edits::run(rt, &matches, word) {
-        Ok(Ok(status)) => status,
-        Ok(Err(error)) => refuse(rt, error),
-        Err(why) => misuse(rt, why),
-    })
-}
-
-/// Does what these arguments ask.
-fn run(rt: &HostRuntime, arguments: &[String]) -> Result<u8, AllocError> {
-    let words = words_of(rt.alloc(), arguments)?;
-    match words.word {
-        Word::Nothing => run_plain(rt, &words),
-        Word::Change => run_change(rt, &words),
-        _ => run_word(rt, &words),
     }
 }
 
 fn main(rt: HostRuntime) -> ExitCode {
-    let arguments = match arguments_of(&rt) {
-        Ok(arguments) => arguments,
-        Err(error) => return ExitCode::from(refuse(&rt, error)),
-    };
-    ExitCode::from(match run(&rt, &arguments) {
-        Ok(status) => status,
-        Err(_) => refuse(&rt, "out of memory"),
+    let mut argument = [0u8; 16];
+    ExitCode::from(match rt.arg(1, &mut argument) {
+        Err(FillError::NotPresent) => {
+            program::status(&program::run(rt.alloc(), &mut rt.stdin(), &mut rt.stdout()))
+        }
+        Err(FillError::TooLong) => answer(&rt, b""),
+        Ok(length) => answer(&rt, argument.get(..length).unwrap_or(b"")),
     })
 }

@@ -2,7 +2,7 @@
 //! for them.
 
 ghost use Rattle.std.specs.Prelude.{◌≡◌, ◌⊎◌};
-ghost use Rattle.config_value.specs.declared.edits.Refusal.TheVariants.{Edit, Pattern};
+ghost use Rattle.git_settings.specs.declared.edits.Refusal.TheVariants.{Edit, Pattern};
 
 use crate::arguments::{file_argument, flag, valued};
 use crate::options::{fixed_argument, pattern_argument, type_argument, words_argument};
