@@ -4,7 +4,7 @@ use config_checks::finding::Finding;
 use config_checks::fix::{Fix, Judge, mend};
 use config_checks::options::Options;
 use config_checks::setting::Setting;
-use config_file::edit::{Change, EditError, change_entries};
+use config_edit::{Change, EditError, change_entries};
 use config_file::{Entries, FileError};
 use config_host::{Disk, LockError, Locked};
 use std::alloc::{AllocError, Global};

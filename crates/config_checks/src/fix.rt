@@ -28,7 +28,7 @@ use std::alloc::{AllocError, Global};
 ///
 /// ```rust
 /// use config_checks::fix::Fix;
-/// use config_file::edit::Change;
+/// use config_edit::Change;
 ///
 /// let fix = Fix::Value(b"true");
 /// let change = match fix {

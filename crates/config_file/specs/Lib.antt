@@ -7,14 +7,10 @@ pub mod Shown
 pub mod Scope
 pub mod Value
 pub mod File
-pub mod Reached
 pub mod Listing
 pub mod Key
 pub mod KeyView
-pub mod Url
-pub mod UrlView
 pub mod Spelling
-pub mod Edit
 pub mod Command
 pub mod Settings
 pub mod Set
@@ -23,6 +19,5 @@ pub mod Path
 pub mod Include
 pub mod Walk
 pub mod Views
-pub mod Deciding
 pub mod Left
 pub mod Reading

@@ -4,6 +4,3 @@ pub mod Walks
 pub mod Places
 pub mod Adds
 pub mod Commands
-pub mod Urls
-pub mod Fits
-pub mod Edits

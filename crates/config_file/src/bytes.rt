@@ -1,4 +1,4 @@
-//! Bytes, and runs of them.
+//! Bytes and runs of them, for the crates that read or change a text of which an [`Entry`](crate::Entry) is a part.
 ghost use Rattle.std.specs.Prelude.{◌≡◌, ℕ, ◌<◌, ◌≤◌, ◌↔◌, List, [], ◌∷◌, ◌++◌, length, MatchOption};
 ghost use Rattle.std.specs.Prelude.{IsTrue, take, drop};
 ghost use Rattle.std.specs.Prelude.{count_by, ◌==◌};
@@ -13,7 +13,7 @@ ghost use Rattle.config_file.specs.Reading.Scans.{passes};
 
 /// The first byte of a text and what follows it, or `None` if the text is empty.
 #[inline(always)]
-pub(crate) fn split(text: &[u8]) -> Option<(u8, &[u8])>
+pub fn split(text: &[u8]) -> Option<(u8, &[u8])>
     ensures { MatchOption result (text.now ≡ []) (λ p. text.now ≡ p.0 ∷ p.1.now) }
 {
     match text {
@@ -24,22 +24,24 @@ pub(crate) fn split(text: &[u8]) -> Option<(u8, &[u8])>
 
 /// What follows this byte, if the text begins with it.
 #[inline(always)]
-pub(crate) fn after_byte(byte: u8, text: &[u8]) -> Option<&[u8]>
+pub fn after_byte(byte: u8, text: &[u8]) -> Option<&[u8]>
     ensures { MatchOption result (BeginsWithout byte text.now) (λ rest. text.now ≡ byte ∷ rest.now) }
 {
     let (first, rest) = split(text)?;
     if first == byte { Some(rest) } else { None }
 }
 
+/// Whether this byte is a space, a TAB or a CR.
 #[inline]
-pub(crate) fn is_blank(byte: u8) -> bool
+pub fn is_blank(byte: u8) -> bool
     ensures { result ≡ spec.is_blank byte }
 {
     byte == b' ' || byte == b'\t' || byte == b'\r'
 }
 
+/// Whether this byte begins a comment: `#` or `;`.
 #[inline]
-pub(crate) fn is_comment_sign(byte: u8) -> bool
+pub fn is_comment_sign(byte: u8) -> bool
     ensures { result ≡ spec.is_comment_sign byte }
 {
     byte == b'#' || byte == b';'
@@ -96,14 +98,22 @@ pub(crate) fn is_at_line_end(text: &[u8]) -> bool
 
 /// A class of bytes, of which a run is wanted.
 #[derive(Clone, Copy)]
-pub(crate) enum Class {
+pub enum Class {
+    /// Letters, digits, `-` and `.`.
     Name,
+    /// Letters, digits and `-`.
     Key,
+    /// Spaces, TABs and CRs.
     Blank,
+    /// Spaces and TABs.
     Space,
+    /// All bytes but LF.
     Comment,
+    /// All bytes but a backslash.
     Unescaped,
+    /// All bytes but blanks, quotes and backslashes.
     Word,
+    /// All bytes after which a value goes on in quotes and outside them, but quotes and backslashes.
     Plain,
 }
 
@@ -137,14 +147,14 @@ fn run_length(text: &[u8], class: Class) -> usize
 
 /// The longest run of bytes of a class at the start of the text, and the rest.
 #[inline(always)]
-pub(crate) fn run(text: &[u8], class: Class) -> (&[u8], &[u8])
+pub fn run(text: &[u8], class: Class) -> (&[u8], &[u8])
     ensures { Run (passes class) text.now result.0.now result.1.now }
 {
     text.split_at(run_length(text, class))
 }
 
 /// How many LFs a text has.
-pub(crate) fn line_feeds(text: &[u8]) -> usize
+pub fn line_feeds(text: &[u8]) -> usize
     ensures count { result ≡ line_feeds text.now }
     ensures within { result ≤ length text.now }
 {
@@ -152,7 +162,7 @@ pub(crate) fn line_feeds(text: &[u8]) -> usize
 }
 
 /// The part of the text that precedes this rest of it.
-pub(crate) fn before<'a>(text: &'a [u8], rest: &[u8]) -> &'a [u8]
+pub fn before<'a>(text: &'a [u8], rest: &[u8]) -> &'a [u8]
     requires { (front : List ℕ) × (text.now ≡ front ++ rest.now) }
     ensures { text.now ≡ result.now ++ rest.now }
 {

@@ -38,18 +38,22 @@ pub struct Entry<'a> {
 /// The number of bytes that is enough for most keys.
 const USUAL_LENGTH: usize = 32;
 
-/// The parts of an entry without its section, how many line ends it continues over, and what follows it.
+/// The parts of an entry without its section, and what follows it.
 #[derive(Clone, Copy)]
-pub(crate) struct EntryParts<'a> {
+pub struct EntryParts<'a> {
+    /// The key, as it is written.
     pub key: &'a [u8],
+    /// The value, if an `=` follows the key.
     pub value: Option<Value<'a>>,
+    /// How many line ends the entry continues over.
     pub lines: usize,
+    /// What follows the value, or the key if there is none.
     pub rest: &'a [u8],
 }
 
-/// Reads the entry at the start of the text.
+/// Reads the entry at the start of the text. It fails where the text is no entry.
 #[inline(always)]
-pub(crate) fn read_entry(text: &[u8]) -> Result<EntryParts<'_>, Stop>
+pub fn read_entry(text: &[u8]) -> Result<EntryParts<'_>, Stop>
     ensures { MatchResult result
         (λ parts. TakesEntry text.now parts.key.now (value_of parts.value) parts.lines parts.rest.now)
         (λ stop. EntryStops text.now stop.lines stop.fault) }
@@ -149,8 +153,8 @@ fn push_section(text: &mut Vec<u8>, section: &Section<'_>) -> Result<(), AllocEr
     Ok(())
 }
 
-/// Appends a name in lower case.
-pub(crate) fn push_lower(text: &mut Vec<u8>, name: &[u8]) -> Result<(), AllocError>
+/// Appends a name in lower case. It fails if memory is refused.
+pub fn push_lower(text: &mut Vec<u8>, name: &[u8]) -> Result<(), AllocError>
     ensures { OnOk result (text.new.items ≡ text.old.items ++ map to_ascii_lowercase name.now) }
 {
     let start = text.len();

@@ -73,10 +73,12 @@ impl fmt::Display for FileError {
 
 impl error::Error for FileError {}
 
-/// Where the reading of an item stops: how many lines after its first one, and why.
+/// Where the reading of an entry or a header stops.
 #[derive(Clone, Copy)]
-pub(crate) struct Stop {
+pub struct Stop {
+    /// How many lines after its first one.
     pub lines: usize,
+    /// Why.
     pub fault: FileFault,
 }
 

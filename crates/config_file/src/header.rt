@@ -9,8 +9,8 @@ use crate::bytes::{Class, after_byte, before, is_at_line_end, is_text_byte, run,
 use crate::errors::{FileFault, Stop, stop_at};
 use crate::section::{Section, Subsection};
 
-/// Reads a header after its `[`. Returns the section, and what follows the header.
-pub(crate) fn read_header(text: &[u8]) -> Result<(Section<'_>, &[u8]), Stop>
+/// Reads a header after its `[`. Returns the section, and what follows the header. It fails where the text is no header.
+pub fn read_header(text: &[u8]) -> Result<(Section<'_>, &[u8]), Stop>
     ensures { MatchResult result (λ p. Header text.now (section_of p.0) p.1.now)
         (λ stop. HeaderStops text.now stop.lines stop.fault) }
 {

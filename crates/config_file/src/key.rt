@@ -206,7 +206,7 @@ impl<'k> Key<'k> {
     }
 
     /// Whether Git lists this section as what precedes the last dot of the key.
-    pub(crate) fn is_in(&self, section: &Section<'_>) -> bool
+    pub fn is_in(&self, section: &Section<'_>) -> bool
         ensures { (text : List ℕ) → IsListedSection (section_of section.now) text
             → (IsTrue result
             ↔ IsListedSection (section_of section.now) (stem (key_of self.now) ++ dot ∷ [])) }
@@ -262,8 +262,8 @@ fn is_one_line(subsection: Option<&[u8]>) -> bool
     }
 }
 
-/// Whether this is a letter, followed by bytes of keys.
-pub(crate) fn is_name(name: &[u8]) -> bool
+/// Whether Git takes this for the last part of a key: a letter, and then letters, digits and `-`.
+pub fn is_name(name: &[u8]) -> bool
     ensures { result ≡ keys.is_name name.now }
 {
     match split(name) {

@@ -8,7 +8,6 @@ ghost use Rattle.config_file.specs.Value.{Ending, SpellsValue, escape};
 ghost use Rattle.config_file.specs.Listing.{IsListed};
 ghost use Rattle.config_file.specs.Key.{Key, HasKey, IsCut, IsKey, RefusesKey, listed};
 
-pub mod edits;
 pub mod equality;
 pub mod settings;
 pub mod walks;

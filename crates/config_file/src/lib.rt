@@ -10,13 +10,12 @@
 //!   line.
 #![tactic(auto)]
 
-mod bytes;
+pub mod bytes;
 pub mod command;
-pub mod edit;
 pub mod entry;
 pub mod errors;
 pub mod files;
-mod header;
+pub mod header;
 pub mod include;
 pub mod key;
 pub mod laws;
@@ -29,7 +28,6 @@ mod set;
 pub mod settings;
 mod shown;
 pub mod spelling;
-pub mod url;
 pub mod value;
 pub mod walk;
 
@@ -45,5 +43,4 @@ pub use crate::scope::Scope;
 pub use crate::settings::{
     AddError, GetError, IncludeFault, Next, RefusedSetting, Setting, Settings, next_of,
 };
-pub use crate::url::Url;
 pub use crate::walk::{FilePlace, Frame, Include, Known, Step, Walk};

@@ -34,7 +34,7 @@ pub struct Entries<'a> {
 }
 
 /// What follows the byte order mark, or `None` if the text does not begin with it.
-pub(crate) fn after_mark(text: &[u8]) -> Option<&[u8]>
+pub fn after_mark(text: &[u8]) -> Option<&[u8]>
     ensures { option_map (λ rest. rest.now) result ≡ after_mark text.now }
 {
     match text {

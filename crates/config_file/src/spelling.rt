@@ -95,8 +95,8 @@ pub fn spell_entry(
     Ok(Some(line))
 }
 
-/// Whether a value has a spelling.
-pub(crate) fn is_spellable(value: &[u8]) -> bool
+/// Whether a value has a spelling: it has no NUL.
+pub fn is_spellable(value: &[u8]) -> bool
     ensures { result ≡ spec.is_spellable value.now }
 {
     value.iter().all(|byte| *byte != 0)
@@ -130,7 +130,7 @@ fn are_key_bytes(key: &[u8]) -> bool
 }
 
 /// Whether a header can have this name and this subsection.
-pub(crate) fn is_section(name: &[u8], subsection: Option<&[u8]>) -> bool
+pub fn is_section(name: &[u8], subsection: Option<&[u8]>) -> bool
     ensures { result ≡ spec.is_section name.now (option_copied subsection.entry) }
 {
     match subsection {
@@ -254,8 +254,9 @@ fn push_value(spelling: &mut Vec<u8>, value: &[u8]) -> Result<(), AllocError>
     push_bytes(spelling, false, value)
 }
 
-/// Appends the spelling that Git writes, in which a TAB has its backslash in quotes too.
-pub(crate) fn push_as_git(spelling: &mut Vec<u8>, value: &[u8]) -> Result<(), AllocError>
+/// Appends the spelling that Git writes, in which a TAB has its backslash in quotes too. It fails if memory is
+/// refused.
+pub fn push_as_git(spelling: &mut Vec<u8>, value: &[u8]) -> Result<(), AllocError>
     ensures { OnOk result (spelling.new.items ≡ spelling.old.items ++ git_spelled value.now) }
 {
     if needs_quotes(value) {
@@ -279,7 +280,8 @@ fn push_subsection(spelling: &mut Vec<u8>, subsection: &[u8]) -> Result<(), Allo
     Ok(())
 }
 
-pub(crate) fn push_header(
+/// Appends the header of a section and a subsection. It fails if memory is refused.
+pub fn push_header(
     spelling: &mut Vec<u8>,
     name: &[u8],
     subsection: Option<&[u8]>,

@@ -4,9 +4,10 @@ use crate::files::{Reading, origin_of};
 use crate::output::{Ending, tell, tell_refusal};
 use crate::shown::{Outcome, Shown};
 use crate::wanted::section_and_name;
-use config_file::{Key, Setting, Settings, Url};
+use config_file::{Key, Setting, Settings};
 use config_host::HostError;
 use config_host::environment::variable;
+use config_url::{Url, last_for_url};
 use gix_config_value::canonical::TryRead;
 use gix_config_value::{Boolean, Color};
 use std::alloc::AllocError;
@@ -131,7 +132,7 @@ impl<'t, W: Write + Drop> Reading<'_, '_, '_, '_, 't, W> {
         let Ok(key) = Key::parse(&text) else {
             return Ok(ending);
         };
-        match group.last_for_url(alloc, &key, url)? {
+        match last_for_url(alloc, group, &key, url)? {
             Some(setting) => self.answer_for_url(setting, &text),
             None => Ok(ending),
         }

@@ -16,7 +16,7 @@ use crate::words::{CHANGES, Misuse, shown_of, texts_of};
 use bstr::BStr;
 use bumpalo::Bump;
 use clap::{ArgMatches, Command};
-use config_file::edit::{self, EditError};
+use config_edit::EditError;
 use config_file::{Key, KeyError, Scope};
 use config_host::sources::names;
 use config_host::{Disk, HereError, HostError, LockError, Locked};
@@ -324,18 +324,18 @@ fn changed_all(
     value: &[u8],
 ) -> Result<Vec<u8>, EditError> {
     match change {
-        Change::Set(key, _) => edit::set(alloc, text, key.as_bytes(), value),
-        Change::Add(key, _) => edit::add(alloc, text, key.as_bytes(), value),
-        Change::Replace(key, _) => edit::replace_all(alloc, text, key.as_bytes(), value),
-        Change::Unset(key) => edit::unset(alloc, text, key.as_bytes()),
-        Change::UnsetAll(key) => edit::unset_all(alloc, text, key.as_bytes()),
-        Change::Rename(old, new) => edit::rename_section(
+        Change::Set(key, _) => config_edit::set(alloc, text, key.as_bytes(), value),
+        Change::Add(key, _) => config_edit::add(alloc, text, key.as_bytes(), value),
+        Change::Replace(key, _) => config_edit::replace_all(alloc, text, key.as_bytes(), value),
+        Change::Unset(key) => config_edit::unset(alloc, text, key.as_bytes()),
+        Change::UnsetAll(key) => config_edit::unset_all(alloc, text, key.as_bytes()),
+        Change::Rename(old, new) => config_edit::rename_section(
             alloc,
             text,
             old.as_bytes(),
             new.as_bytes(),
         ),
-        Change::Remove(name) => edit::remove_section(alloc, text, name.as_bytes()),
+        Change::Remove(name) => config_edit::remove_section(alloc, text, name.as_bytes()),
     }
 }
 

@@ -1,7 +1,7 @@
 //! Changes of those entries of a key whose values fit, and comments behind values.
 
 use crate::wanted::Wanted;
-use config_file::edit::{self, Change, EditError};
+use config_edit::{Change, EditError};
 use config_file::{Entries, Entry};
 use std::alloc::{AllocError, Global};
 
@@ -91,9 +91,9 @@ pub fn without(
             return Err(EditError::Memory(AllocError));
         }
     }
-    let named = edit::change_entries(alloc, text, changes.as_slice())?;
+    let named = config_edit::change_entries(alloc, text, changes.as_slice())?;
     let key = renamed_key(alloc, key, name.as_slice())?;
-    edit::unset_all(alloc, named.as_slice(), key.as_slice())
+    config_edit::unset_all(alloc, named.as_slice(), key.as_slice())
 }
 
 /// A new text, and the place of the entry that has changed in it, if that is not the last one of the key.
@@ -114,7 +114,7 @@ pub fn with_value(
 ) -> Result<Changed, EditError> {
     let [others @ .., last] = places else {
         return Ok(Changed {
-            text: edit::add(alloc, text, key.as_bytes(), value)?,
+            text: config_edit::add(alloc, text, key.as_bytes(), value)?,
             place: None,
         });
     };
@@ -123,7 +123,7 @@ pub fn with_value(
         name: None,
         value: Some(value),
     };
-    let new = edit::change_entries(alloc, text, &[change])?;
+    let new = config_edit::change_entries(alloc, text, &[change])?;
     Ok(Changed {
         text: if others.is_empty() {
             new

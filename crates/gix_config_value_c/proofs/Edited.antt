@@ -1,6 +1,6 @@
 -- What an edit makes is put into the buffer, and why it is refused is told.
 use Rattle.std.proofs.Common.{◌≡◌, ℕ, List, Result, Ok, Err, MatchResult}
-use Rattle.config_file.specs.declared.edit.EditError.{EditError}
+use Rattle.config_edit.specs.declared.EditError.{EditError}
 use Rattle.gix_config_value_c.specs.Buffers.{PutsText}
 use Rattle.gix_config_value_c.specs.Buffers.AnswersText.{put, none}
 use Rattle.gix_config_value_c.specs.Edits.{EditsInto, edit_status, told_line}

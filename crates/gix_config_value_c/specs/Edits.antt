@@ -1,7 +1,7 @@
 -- Edits of the text of a configuration file, in C.
 use Rattle.std.specs.Prelude.{◌≡◌, ℕ, List}
-use Rattle.config_file.specs.declared.edit.EditError.{EditError}
-use Rattle.config_file.specs.declared.edit.EditError.TheVariants as error
+use Rattle.config_edit.specs.declared.EditError.{EditError}
+use Rattle.config_edit.specs.declared.EditError.TheVariants as error
 use Rattle.gix_config_value_c.specs.declared.status.Status.{Status}
 use Rattle.gix_config_value_c.specs.declared.status.Status.TheVariants as statuses
 use Rattle.gix_config_value_c.specs.Buffers.{AnswersText}

@@ -1,8 +1,8 @@
 //! Edits of the text of a configuration file.
 ghost use Rattle.std.specs.Prelude.{◌≡◌, None, Some, MatchResult};
-ghost use Rattle.config_file.specs.Edit.{AddsOne, HasNone, HasSeveral, Never, RefusesEdit, RefusesRemoval};
-ghost use Rattle.config_file.specs.Edit.{RefusesRenaming, RemovesSection, RenamesSection, ReplacesAll, Sets};
-ghost use Rattle.config_file.specs.Edit.{Unsets, UnsetsAll};
+ghost use Rattle.config_edit.specs.Edit.{AddsOne, HasNone, HasSeveral, Never, RefusesEdit, RefusesRemoval};
+ghost use Rattle.config_edit.specs.Edit.{RefusesRenaming, RemovesSection, RenamesSection, ReplacesAll, Sets};
+ghost use Rattle.config_edit.specs.Edit.{Unsets, UnsetsAll};
 ghost use Rattle.gix_config_value_c.specs.Buffers.{PutsText};
 ghost use Rattle.gix_config_value_c.specs.Edits.{EditsInto, told_line};
 ghost use Rattle.gix_config_value_c.specs.Edits.{edit_status as status_of};
@@ -12,7 +12,7 @@ use crate::buffer::put;
 use crate::commands::key_status;
 use crate::files::fault_status;
 use crate::status::Status;
-use config_file::edit::{
+use config_edit::{
     EditError, add, remove_section, rename_section, replace_all, set, unset, unset_all,
 };
 use std::alloc::Global;

@@ -1,7 +1,8 @@
 //! Settings that are of some URLs only: which pattern matches a URL, and which of several decides.
 
 use crate::support::holds;
-use config_file::{Key, Settings, Url};
+use config_file::{Key, Settings};
+use config_url::{Url, last_for_url};
 use std::alloc::Global;
 use std::test::Fail;
 
@@ -235,7 +236,7 @@ fn is_decided(alloc: Global, file: &[u8], url: &str, wanted: Option<&str>) -> Re
     let mut settings = Settings::new(alloc);
     settings.add_file(alloc, b"f", file)?;
     let key = Key::parse(b"Http.K")?;
-    let found = settings.last_for_url(alloc, &key, &url)?;
+    let found = last_for_url(alloc, &settings, &key, &url)?;
     Ok(match (found, wanted) {
         (Some(setting), Some(wanted)) => setting.text() == wanted.as_bytes(),
         (None, None) => true,

@@ -3,9 +3,9 @@ ghost use Rattle.std.specs.Prelude.{◌≡◌};
 ghost use Rattle.config_text.specs.Orders.{Equates, IsCopied};
 ghost use Rattle.config_file.specs.Include.{IsSameCondition};
 
-use crate::edit::Change;
-use crate::entry::Entry;
-use crate::errors::{FileError, FileFault};
+use crate::bytes::Class;
+use crate::entry::{Entry, EntryParts};
+use crate::errors::{FileError, FileFault, Stop};
 use crate::files::Content;
 use crate::include::{Condition, Includes, Repository, Urls};
 use crate::key::{Key, KeyError};
@@ -61,11 +61,14 @@ pub fn entries()
     ensures subsections { IsCopied ⟦<Subsection<'static> as Clone>⟧.is_clone
         ⟦<Subsection<'static> as Clone>⟧.is_infallible }
     ensures values { IsCopied ⟦<Value<'static> as Clone>⟧.is_clone ⟦<Value<'static> as Clone>⟧.is_infallible }
+    ensures parts { IsCopied ⟦<EntryParts<'static> as Clone>⟧.is_clone
+        ⟦<EntryParts<'static> as Clone>⟧.is_infallible }
 {}
 
-/// A clone of a change of an entry is the same, and never fails.
-pub fn changes()
-    ensures { IsCopied ⟦<Change<'static> as Clone>⟧.is_clone ⟦<Change<'static> as Clone>⟧.is_infallible }
+/// A clone of a class of bytes, or of where the reading of an item stops, is the same, and never fails.
+pub fn items()
+    ensures classes { IsCopied ⟦<Class as Clone>⟧.is_clone ⟦<Class as Clone>⟧.is_infallible }
+    ensures stops { IsCopied ⟦<Stop as Clone>⟧.is_clone ⟦<Stop as Clone>⟧.is_infallible }
 {}
 
 /// A clone of what a walk knows or finds is the same, and never fails.

@@ -1,0 +1,443 @@
+-- Texts in which entries have other keys and values.
+use Rattle.std.proofs.Common.{◌≡◌, ◌≢◌, ℕ, ◌+◌, ◌<◌, ◌≤◌, Bool, true, List, [], ◌∷◌, ◌++◌, Option, Some, None}
+use Rattle.std.proofs.Common.{length, drop, refl, sym, ap, ◌∙◌, subst, append_assoc, append-nil, ◌⊎◌, arith}
+use Rattle.std.proofs.Common.{option_copied, MatchOption, inl, inr}
+use Rattle.std.proofs.lemmas.List.{append_cancel_left, append_cancel_right, length-append, length-drop}
+use Rattle.config_edit.specs.declared.Change.{Change}
+use Rattle.config_edit.specs.declared.piece.Held.{Held}
+use Rattle.config_edit.specs.declared.piece.Held.TheVariants as held
+use Rattle.config_edit.specs.declared.piece.Piece.{Piece}
+use Rattle.config_file.specs.declared.entry.EntryParts.{EntryParts}
+use Rattle.config_file.specs.Bytes.{BeginsWithLetter}
+use Rattle.config_file.specs.Header.{Section}
+use Rattle.config_file.specs.File.{TakesKey, TakesEntry, alone, valued}
+use Rattle.config_file.specs.Value.{TakesValue, closed, open_end}
+use Rattle.config_file.specs.Key.{is_name}
+use Rattle.config_edit.specs.Edit as spec
+use Rattle.config_edit.specs.Edit.{Content, Becomes, ChangesEach, ChangesValueTo, MayChange, AreInOrder, IsChanged, IsEntry}
+use Rattle.config_edit.specs.Edit.{Has, HasValue, PutsValue, name_after, value_bytes}
+use Rattle.config_edit.specs.Reading.{Ends, Passed, anywhere, IsRead, IsPiece, IsSet, IsChangedIn, IsValued}
+use Rattle.config_edit.specs.Reading.{AreLater, AreWritable, Changing, IsEachChanged, contents_in}
+use Rattle.config_edit.specs.Reading.{section_after, content_of, Comes, IsShaped, IsGiven}
+use Rattle.config_file.specs.Views.{value_of}
+use Rattle.config_edit.proofs.Added.{name_parts}
+use Rattle.config_edit.proofs.Pieces.{entry_passed, made_passed, key_joined}
+use Rattle.config_edit.proofs.Edits.{holds_nothing, passed_join, passed_ends, all_passed, some_left}
+use Rattle.config_edit.proofs.Edits.{joined_more, passed_holds, comes_blanks}
+use Rattle.config_edit.proofs.Becomes.{becomes_before, becomes_piece}
+
+-- an entry with another key
+takes_named : {text key rest : List ℕ} (name : List ℕ) → is_name name ≡ true → (t : TakesKey text key rest)
+    → TakesKey (name ++ t.spaced) name rest
+takes_named name is t =
+    record {
+      spaced = t.spaced;
+      spaces = t.spaces;
+      key_run = record { joined = refl; pass = let (b, more, name_is, letter, all) = name_parts name is in all; longest = t.key_run.longest };
+      space_run = t.space_run;
+    }
+
+begins_named : (name rest : List ℕ) → is_name name ≡ true → BeginsWithLetter (name ++ rest)
+begins_named name rest is =
+    let (b, more, name_is, letter, all) = name_parts name is in
+    (b, more ++ rest, ap (λ n. n ++ rest) name_is, letter)
+
+value_joined : {after raw rest : List ℕ} {lines : ℕ} → TakesValue after raw lines rest → after ≡ raw ++ rest
+value_joined (closed joined spells ends) = joined
+value_joined (open_end {raw = raw} spells) = sym (append-nil raw)
+
+entry_named : {text key rest : List ℕ} {value : Option (List ℕ)} {lines : ℕ} (name : List ℕ)
+    → is_name name ≡ true → TakesEntry text key value lines rest
+    → (more : List ℕ) × (text ≡ (key ++ more) ++ rest) × TakesEntry ((name ++ more) ++ rest) name value lines rest
+entry_named name is (alone {key = key} {rest = rest} t end) =
+    let spaced_is : t.spaced ≡ t.spaces ++ rest = t.space_run.joined in (
+      t.spaces,
+      key_joined rest t,
+      subst (λ x. TakesEntry x name None 0 rest)
+          (ap (λ s. name ++ s) spaced_is ∙ sym (append_assoc name t.spaces rest))
+          (alone (takes_named name is t) end),
+    )
+entry_named name is (valued {b = b} {lines = lines} {key = key} {after = after} {raw = raw} {rest = rest} t is_sign value) =
+    let more = t.spaces ++ b ∷ raw in
+    let spaced_is : t.spaced ≡ more ++ rest =
+    t.space_run.joined ∙ ap (λ a. t.spaces ++ b ∷ a) (value_joined value)
+    ∙ sym (append_assoc t.spaces (b ∷ raw) rest) in (
+      more,
+      t.key_run.joined ∙ ap (λ s. key ++ s) spaced_is ∙ sym (append_assoc key more rest),
+      subst (λ x. TakesEntry x name (Some raw) lines rest)
+          (ap (λ s. name ++ s) spaced_is ∙ sym (append_assoc name more rest))
+          (valued (takes_named name is t) is_sign value),
+    )
+
+pub named : {key at blanks bytes rest : List ℕ} {value : Option (List ℕ)} {lines : ℕ} {is_line : Bool}
+    (name : List ℕ) → is_name name ≡ true → IsEntry key value lines at blanks bytes rest is_line
+    → (more : List ℕ) × (bytes ≡ blanks ++ (key ++ more)) × IsEntry name value lines at blanks (blanks ++ (name ++ more)) rest is_line
+named {key = key} {at = at} {blanks = blanks} name is e =
+    let (more, text_is, takes) = entry_named name is e.takes in
+    let front_is : e.front ≡ key ++ more = append_cancel_right e.front (key ++ more) at text_is in (
+      more ++ e.tail,
+      e.joined ∙ ap (λ f. blanks ++ (f ++ e.tail)) front_is
+          ∙ ap (λ x. blanks ++ x) (append_assoc key more e.tail),
+      record {
+        front = name ++ more;
+        tail = e.tail;
+        begins = subst BeginsWithLetter (sym (append_assoc name more at)) (begins_named name (more ++ at) is);
+        takes = takes;
+        left = e.left;
+        is_tail = e.is_tail;
+        joined = ap (λ x. blanks ++ x) (sym (append_assoc name more e.tail));
+      },
+    )
+
+-- what precedes the value of an entry, and its bytes
+value_at_end : {text key rest : List ℕ} {value : Option (List ℕ)} {lines : ℕ} → TakesEntry text key value lines rest
+    → (between : List ℕ) × (text ≡ (key ++ (between ++ value_bytes value)) ++ rest)
+value_at_end (alone {key = key} {rest = rest} t end) = (
+  t.spaces,
+  key_joined rest t ∙ ap (λ s. (key ++ s) ++ rest) (sym (append-nil t.spaces)),
+)
+value_at_end (valued {b = b} {key = key} {after = after} {raw = raw} {rest = rest} t is_sign value) =
+    let before = t.spaces ++ b ∷ [] in
+    let bytes_are : t.spaces ++ b ∷ raw ≡ before ++ raw = sym (append_assoc t.spaces (b ∷ []) raw) in
+    let whole : t.spaced ≡ (before ++ raw) ++ rest =
+    t.space_run.joined ∙ ap (λ a. t.spaces ++ b ∷ a) (value_joined value)
+    ∙ sym (append_assoc t.spaces (b ∷ raw) rest) ∙ ap (λ x. x ++ rest) bytes_are in
+    (before, t.key_run.joined ∙ ap (λ s. key ++ s) whole ∙ sym (append_assoc key (before ++ raw) rest))
+
+-- an entry whose bytes stay
+shaped_old : {value : Option (List ℕ)} {parts : EntryParts} {piece : Piece}
+    → IsEntry parts.key.now (value_of parts.value) parts.lines parts.rest.now piece.blanks.now piece.bytes.now piece.rest.now piece.is_line
+    → MatchOption value (value_bytes (value_of parts.value) ≡ value_bytes (value_of parts.value))
+    (λ new. ChangesValueTo new (value_of parts.value) (value_bytes (value_of parts.value)))
+    → IsShaped parts.key.now value parts piece piece.bytes.now
+shaped_old {parts = parts} {piece = piece} e is_valued =
+    let key = parts.key.now in
+    let raw = value_bytes (value_of parts.value) in
+    let (between, text_is) = value_at_end e.takes in
+    let front_is : e.front ≡ key ++ (between ++ raw) =
+    append_cancel_right e.front (key ++ (between ++ raw)) parts.rest.now text_is in
+    let joined = e.joined ∙ ap (λ f. piece.blanks.now ++ (f ++ e.tail)) front_is in
+    record {
+      lines = parts.lines;
+      between = between;
+      bytes = raw;
+      tail = e.tail;
+      begins = subst (λ f. BeginsWithLetter (f ++ (e.tail ++ piece.rest.now))) front_is
+          (subst (λ a. BeginsWithLetter (e.front ++ a)) e.left e.begins);
+      takes = subst (λ f. TakesEntry (f ++ (e.tail ++ piece.rest.now)) key (value_of parts.value) parts.lines (e.tail ++ piece.rest.now)) front_is
+          (subst (λ a. TakesEntry (e.front ++ a) key (value_of parts.value) parts.lines a) e.left e.takes);
+      bytes_are = joined;
+      put_is = joined;
+      is_valued = is_valued;
+    }
+
+-- an entry of which only the bytes of the value change
+shaped_new : {value : List ℕ} {parts : EntryParts} {piece : Piece} {put : List ℕ}
+    → ¬ (HasValue (value_of parts.value) value) → IsGiven parts piece value put
+    → IsShaped parts.key.now (Some value) parts piece put
+shaped_new {parts = parts} {piece = piece} other g =
+    let key = parts.key.now in
+    let was = value_of parts.value in
+    let raw = value_bytes was in
+    let rest = g.tail ++ piece.rest.now in
+    let (between, text_is) = value_at_end g.gives.takes in
+    let gone_is : g.gone ≡ key ++ (between ++ raw) =
+    append_cancel_right g.gone (key ++ (between ++ raw)) rest text_is in
+    let front_is : g.gives.front ≡ key ++ between =
+    append_cancel_right g.gives.front (key ++ between) raw
+    (sym g.gives.gone_is ∙ gone_is ∙ sym (append_assoc key between raw)) in
+    let now_is : g.now ≡ key ++ (between ++ g.gives.bytes) =
+    g.gives.put_is ∙ ap (λ f. f ++ g.gives.bytes) front_is ∙ append_assoc key between g.gives.bytes in
+    record {
+      lines = g.gives.lines;
+      between = between;
+      bytes = g.gives.bytes;
+      tail = g.tail;
+      begins = subst (λ f. BeginsWithLetter (f ++ rest)) gone_is g.gives.begins;
+      takes = subst (λ f. TakesEntry (f ++ rest) key was g.gives.lines rest) gone_is g.gives.takes;
+      bytes_are = g.bytes_are ∙ ap (λ f. piece.blanks.now ++ (f ++ g.tail)) gone_is;
+      put_is = g.put_is ∙ ap (λ f. piece.blanks.now ++ (f ++ g.tail)) now_is;
+      is_valued = inr (other, g.gives.puts);
+    }
+
+shaped_set : {value : List ℕ} {parts : EntryParts} {piece : Piece} {put : List ℕ}
+    → IsEntry parts.key.now (value_of parts.value) parts.lines parts.rest.now piece.blanks.now piece.bytes.now piece.rest.now piece.is_line
+    → IsSet parts piece value put → IsShaped parts.key.now (Some value) parts piece put
+shaped_set {value = value} {parts = parts} {piece = piece} e s = elim s.given [
+  | inl same ↦ subst (λ p. IsShaped parts.key.now (Some value) parts piece p) (sym same.1)
+      (shaped_old {value = Some value} e (inl (same.0, refl)))
+  | inr other ↦ shaped_new other.0 other.1
+]
+
+pub valued_new : {value : List ℕ} {parts : EntryParts} {piece : Piece} {put : List ℕ}
+    → IsEntry parts.key.now (value_of parts.value) parts.lines parts.rest.now piece.blanks.now piece.bytes.now piece.rest.now piece.is_line
+    → IsSet parts piece value put → IsValued (Some value) parts piece put
+valued_new e s =
+    record { raw = Some s.raw; lines = s.lines; at = s.at; value_is = s.has_value; entry = s.entry; shaped = shaped_set e s }
+
+pub valued_old : {parts : EntryParts} {piece : Piece}
+    → IsEntry parts.key.now (value_of parts.value) parts.lines parts.rest.now piece.blanks.now piece.bytes.now piece.rest.now piece.is_line
+    → IsValued None parts piece piece.bytes.now
+valued_old {parts = parts} e =
+    record { raw = value_of parts.value; lines = parts.lines; at = parts.rest.now; value_is = refl; entry = e; shaped = shaped_old {value = None} e refl }
+
+pub named_old : {change : Change} {parts : EntryParts} {piece : Piece} {put : List ℕ}
+    → (e : IsEntry parts.key.now (value_of parts.value) parts.lines parts.rest.now piece.blanks.now piece.bytes.now piece.rest.now piece.is_line)
+    → option_copied change.name ≡ None → IsValued (option_copied change.value) parts piece put
+    → IsChangedIn change parts piece put
+named_old {change = change} {parts = parts} {piece = piece} {put = put} e none v =
+    record {
+      raw = v.raw;
+      lines = v.lines;
+      at = v.at;
+      value_is = v.value_is;
+      entry = rw none v.entry;
+      shaped = rw none v.shaped;
+    }
+
+pub named_new : {change : Change} {parts : EntryParts} {piece : Piece} {line : List ℕ} (name more : List ℕ)
+    → (e : IsEntry parts.key.now (value_of parts.value) parts.lines parts.rest.now piece.blanks.now piece.bytes.now piece.rest.now piece.is_line)
+    → option_copied change.name ≡ Some name → is_name name ≡ true
+    → IsValued (option_copied change.value) parts piece line
+    → line ≡ piece.blanks.now ++ (parts.key.now ++ more)
+    → IsChangedIn change parts piece (piece.blanks.now ++ (name ++ more))
+named_new {change = change} {parts = parts} {piece = piece} {line = line} name more e some is v line_is =
+    let (m, joined, entry) = named name is v.entry in
+    let blanks = piece.blanks.now in
+    let same : m ≡ more = append_cancel_left (blanks ++ parts.key.now) m more
+    (append_assoc blanks parts.key.now m ∙ sym joined ∙ line_is ∙ sym (append_assoc blanks parts.key.now more)) in
+    let shape = v.shaped in
+    let after = (shape.between ++ shape.bytes) ++ shape.tail in
+    let more_is : more ≡ after =
+    append_cancel_left (blanks ++ parts.key.now) more after
+    (append_assoc blanks parts.key.now more ∙ sym line_is ∙ shape.put_is
+    ∙ ap (λ x. blanks ++ x) (append_assoc parts.key.now (shape.between ++ shape.bytes) shape.tail)
+    ∙ sym (append_assoc blanks parts.key.now after)) in
+    record {
+      raw = v.raw;
+      lines = v.lines;
+      at = v.at;
+      value_is = v.value_is;
+      entry = rw (some, sym same) entry;
+      shaped = record {
+        lines = shape.lines;
+        between = shape.between;
+        bytes = shape.bytes;
+        tail = shape.tail;
+        begins = shape.begins;
+        takes = shape.takes;
+        bytes_are = shape.bytes_are;
+        put_is = rw some (ap (λ m. blanks ++ (name ++ m)) more_is
+            ∙ ap (λ x. blanks ++ x) (sym (append_assoc name (shape.between ++ shape.bytes) shape.tail)));
+        is_valued = shape.is_valued;
+      };
+    }
+
+-- the changes that are left
+order_kept : (left : List Change) (index count : ℕ) → AreLater left index → AreInOrder index left count
+    → AreInOrder (index + 1) left count
+order_kept [] index count later order = tt
+order_kept (change ∷ more) index count later (from, below, order) =
+    let next : index + 1 ≤ change.entry = omega arith in (next, below, order)
+
+order_done : (change : Change) (more : List Change) (index count : ℕ) → change.entry ≡ index
+    → AreInOrder index (change ∷ more) count → AreInOrder (index + 1) more count
+order_done change more index count is (from, below, order) =
+    subst (λ i. AreInOrder (i + 1) more count) is order
+
+none_left : (left : List Change) (count : ℕ) → left ≢ [] → AreInOrder count left count → ⊥
+none_left [] count some order = some refl
+none_left (change ∷ more) count some (from, below, order) = omega arith
+
+pub some_after : {A : Type 0} (count : ℕ) (xs : List A) → count < length xs → drop count xs ≢ []
+some_after count xs more none =
+    let rest : length (drop count xs) ≡ 0 = ap (λ l. length l) none in
+    let size = length-drop count xs in omega arith
+
+one_longer : {A : Type 0} (xs : List A) (x : A) → length (xs ++ x ∷ []) ≡ length xs + 1
+one_longer xs x = length-append xs (x ∷ [])
+
+each_kept : {done : List Change} {old now : List Content} (h : Held) (section : Option Section)
+    → ChangesEach done old now
+    → ChangesEach done (old ++ contents_in h section) (now ++ contents_in h section)
+each_kept (held.Entry parts) section each = spec.kept (content_of section parts) each
+each_kept {done = done} {old = old} {now = now} (held.Header new) section each =
+    subst (λ o. ChangesEach done o (now ++ [])) (sym (append-nil old))
+    (subst (λ n. ChangesEach done old n) (sym (append-nil now)) each)
+each_kept {done = done} {old = old} {now = now} held.Nothing section each =
+    subst (λ o. ChangesEach done o (now ++ [])) (sym (append-nil old))
+    (subst (λ n. ChangesEach done old n) (sym (append-nil now)) each)
+each_kept {done = done} {old = old} {now = now} held.Comment section each =
+    subst (λ o. ChangesEach done o (now ++ [])) (sym (append-nil old))
+    (subst (λ n. ChangesEach done old n) (sym (append-nil now)) each)
+
+none_held : (h : Held) (section : Option Section) → ((parts : EntryParts) → h ≡ held.Entry parts → ⊥)
+    → contents_in h section ≡ []
+none_held (held.Entry parts) section other = absurd (other parts refl)
+none_held (held.Header new) section other = refl
+none_held held.Nothing section other = refl
+none_held held.Comment section other = refl
+
+name_is : (name : Option (List ℕ)) (key : List ℕ) → MatchOption name (name_after name key ≡ key) (λ n. name_after name key ≡ n)
+name_is None key = refl
+name_is (Some name) key = refl
+
+pub changing_begins : (changes : List Change) (text : List ℕ) → AreWritable changes
+    → Changing changes text text changes [] 0
+changing_begins changes text writable =
+    record {
+      front = [];
+      done = [];
+      old = [];
+      now = [];
+      section = None;
+      joined = refl;
+      passed = anywhere (holds_nothing None);
+      passed_now = anywhere (holds_nothing None);
+      split = refl;
+      each = spec.none;
+      index_is = refl;
+      bytes = spec.none;
+      ordered = λ count order. order;
+      writable = writable;
+      room = omega arith;
+    }
+
+-- a piece that is no entry
+pub changing_passes : {changes left : List Change} {text rest new : List ℕ} {index : ℕ} (piece : Piece)
+    → Changing changes text rest left new index → IsPiece rest piece → length piece.rest.now < length rest
+    → ((parts : EntryParts) → piece.held ≡ held.Entry parts → ⊥)
+    → Changing changes text piece.rest.now left (new ++ piece.bytes.now) index
+changing_passes {text = text} {rest = rest} {new = new} {index = index} piece r is shorter other =
+    let some = some_left rest piece.rest.now shorter in
+    let made = made_passed piece.held piece.blanks.now piece.is_line is.blank is.made r.section in
+    let none = none_held piece.held r.section other in
+    record {
+      front = r.front ++ piece.bytes.now;
+      done = r.done;
+      old = r.old ++ contents_in piece.held r.section;
+      now = r.now ++ contents_in piece.held r.section;
+      section = section_after piece.held r.section;
+      joined = joined_more text r.front rest piece.bytes.now piece.rest.now r.joined is.joined;
+      passed = passed_join some r.passed made;
+      passed_now = passed_join some r.passed_now made;
+      split = r.split;
+      each = each_kept piece.held r.section r.each;
+      index_is = r.index_is ∙ sym (ap (λ c. length (r.old ++ c)) none ∙ ap (λ o. length o) (append-nil r.old));
+      bytes = spec.kept piece.bytes.now (becomes_before r.bytes is.joined);
+      ordered = r.ordered;
+      writable = r.writable;
+      room = let room = r.room in omega arith;
+    }
+
+-- an entry that stays
+pub changing_keeps : {changes left : List Change} {text rest new : List ℕ} {index : ℕ} (piece : Piece) (parts : EntryParts)
+    → Changing changes text rest left new index → IsPiece rest piece → length piece.rest.now < length rest
+    → piece.held ≡ held.Entry parts → AreLater left index
+    → Changing changes text piece.rest.now left (new ++ piece.bytes.now) (index + 1)
+changing_keeps {left = left} {text = text} {rest = rest} {new = new} {index = index} piece parts r is shorter entry later =
+    let some = some_left rest piece.rest.now shorter in
+    let made = made_passed piece.held piece.blanks.now piece.is_line is.blank is.made r.section in
+    let one : contents_in piece.held r.section ≡ content_of r.section parts ∷ [] = ap (λ h. contents_in h r.section) entry in
+    record {
+      front = r.front ++ piece.bytes.now;
+      done = r.done;
+      old = r.old ++ contents_in piece.held r.section;
+      now = r.now ++ contents_in piece.held r.section;
+      section = section_after piece.held r.section;
+      joined = joined_more text r.front rest piece.bytes.now piece.rest.now r.joined is.joined;
+      passed = passed_join some r.passed made;
+      passed_now = passed_join some r.passed_now made;
+      split = r.split;
+      each = each_kept piece.held r.section r.each;
+      index_is = ap (λ i. i + 1) r.index_is
+          ∙ sym (ap (λ c. length (r.old ++ c)) one ∙ one_longer r.old (content_of r.section parts));
+      bytes = spec.kept piece.bytes.now (becomes_before r.bytes is.joined);
+      ordered = λ count order. order_kept left index count later (r.ordered count order);
+      writable = r.writable;
+      room = let room = r.room in omega arith;
+    }
+
+-- an entry that changes
+pub changing_changes : {changes left more : List Change} {change : Change} {text rest new put : List ℕ} {index : ℕ}
+    (piece : Piece) (parts : EntryParts)
+    → Changing changes text rest left new index → IsPiece rest piece → length piece.rest.now < length rest
+    → piece.held ≡ held.Entry parts → left ≡ change ∷ more → change.entry ≡ index
+    → IsChangedIn change parts piece put
+    → Changing changes text piece.rest.now more (new ++ put) (index + 1)
+changing_changes {changes = changes} {left = left} {more = more} {change = change} {text = text} {rest = rest} {new = new} {put = put} {index = index} piece parts r is shorter entry left_is due c =
+    let some = some_left rest piece.rest.now shorter in
+    let name = name_after (option_copied change.name) parts.key.now in
+    let x = content_of r.section parts in
+    let y : Content = (r.section, name, c.raw) in
+    let made : Passed r.section piece.bytes.now (x ∷ []) r.section piece.rest.now =
+    subst (λ s. Passed r.section piece.bytes.now (x ∷ []) s piece.rest.now) (ap (λ h. section_after h r.section) entry)
+    (subst (λ xs. Passed r.section piece.bytes.now xs (section_after piece.held r.section) piece.rest.now)
+    (ap (λ h. contents_in h r.section) entry)
+    (made_passed piece.held piece.blanks.now piece.is_line is.blank is.made r.section)) in
+    let made_now : Passed r.section put (y ∷ []) r.section piece.rest.now =
+    entry_passed piece.blanks.now piece.is_line is.blank c.entry r.section in
+    let split : changes ≡ r.done ++ change ∷ more = r.split ∙ ap (λ l. r.done ++ l) left_is in
+    let shape = c.shaped in
+    let was = value_of parts.value in
+    let gone = parts.key.now ++ (shape.between ++ value_bytes was) in
+    let put_now = name ++ (shape.between ++ shape.bytes) in
+    let cut : rest ≡ (piece.blanks.now ++ (gone ++ shape.tail)) ++ piece.rest.now =
+    is.joined ∙ ap (λ b. b ++ piece.rest.now) shape.bytes_are in
+    let inner : rest ≡ piece.blanks.now ++ (gone ++ (shape.tail ++ piece.rest.now)) =
+    cut ∙ append_assoc piece.blanks.now (gone ++ shape.tail) piece.rest.now
+    ∙ ap (λ x. piece.blanks.now ++ x) (append_assoc gone shape.tail piece.rest.now) in
+    let place : Comes text r.old r.section (gone ++ (shape.tail ++ piece.rest.now)) =
+    comes_blanks r.front piece.blanks.now (gone ++ (shape.tail ++ piece.rest.now)) r.joined inner is.blank (passed_holds some r.passed) in
+    let may : MayChange changes r.old r.section gone put_now (shape.tail ++ piece.rest.now) = (
+      change,
+      parts.key.now,
+      was,
+      (r.done, more, split),
+      due ∙ r.index_is,
+      record { lines = shape.lines; between = shape.between; bytes = shape.bytes; begins = shape.begins; takes = shape.takes; gone_is = refl; put_is = refl; is_valued = shape.is_valued },
+    ) in
+    record {
+      front = r.front ++ piece.bytes.now;
+      done = r.done ++ change ∷ [];
+      old = r.old ++ x ∷ [];
+      now = r.now ++ y ∷ [];
+      section = r.section;
+      joined = joined_more text r.front rest piece.bytes.now piece.rest.now r.joined is.joined;
+      passed = passed_join some r.passed made;
+      passed_now = passed_join some r.passed_now made_now;
+      split = split ∙ sym (append_assoc r.done (change ∷ []) more);
+      each = spec.changed change x y r.each (due ∙ r.index_is) (refl, name_is (option_copied change.name) parts.key.now, c.value_is);
+      index_is = ap (λ i. i + 1) r.index_is ∙ sym (one_longer r.old x);
+      bytes = subst (λ b. Becomes (Comes text) (MayChange changes) (r.front ++ b) piece.rest.now (new ++ put)) (sym shape.bytes_are)
+          (subst (λ p. Becomes (Comes text) (MayChange changes) (r.front ++ (piece.blanks.now ++ (gone ++ shape.tail))) piece.rest.now (new ++ p))
+          (sym shape.put_is)
+          (becomes_piece piece.blanks.now gone put_now shape.tail piece.rest.now (becomes_before r.bytes cut) place may));
+      ordered = λ count order.
+          order_done change more index count due (subst (λ l. AreInOrder index l count) left_is (r.ordered count order));
+      writable = (subst AreWritable left_is r.writable).1;
+      room = let room = r.room in omega arith;
+    }
+
+-- at the end of the text
+pub each_changed : {changes left : List Change} {text rest new : List ℕ} {index : ℕ} {contents : List Content}
+    → Changing changes text rest left new index → Ends None text contents
+    → (rest ≡ []) ⊎ (¬ (IsRead rest)) → left ≡ [] → IsEachChanged changes text contents new
+each_changed {changes = changes} {text = text} {new = new} {contents = contents} r whole end none =
+    let (rest_is, text_is, contents_are) = all_passed r.joined r.passed whole end in
+    let done_is : r.done ≡ changes = sym (r.split ∙ ap (λ l. r.done ++ l) none ∙ append-nil r.done) in
+    record {
+      now = r.now;
+      ends = passed_ends rest_is r.passed_now;
+      each = subst (λ c. ChangesEach changes c r.now) contents_are
+          (subst (λ d. ChangesEach d r.old r.now) done_is r.each);
+      bytes = subst (λ t. Becomes (Comes text) (MayChange changes) t [] new) (sym text_is) (becomes_before r.bytes rest_is);
+    }
+
+pub not_in_order : {changes left : List Change} {text rest new : List ℕ} {index : ℕ} {contents : List Content}
+    → Changing changes text rest left new index → Ends None text contents
+    → (rest ≡ []) ⊎ (¬ (IsRead rest)) → left ≢ [] → ¬ (AreInOrder 0 changes (length contents))
+not_in_order {left = left} {index = index} {contents = contents} r whole end some = λ order.
+    let (rest_is, text_is, contents_are) = all_passed r.joined r.passed whole end in
+    let count_is : length contents ≡ index = sym (r.index_is ∙ ap (λ c. length c) contents_are) in
+    none_left left index some (subst (λ n. AreInOrder index left n) count_is (r.ordered (length contents) order))

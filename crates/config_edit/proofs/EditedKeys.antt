@@ -1,0 +1,203 @@
+-- What edits make of a text, with its mark or without.
+use Rattle.std.proofs.Common.{◌≡◌, ℕ, Bool, false, List, [], ◌∷◌, ◌++◌, Option, None, map, refl}
+use Rattle.std.proofs.Common.{sym, ap, ◌∙◌, subst, append_assoc, inl, inr}
+use Rattle.config_edit.specs.declared.Change.{Change}
+use Rattle.config_edit.specs.declared.removal.Count.TheVariants as count
+use Rattle.config_edit.specs.declared.removal.Taken.{Taken}
+use Rattle.config_file.specs.File.{Entry, IsFile}
+use Rattle.config_edit.specs.declared.EditError.{EditError}
+use Rattle.config_edit.specs.declared.EditError.TheVariants as error
+use Rattle.config_file.specs.declared.key.KeyError.{KeyError}
+use Rattle.config_file.specs.Key.{Key, IsKey, RefusesKey}
+use Rattle.config_file.specs.Spelling.{HasNoHeader}
+use Rattle.config_file.specs.Header.{Section}
+use Rattle.config_edit.specs.Edit.{Content, content, HasContents, Changes, ChangesAt, SetsBytes, ChangesKey}
+use Rattle.config_edit.specs.Edit.{ReplacesKey, AddsKey, PutsLine, ReachesBehind, IsApart, MayUnset}
+use Rattle.config_edit.specs.Edit.{LosesOne, Without, NamesSection, MayRemove, RemovesSection}
+use Rattle.config_edit.specs.Edit.{RenamesSection, NoneIn, LacksSection, LacksHeader, ChangesEntries}
+use Rattle.config_edit.specs.Reading.{IsSplit, IsReplaced, IsAdded, IsTaken, IsCleared, Counted, IsEachChanged}
+use Rattle.config_edit.specs.Reading.{Ends, ChangesIn, SetsIn, ComesBehind}
+use Rattle.config_edit.specs.Reading.{RefusesName}
+use Rattle.config_file.proofs.OneKey.{cut_same, not_both}
+use Rattle.config_edit.proofs.Edits.{file_of, split_joined, reaches, reaches_behind, body_ends, becomes_marked}
+
+change_marked : {May : List ℕ → List ℕ → List ℕ → Type 0} {text mark body new : List ℕ} {contents before : List Content}
+    {section : Option Section}
+    → IsSplit text mark body → Ends None body contents → ChangesIn May before section body new
+    → ChangesAt May before section text (mark ++ new)
+change_marked {mark = mark} split ends c =
+    record {
+      front = mark ++ c.front;
+      gone = c.gone;
+      put = c.put;
+      rest = c.rest;
+      old_is = split_joined split ∙ ap (λ x. mark ++ x) c.old_is ∙ sym (append_assoc mark c.front (c.gone ++ c.rest));
+      new_is = ap (λ x. mark ++ x) c.new_is ∙ sym (append_assoc mark c.front (c.put ++ c.rest));
+      reaches = reaches c.front split ends c.old_is c.holds;
+      may = c.may;
+    }
+
+set_marked : {value text mark body new : List ℕ} {contents before : List Content} {x : Content}
+    → IsSplit text mark body → Ends None body contents → SetsIn value before x body new
+    → SetsBytes value before x text (mark ++ new)
+set_marked {mark = mark} split ends (inl same) =
+    inl (same.0, ap (λ x. mark ++ x) same.1 ∙ sym (split_joined split))
+set_marked split ends (inr other) = inr (other.0, change_marked split ends other.1)
+
+mark_apart : {front back : List ℕ} (mark : List ℕ) → IsApart front back → IsApart (mark ++ front) back
+mark_apart mark (inl (line, e)) = inl (mark ++ line, ap (λ x. mark ++ x) e ∙ sym (append_assoc mark line (10 ∷ [])))
+mark_apart mark (inr other) = inr other
+
+line_marked : {key : Key} {value text mark old new : List ℕ} {contents before : List Content}
+    → IsSplit text mark old → Ends None old contents → PutsLine (ComesBehind old) key value contents before old new
+    → PutsLine (ReachesBehind text) key value contents before (mark ++ old) (mark ++ new)
+line_marked {mark = mark} split ends p =
+    record {
+      front = mark ++ p.front;
+      back = p.back;
+      feed = p.feed;
+      ends = p.ends;
+      header = p.header;
+      spelling = p.spelling;
+      old_is = ap (λ x. mark ++ x) p.old_is ∙ sym (append_assoc mark p.front p.back);
+      new_is = ap (λ x. mark ++ x) p.new_is ∙ sym (append_assoc mark p.front _);
+      is_feed = p.is_feed;
+      are_ends = p.are_ends;
+      place = reaches_behind split ends p.place;
+      apart = mark_apart mark p.apart;
+      is_header = p.is_header;
+      spells = p.spells;
+    }
+
+pub contents_of : {text : List ℕ} {entries : List Entry} → IsFile text entries None
+    → HasContents text (map content entries)
+contents_of {entries = entries} is_file = (entries, is_file, refl)
+
+pub changed_key : {key : Key} {value text mark body new : List ℕ} {contents : List Content} (several : Bool)
+    → IsSplit text mark body → Ends None body contents → IsReplaced key value body contents new several → several ≡ false
+    → ChangesKey key value text contents (mark ++ new)
+changed_key {value = value} {mark = mark} {new = new} several split ends r one =
+    let (nothing, bytes) = r.single one in (
+      r.now,
+      file_of split r.ends,
+      r.replaces,
+      nothing,
+      set_marked split ends bytes,
+    )
+
+pub replaced_key : {key : Key} {value text mark body new : List ℕ} {contents : List Content} {several : Bool}
+    → IsSplit text mark body → Ends None body contents → IsReplaced key value body contents new several
+    → ReplacesKey key value text contents (mark ++ new)
+replaced_key split ends r = (
+  r.now,
+  file_of split r.ends,
+  r.replaces,
+  becomes_marked split ends r.changes,
+)
+
+pub added_key : {key : Key} {value text mark body new : List ℕ} {contents : List Content}
+    → IsSplit text mark body → Ends None body contents → IsAdded key value body contents new
+    → AddsKey key value text contents (mark ++ new)
+added_key {key = key} {value = value} {text = text} {mark = mark} {new = new} {contents = contents} split ends r = (
+  r.now,
+  file_of split r.ends,
+  r.adds,
+  subst (λ t. PutsLine (ReachesBehind text) key value contents r.adds.before t (mark ++ new))
+      (sym (split_joined split)) (line_marked split ends r.bytes),
+)
+
+pub taken_key : {key : Key} {text mark body : List ℕ} {contents : List Content} {taken : Taken}
+    → IsSplit text mark body → Ends None body contents → IsTaken key body contents taken
+    → (now : List Content) × HasContents (mark ++ taken.text.items) now × Without key contents now × Changes (MayUnset key) text (mark ++ taken.text.items)
+taken_key split ends r = (
+  r.now,
+  file_of split r.ends,
+  r.without,
+  becomes_marked split ends r.changes,
+)
+
+pub one_taken : {key : Key} {text mark body : List ℕ} {contents : List Content} {taken : Taken}
+    → IsSplit text mark body → Ends None body contents → IsTaken key body contents taken → taken.count ≡ count.One
+    → (now : List Content) × HasContents (mark ++ taken.text.items) now × LosesOne key contents now × Changes (MayUnset key) text (mark ++ taken.text.items)
+one_taken {key = key} {contents = contents} split ends r one = (
+  r.now,
+  file_of split r.ends,
+  subst (λ n. Counted key contents r.now n) one r.counted,
+  becomes_marked split ends r.changes,
+)
+
+-- a name of which no key is made names no section
+pub names_nothing : (name : List ℕ) {text : List ℕ} {e : KeyError} {key : Key} → text ≡ name ++ 46 ∷ 120 ∷ []
+    → RefusesKey text e → NamesSection name key → ⊥
+names_nothing name {key = key} text_is refused names =
+    not_both (subst (λ t. IsKey t key) (sym text_is) names) refused
+
+-- a section that is left out
+pub section_removed : {text mark body new edited : List ℕ} (name : List ℕ) (entries : List Entry) (key : Key)
+    → IsFile text entries None → IsSplit text mark body → NamesSection name key
+    → IsCleared key body (map content entries) new → edited ≡ mark ++ new → RemovesSection name text edited
+section_removed {text = text} {mark = mark} {new = new} name entries key is_file split names r edited_is =
+    let whole : Changes (MayRemove key) text (mark ++ new) =
+    becomes_marked split (body_ends is_file split) r.changes in
+    rw edited_is (
+      key,
+      names,
+      map content entries,
+      (entries, is_file, refl),
+      r.now,
+      file_of split r.ends,
+      r.without,
+      whole,
+    )
+
+-- the text has no entry in the section of the one key that has this name
+pub lacks : {text : List ℕ} (name : List ℕ) (entries : List Entry) (key : Key) → IsFile text entries None
+    → NamesSection name key → NoneIn key (map content entries) → LacksSection name text
+lacks name entries key is_file names nothing = (
+  map content entries,
+  (entries, is_file, refl),
+  λ other is. subst (λ k. NoneIn k (map content entries))
+      (cut_same names.cut is.cut) nothing,
+)
+
+pub lacks_any : {text key_text : List ℕ} {e : KeyError} (name : List ℕ) (entries : List Entry)
+    → IsFile text entries None → key_text ≡ name ++ 46 ∷ 120 ∷ [] → RefusesKey key_text e
+    → LacksSection name text
+lacks_any name entries is_file text_is refused = (
+  map content entries,
+  (entries, is_file, refl),
+  λ other is. absurd
+      (names_nothing name text_is refused is),
+)
+
+-- why a name has no header
+pub lacks_header : {key_text : List ℕ} (name : List ℕ) (e : EditError) → key_text ≡ name ++ 46 ∷ 120 ∷ []
+    → RefusesName key_text e → LacksHeader name
+lacks_header name (error.Key e) text_is refused =
+    λ key names. absurd (names_nothing name text_is refused names)
+lacks_header name error.Section text_is (other, is, lacking) = λ key names.
+    subst (λ k. HasNoHeader k.section k.subsection)
+    (cut_same is.cut (subst (λ t. IsKey t key) (sym text_is) names).cut) lacking
+lacks_header name (error.Memory e) text_is refused = absurd refused
+lacks_header name error.Value text_is refused = absurd refused
+lacks_header name (error.File e) text_is refused = absurd refused
+lacks_header name error.Several text_is refused = absurd refused
+lacks_header name error.Absent text_is refused = absurd refused
+
+-- a section that has its name already
+pub same_name : {text old_name new_name edited : List ℕ} (entries : List Entry) → IsFile text entries None
+    → old_name ≡ new_name → edited ≡ text → RenamesSection old_name new_name text edited
+same_name entries is_file same edited_is =
+    (map content entries, (entries, is_file, refl), inl (same, edited_is))
+
+pub changed_entries : {changes : List Change} {text mark body new : List ℕ} {contents : List Content}
+    → HasContents text contents → IsSplit text mark body → Ends None body contents → IsEachChanged changes body contents new
+    → ChangesEntries changes text (mark ++ new)
+changed_entries {contents = contents} has split ends r = (
+  contents,
+  has,
+  r.now,
+  file_of split r.ends,
+  r.each,
+  becomes_marked split ends r.bytes,
+)

@@ -1,0 +1,15 @@
+mod OnePlace
+mod WholeComments
+mod Becomes
+mod Pieces
+mod Edits
+mod Changed
+mod Replaced
+mod Closed
+mod Added
+mod EditedKeys
+mod KeptBehind
+mod EachEntry
+mod Removed
+mod Cleared
+mod Decided

@@ -1,0 +1,11 @@
+use Rattle.std.proofs.Common.{◌++◌, List, Option}
+use Rattle.config_file.specs.declared.errors.FileError.{FileError}
+use Rattle.config_file.specs.File.{Entry, IsFile}
+use Rattle.config_file.specs.Left.{HasLeft}
+use Rattle.config_edit.proofs.check_file.Given as goal
+
+abbrev pub invariant-loop-entry : goal.invariant-loop-entry
+invariant-loop-entry l =
+    (entries : List Entry)
+    × ((left : List Entry) (error : Option FileError) → HasLeft l.entry-iterator left error → IsFile l.text
+    (entries ++ left) error)

@@ -1,0 +1,25 @@
+use Rattle.std.proofs.Common.{refl, arith, ◌∷◌}
+use Rattle.config_edit.proofs.Pieces.{header_cut, header_front, header_stops, refused}
+use Rattle.config_file.proofs.Bounds.{header_shortens, length_joined}
+use Rattle.config_edit.proofs.piece.header_piece.Goals as goal
+
+pub before-requires : goal.before-requires
+before-requires c = header_front c.args.blanks.now c.requires.joined c.in-Ok.ensures
+
+pub returns-in-Ok-clause-piece : goal.returns-in-Ok-clause-piece
+returns-in-Ok-clause-piece c =
+    record {
+      joined = c.before-in-Ok.ensures;
+      blank = c.requires.blank;
+      made = header_cut c.requires.joined c.in-Ok.ensures c.before-in-Ok.ensures;
+    }
+
+pub returns-in-Ok-clause-shorter : goal.returns-in-Ok-clause-shorter
+returns-in-Ok-clause-shorter c =
+    let shorter = header_shortens c.in-Ok.ensures in
+    let whole = length_joined c.args.text.now c.args.blanks.now (91 ∷ c.args.after.now) c.requires.joined in
+    omega arith
+
+pub returns-in-Err-clause-piece : goal.returns-in-Err-clause-piece
+returns-in-Err-clause-piece c =
+    refused c.args.blanks.now c.requires.joined c.requires.blank (header_stops refl c.in-Err.ensures)

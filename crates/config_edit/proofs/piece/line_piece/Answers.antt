@@ -1,0 +1,31 @@
+use Rattle.std.proofs.Common.{inl, inr}
+use Rattle.config_edit.proofs.Pieces.{line_cut, line_front, line_made, nothing_stops, refused}
+use Rattle.config_edit.proofs.piece.line_piece.Goals as goal
+use Rattle.config_edit.proofs.piece.line_piece.Goals.{then-tail, else-tail}
+
+pub before-requires : goal.before-requires
+before-requires c =
+    let (tail, cut, is, plain) =
+    c.in-Some.ensures.tail in line_front c.args.blanks.now tail c.requires.joined cut
+
+pub returns-after-tail-clause-piece : goal.returns-after-tail-clause-piece
+returns-after-tail-clause-piece c =
+    let (tail, cut, is, plain) = c.in-Some.ensures.tail in
+    let is_line = c.in-Some.tail.is_line in
+    let blanks = c.args.blanks.now in
+    let made =
+    line_made c.if-tail.result blanks is_line tail
+    (line_cut c.in-Some.tail.rest.now tail blanks c.requires.joined cut c.before-in-Some.ensures) is in
+    record {
+      joined = c.before-in-Some.ensures;
+      blank = c.requires.blank;
+      made = elim c.if-tail.branch [
+        | then-tail w ↦ made (inr w.result-is)
+        | else-tail w ↦ made (inl (plain w.if-tail.false, w.result-is))
+      ];
+    }
+
+pub returns-in-None-clause-piece : goal.returns-in-None-clause-piece
+returns-in-None-clause-piece c =
+    refused c.args.blanks.now c.requires.joined c.requires.blank
+    (nothing_stops c.args.at.now c.requires.starts c.in-None.ensures.tail)

@@ -1,0 +1,24 @@
+use Rattle.std.proofs.Common.{◌≡◌, ◌++◌, ◌∙◌, ap, inl, inr, append_assoc}
+use Rattle.config_edit.specs.Reading as edit
+use Rattle.config_edit.proofs.removal.Group.finish.Goals as goal
+
+pub returns : goal.returns
+returns c =
+    let g = c.args.self.now in
+    let new = c.args.new.now.items in
+    let left = c.head_left.result.now in
+    let whole : c.extend_from_slice-2.new.self.items ≡ new ++ (left ++ g.body.items) =
+    c.in_ok-extend_from_slice-2.ensures.items ∙ ap
+    (λ b. c.extend_from_slice.new.self.items ++ b) c.as_slice.ensures.value
+    ∙ ap (λ n. n ++ g.body.items) c.in_ok-extend_from_slice.ensures.items
+    ∙ append_assoc new left g.body.items in
+    elim c.head_left.ensures [
+      | inl same ↦ (
+        g.head.items ++ g.body.items,
+        whole ∙ ap
+            (λ l. new ++ (l ++ g.body.items)) same,
+        edit.whole,
+      )
+      | inr (not_kept, has_lost, is_end) ↦
+          (left ++ g.body.items, whole, edit.without_head not_kept has_lost is_end)
+    ]

@@ -1,0 +1,12 @@
+use Rattle.std.proofs.Common.{length, option_map}
+use Rattle.config_file.specs.KeyView.{key_of}
+use Rattle.config_file.specs.Views.{section_of}
+use Rattle.config_edit.specs.Reading.{Losing}
+use Rattle.config_edit.proofs.removal.without.Given as goal
+
+abbrev pub invariant-pieces : goal.invariant-pieces
+invariant-pieces l =
+    Losing (key_of l.fn.key) l.fn.text l.rest l.new.items (option_map section_of l.section) l.group l.count
+
+abbrev pub decreases-pieces : goal.decreases-pieces
+decreases-pieces l = length l.rest

@@ -1,0 +1,62 @@
+use Rattle.std.proofs.Common.{rules, ◌≡◌, ◌++◌, [], ◌∙◌, sym, subst, true, false, true≢false}
+use Rattle.config_file.specs.KeyView.{key_of}
+use Rattle.config_file.specs.Spelling.{IsHeader}
+use Rattle.config_edit.specs.Reading.{Renaming, IsHeaderHeld}
+use Rattle.config_file.proofs.SpelledHeaders.{header_spelled}
+use Rattle.config_edit.proofs.Edits.{renaming_begins, renaming_keeps, renaming_changes, renaming_ends}
+use Rattle.config_edit.proofs.Edits.{none_renamed}
+use Rattle.config_edit.proofs.sections.renamed.Goals as goal
+use Rattle.config_edit.proofs.sections.renamed.Goals.{then-is_header_of+in_ok-extend_from_slice+in_ok-extend_from_slice-2}
+use Rattle.config_edit.proofs.sections.renamed.Goals.{else-is_header_of+in_ok-extend_from_slice-3}
+use Rattle.config_edit.proofs.sections.renamed.Goals.{then-is_found, else-is_found}
+
+pub pieces-init : goal.pieces-init
+pieces-init c =
+    let from = key_of c.args.from.now in
+    let to = key_of c.args.to.now in
+    let empty : c.in_ok-new.new.items ≡ [] = search rules in (
+      subst (λ n. Renaming from to c.args.text.now c.args.text.now n false) (sym empty)
+          (renaming_begins from to c.args.text.now (λ none. none)),
+      search rules,
+    )
+
+pub pieces-preserved : goal.pieces-preserved
+pieces-preserved c =
+    let from = key_of c.args.from.now in
+    let to = key_of c.args.to.now in
+    let piece = c.in-Some.piece in
+    let (renaming, header_is) = c.pieces.invariant in
+    let text = c.args.text.now in
+    elim c.if-is_header_of.branch [
+      | then-is_header_of+in_ok-extend_from_slice+in_ok-extend_from_slice-2 w ↦
+          let held = (c.is_header_of.ensures c.pieces.rest.now c.in-Some.ensures.piece).0 (search rules) in
+          let put : IsHeader c.push_header.new.spelling.items to.section to.subsection =
+          subst (λ b. IsHeader b to.section to.subsection) (sym header_is)
+          (header_spelled to.section to.subsection c.requires) in
+          let step =
+          renaming_changes piece c.push_header.new.spelling.items renaming c.in-Some.ensures.piece c.in-Some.ensures.shorter held put header_is in
+          let new_is : c.if-is_header_of.new.items ≡
+          (c.pieces.new.items ++ piece.blanks.now) ++ c.push_header.new.spelling.items = search rules in (
+            rw w.is_found-is (subst (λ n. Renaming from to text piece.rest.now n true)
+                (sym new_is) step),
+            header_is,
+          )
+      | else-is_header_of+in_ok-extend_from_slice-3 w ↦
+          let other : ¬ (IsHeaderHeld from piece.held) =
+          λ held. true≢false (sym ((c.is_header_of.ensures c.pieces.rest.now c.in-Some.ensures.piece).1 held)
+          ∙ w.if-is_header_of.false) in
+          let step = renaming_keeps piece renaming c.in-Some.ensures.piece c.in-Some.ensures.shorter other in
+          let new_is : c.if-is_header_of.new.items ≡ c.pieces.new.items ++ piece.bytes.now = search rules in (
+            rw w.is_found-is (subst (λ n. Renaming from to text piece.rest.now n c.pieces.is_found)
+                (sym new_is) step),
+            header_is,
+          )
+    ]
+
+pub returns : goal.returns
+returns c = λ contents ends.
+    let (renaming, header_is) = c.pieces.invariant in
+    elim c.if-is_found.branch [
+      | then-is_found w ↦ rw w.result-is (renaming_ends renaming ends (search rules))
+      | else-is_found w ↦ rw w.result-is (none_renamed renaming w.if-is_found.false ends (search rules))
+    ]

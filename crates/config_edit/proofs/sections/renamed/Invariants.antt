@@ -1,0 +1,13 @@
+use Rattle.std.proofs.Common.{◌≡◌, ◌∷◌, length}
+use Rattle.config_file.specs.KeyView.{key_of}
+use Rattle.config_edit.specs.Reading.{Renaming}
+use Rattle.config_file.specs.Reading.Spellings.{spelled_section}
+use Rattle.config_edit.proofs.sections.renamed.Given as goal
+
+abbrev pub invariant-pieces : goal.invariant-pieces
+invariant-pieces l =
+    Renaming (key_of l.fn.from) (key_of l.fn.to) l.fn.text l.rest l.new.items l.is_found
+    × (l.header.items ≡ 91 ∷ spelled_section (key_of l.fn.to).section (key_of l.fn.to).subsection)
+
+abbrev pub decreases-pieces : goal.decreases-pieces
+decreases-pieces l = length l.rest

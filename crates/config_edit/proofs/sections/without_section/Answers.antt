@@ -1,0 +1,100 @@
+use Rattle.std.proofs.Common.{rules, ◌≡◌, ◌++◌, ◌∙◌, sym, ap, subst, [], None}
+use Rattle.std.proofs.Common.{false, true, true≢false, append-nil}
+use Rattle.config_file.specs.KeyView.{key_of}
+use Rattle.config_edit.specs.Reading.{Clearing, ClearsPiece, IsKept, IsLost}
+use Rattle.config_edit.proofs.Edits.{header_listed}
+use Rattle.config_edit.proofs.Cleared.{clearing_begins, header_clears, piece_clears, left_is_cut, still_lost}
+use Rattle.config_edit.proofs.Cleared.{nothing_lost, kept_ends, lost_ends, none_cleared}
+use Rattle.config_edit.proofs.sections.without_section.Goals as goal
+use Rattle.config_edit.proofs.sections.without_section.Goals.{in-Header+in_ok-in_line, in_default-held}
+use Rattle.config_edit.proofs.sections.without_section.Goals.{then-is_some}
+use Rattle.config_edit.proofs.sections.without_section.Goals.{else-is_some+in_ok-extend_from_slice}
+use Rattle.config_edit.proofs.sections.without_section.Goals.{in-Some-lost+in_ok-push_between}
+use Rattle.config_edit.proofs.sections.without_section.Goals.{in_default-lost, then-is_found}
+use Rattle.config_edit.proofs.sections.without_section.Goals.{else-is_found}
+
+pub pieces-init : goal.pieces-init
+pieces-init c =
+    let empty : c.in_ok-new.new.items ≡ [] = search rules in
+    let key = key_of c.args.key.now in
+    subst (λ n. Clearing key c.args.text.now c.args.text.now n false None) (sym empty)
+    (clearing_begins key c.args.text.now)
+
+pub push_left-requires : goal.push_left-requires
+push_left-requires c =
+    left_is_cut (key_of c.args.key.now) c.args.text.now c.pieces.rest.now c.pieces.new.items c.pieces.is_found c.pieces.lost c.pieces.invariant
+
+pub pieces-preserved : goal.pieces-preserved
+pieces-preserved c =
+    let key = key_of c.args.key.now in
+    let text = c.args.text.now in
+    let p = c.pieces in
+    let piece = c.in-Some.piece in
+    let is = c.in-Some.ensures.piece in
+    let shorter = c.in-Some.ensures.shorter in
+    let m = c.match-piece in
+    let clears : ClearsPiece key text piece m.new.items p.is_found m.lost =
+    elim c.match-piece.branch [
+      | in-Header+in_ok-in_line w ↦
+          let header = w.in-Header.section in
+          let (listed, spelled) =
+          header_listed piece.held piece.blanks.now piece.bytes.now piece.rest.now piece.is_line is.made header w.in-Header.is in
+          rw (w.new-is, w.lost-is)
+          (header_clears key text p.rest.now p.new.items w.push_left.new.new.items p.is_found p.lost w.lost_from-lost.result piece p.invariant is shorter header w.in-Header.is
+          w.in_ok-in_line.ensures (w.lost_from-lost.ensures listed spelled))
+      | in_default-held w ↦ rw (w.new-is, w.lost-is)
+          (piece_clears key text p.rest.now p.new.items p.is_found p.lost w.lost_with-lost.result piece p.invariant is shorter w.in_default-held.not-Header w.lost_with-lost.ensures)
+    ] in
+    let f = c.if-is_some in
+    let whole : Clearing key text piece.rest.now f.new.items f.is_found m.lost =
+    elim c.if-is_some.branch [
+      | then-is_some w ↦ rw (w.new-is, w.is_found-is)
+          (still_lost key text m.new.items p.is_found m.lost piece clears
+          (sym c.is_some.ensures ∙ w.if-is_some.true))
+      | else-is_some+in_ok-extend_from_slice w ↦
+          let new_is : f.new.items ≡ m.new.items ++ piece.bytes.now =
+          ap (λ n. n.items) w.new-is ∙ w.in_ok-extend_from_slice.ensures.items in
+          rw (new_is, w.is_found-is)
+          (nothing_lost key text m.new.items p.is_found m.lost piece clears
+          (sym c.is_some.ensures ∙ w.if-is_some.false))
+    ] in whole
+
+pub push_between-requires : goal.push_between-requires
+push_between-requires c =
+    let key = key_of c.args.key.now in
+    let p = c.pieces in
+    let r : IsLost key c.args.text.now p.rest.now p.new.items c.in-Some-lost.last =
+    (subst (λ l. Clearing key c.args.text.now p.rest.now p.new.items p.is_found l) c.in-Some-lost.is p.invariant).0 in
+    r.is_end
+
+pub returns : goal.returns
+returns c = λ contents ends.
+    let key = key_of c.args.key.now in
+    let text = c.args.text.now in
+    let p = c.pieces in
+    let left = c.in_default.ensures.piece in
+    elim c.if-is_found.branch [
+      | then-is_found v ↦ rw v.result-is (elim c.match-lost.branch [
+        | in-Some-lost+in_ok-push_between w ↦
+            let (end, is_end, pushed) = w.in_ok-push_between.ensures in
+            let r : IsLost key text p.rest.now p.new.items w.in-Some-lost.last =
+            (subst (λ l. Clearing key text p.rest.now p.new.items p.is_found l) w.in-Some-lost.is p.invariant).0 in
+            let new_is : c.match-lost.new.items ≡ p.new.items ++ end =
+            ap (λ n. n.items) w.new-is ∙ pushed ∙ ap (λ e. p.new.items ++ e) (append-nil end) in
+            rw new_is (lost_ends end r ends left is_end)
+        | in_default-lost w ↦
+            let r : IsKept key text p.rest.now p.new.items p.is_found =
+            subst (λ l. Clearing key text p.rest.now p.new.items p.is_found l) w.in_default-lost.is p.invariant in
+            rw w.new-is (kept_ends r ends left)
+      ])
+      | else-is_found v ↦ rw v.result-is (elim c.match-lost.branch [
+        | in-Some-lost+in_ok-push_between w ↦
+            let found : p.is_found ≡ true =
+            (subst (λ l. Clearing key text p.rest.now p.new.items p.is_found l) w.in-Some-lost.is p.invariant).1 in
+            absurd (true≢false (sym found ∙ v.if-is_found.false))
+        | in_default-lost w ↦
+            let r : IsKept key text p.rest.now p.new.items p.is_found =
+            subst (λ l. Clearing key text p.rest.now p.new.items p.is_found l) w.in_default-lost.is p.invariant in
+            none_cleared r v.if-is_found.false ends left
+      ])
+    ]

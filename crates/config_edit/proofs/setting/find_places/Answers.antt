@@ -1,0 +1,91 @@
+use Rattle.std.proofs.Common.{◌≡◌, ◌⊎◌, ◌∙◌, inl, inr, sym, false, IsTrue, ◌&&◌, true}
+use Rattle.std.proofs.Common.{◌↔◌, refl, true≢false}
+use Rattle.config_edit.specs.declared.setting.Insertion.{Insertion}
+use Rattle.config_edit.specs.declared.setting.Places.{Places}
+use Rattle.config_file.specs.KeyView.{key_of}
+use Rattle.config_file.specs.declared.section.Section as code
+use Rattle.config_edit.specs.declared.piece.Held.TheVariants as held
+use Rattle.config_edit.specs.Edit.{IsIn, NoCommentNext}
+use Rattle.std.proofs.lemmas.Bool.{and_parts}
+use Rattle.config_edit.specs.Reading.{section_after, is_item}
+use Rattle.config_edit.proofs.Added.{placing_begins, placing_here, placing_kept, placing_ends, place_within}
+use Rattle.config_edit.proofs.Added.{inside_after_header, inside_after_other, header_next}
+use Rattle.config_edit.proofs.setting.find_places.Goals as goal
+use Rattle.config_edit.proofs.setting.find_places.Goals.{in-Header, in_default-held}
+use Rattle.config_edit.proofs.setting.find_places.Goals.{else-is_inside-via-then-is_inside+else-is_item}
+use Rattle.config_edit.proofs.setting.find_places.Goals.{then-after_header, else-after_header}
+use Rattle.config_edit.proofs.setting.find_places.Goals.{else-is_inside-via-else-is_inside}
+
+pub pieces-init : goal.pieces-init
+pieces-init c = placing_begins (key_of c.args.key.now) c.args.text.now
+
+pub pieces-preserved-then-is_item : goal.pieces-preserved-then-is_item
+pieces-preserved-then-is_item c =
+    let key = key_of c.args.key.now in
+    let piece = c.in-Some.piece in
+    let is = c.in-Some.ensures.piece in
+    let p = c.pieces.invariant in
+    let m = c.match-piece in
+    let inside : IsTrue m.is_inside ↔ IsIn key (section_after piece.held p.section) =
+    elim c.match-piece.branch [
+      | in-Header w ↦ rw w.is_inside-is
+          (inside_after_header key p.section w.is_in-is_inside.result piece.held piece.blanks.now piece.bytes.now piece.rest.now piece.is_line is.made w.in-Header.section w.in-Header.is w.is_in-is_inside.ensures)
+      | in_default-held w ↦ rw w.is_inside-is
+          (inside_after_other key p.section c.pieces.is_inside piece.held w.in_default-held.not-Header p.inside_is)
+    ] in
+    let here : Insertion = record { rest = piece.rest; end = c.of-end.result } in
+    let header : (new : code.Section) → piece.held ≡ held.Header new → m.is_header ≡ true =
+    λ new e. elim c.match-piece.branch [
+      | in-Header w ↦ w.is_header-is
+      | in_default-held w ↦ absurd (w.in_default-held.not-Header new e)
+    ] in
+    placing_here c.pieces.is_inside c.pieces.after_header m.is_inside m.is_header piece p is c.in-Some.ensures.shorter c.of-end.ensures inside c.if-is_inside.true header here refl refl
+
+pub pieces-preserved : goal.pieces-preserved
+pieces-preserved c =
+    let key = key_of c.args.key.now in
+    let piece = c.in-Some.piece in
+    let is = c.in-Some.ensures.piece in
+    let p = c.pieces.invariant in
+    let m = c.match-piece in
+    let inside : IsTrue m.is_inside ↔ IsIn key (section_after piece.held p.section) =
+    elim c.match-piece.branch [
+      | in-Header w ↦ rw w.is_inside-is
+          (inside_after_header key p.section w.is_in-is_inside.result piece.held piece.blanks.now piece.bytes.now piece.rest.now piece.is_line is.made w.in-Header.section w.in-Header.is w.is_in-is_inside.ensures)
+      | in_default-held w ↦ rw w.is_inside-is
+          (inside_after_other key p.section c.pieces.is_inside piece.held w.in_default-held.not-Header p.inside_is)
+    ] in
+    let either : (m.is_inside ≡ false) ⊎ (is_item piece.held ≡ false) =
+    elim c.else-is_inside.branch [
+      | else-is_inside-via-then-is_inside+else-is_item w ↦ elim w.if-after_header.branch [
+        | then-after_header v ↦ absurd
+            (true≢false (sym v.if-after_header.true ∙ sym v.value-is ∙ w.if-is_item.false))
+        | else-after_header v ↦ inr (sym v.is_item.ensures ∙ sym v.value-is ∙ w.if-is_item.false)
+      ]
+      | else-is_inside-via-else-is_inside w ↦ inl w.if-is_inside.false
+    ] in
+    let no_comment : (c.pieces.is_inside && c.pieces.after_header) ≡ true → NoCommentNext c.pieces.rest.now =
+    λ pending.
+    let (was, behind) = and_parts c.pieces.is_inside c.pieces.after_header pending in
+    elim c.else-is_inside.branch [
+      | else-is_inside-via-then-is_inside+else-is_item w ↦ elim w.if-after_header.branch [
+        | then-after_header v ↦ absurd
+            (true≢false (sym v.if-after_header.true ∙ sym v.value-is ∙ w.if-is_item.false))
+        | else-after_header v ↦ absurd (true≢false (sym behind ∙ v.if-after_header.false))
+      ]
+      | else-is_inside-via-else-is_inside w ↦ elim c.match-piece.branch [
+        | in-Header v ↦ header_next piece.held piece.blanks.now piece.bytes.now piece.rest.now piece.is_line v.in-Header.section v.in-Header.is is.blank is.made is.joined
+        | in_default-held v ↦ absurd (true≢false (sym was ∙ sym v.is_inside-is ∙ w.if-is_inside.false))
+      ]
+    ] in
+    placing_kept c.pieces.is_inside c.pieces.after_header m.is_inside m.is_header piece p no_comment is c.in-Some.ensures.shorter c.of-end.ensures inside either
+
+pub returns-clause-places : goal.returns-clause-places
+returns-clause-places c = λ contents ends.
+    let places : Places = record { inside = c.pieces.inside; end = c.pieces.end } in
+    placing_ends places c.pieces.invariant ends c.in_default.ensures.piece
+
+pub returns-clause-within : goal.returns-clause-within
+returns-clause-within c =
+    let p = c.pieces.invariant in
+    place_within (key_of c.args.key.now) c.args.text.now c.pieces.rest.now p.contents p.section c.pieces.is_inside c.pieces.after_header c.pieces.inside p.place

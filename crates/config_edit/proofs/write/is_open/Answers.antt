@@ -1,0 +1,27 @@
+use Rattle.std.proofs.Common.{◌≡◌, ◌≢◌, ℕ, Some, IsTrue, sym, ap, ◌∙◌, arith, nat_eq, not}
+use Rattle.std.proofs.lemmas.Bool.Decides.{nat_tests}
+use Rattle.config_file.specs.Value.{line_feeds}
+use Rattle.config_file.specs.Views.{value_of}
+use Rattle.config_edit.proofs.Closed.{some_same}
+use Rattle.config_edit.proofs.write.is_open.Goals as goal
+
+differ : (a b : ℕ) → IsTrue (not (nat_eq a b)) → a ≢ b
+differ a b is = grind (arith, nat_tests)
+
+are_other : (a b : ℕ) → a ≢ b → IsTrue (not (nat_eq a b))
+are_other a b other = grind (arith, nat_tests)
+
+pub returns-in-Some : goal.returns-in-Some
+returns-in-Some c =
+    let parts = c.args.parts.now in
+    let value_is : value_of parts.value ≡ Some c.in-Some.value.raw.now = ap (λ v. value_of v) c.in-Some.is in
+    let count : c.line_feeds.result ≡ line_feeds c.in-Some.value.raw.now = c.line_feeds.ensures.count in (
+      λ is. (
+        c.in-Some.value.raw.now,
+        value_is,
+        λ same. differ c.line_feeds.result parts.lines is
+            (count ∙ same),
+      ),
+      λ (raw, held, differs). are_other c.line_feeds.result parts.lines
+          (λ same. differs (ap line_feeds (some_same (sym held ∙ value_is)) ∙ sym count ∙ same)),
+    )

@@ -1,0 +1,24 @@
+use Rattle.std.proofs.Common.{◌≡◌, ◌≢◌, ◌++◌, ◌∙◌, ap, [], length, append_assoc, arith}
+use Rattle.std.proofs.lemmas.Bool.Decides.{nat_tests}
+use Rattle.config_file.specs.Reading.Spellings.{git_spelled}
+use Rattle.config_edit.proofs.Changed.{put_between}
+use Rattle.config_edit.proofs.write.push_in_place.Goals as goal
+
+pub returns : goal.returns
+returns c =
+    let lead = c.run.result.0.now in
+    let rest = c.run.result.1.now in
+    let core = c.trimmed.result.0.now in
+    let trail = c.trimmed.result.1.now in
+    let value = c.args.value.now in
+    let git = git_spelled value in
+    let text = c.args.text.now.items in
+    let some : rest ≢ [] = λ none.
+    let zero : length rest ≡ 0 = ap length none in
+    let is = c.is_empty.ensures in
+    let no = c.if-is_empty.false in grind (arith, nat_tests) in
+    let whole : c.extend_from_slice-2.new.self.items ≡ text ++ (lead ++ (git ++ trail)) =
+    c.in_ok-extend_from_slice-2.ensures.items ∙ ap (λ x. x ++ trail)
+    (c.in_ok-push_as_git.ensures ∙ ap (λ x. x ++ git) c.in_ok-extend_from_slice.ensures.items)
+    ∙ append_assoc (text ++ lead) git trail ∙ append_assoc text lead (git ++ trail) in
+    (lead ++ (git ++ trail), whole, put_between lead rest core trail value c.requires c.run.ensures some c.trimmed.ensures.joined c.trimmed.ensures.blank c.trimmed.ensures.last)

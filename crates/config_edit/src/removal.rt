@@ -1,0 +1,199 @@
+//! Entries that are taken out, with the headers of sections that they leave empty.
+ghost use Rattle.std.specs.Prelude.{◌≡◌, ◌++◌, List, ℕ, [], None, Option, true, false, IfOk, OnOk, ◌||◌, ◌⊎◌, not};
+ghost use Rattle.config_edit.specs.Edit.{Content, IsEnd};
+ghost use Rattle.config_file.specs.KeyView.{key_of};
+ghost use Rattle.config_edit.specs.Reading.{Ends, IsFinished, IsPushed, IsTaken, is_blank_held, one_more};
+
+use crate::piece::{Held, Piece, last_line_end, next_piece};
+use crate::setting::is_of;
+use config_file::key::Key;
+use config_file::section::Section;
+use std::alloc::{AllocError, Global};
+
+/// How many entries a key has.
+#[derive(Clone, Copy)]
+pub(crate) enum Count {
+    None,
+    One,
+    Several,
+}
+
+impl Count {
+    fn more(self) -> Count
+        ensures { result ≡ one_more self }
+    {
+        match self {
+            Count::None => Count::One,
+            _ => Count::Several,
+        }
+    }
+}
+
+/// A new text, and how many entries of the key were taken out.
+#[derive(Drop)]
+pub(crate) struct Taken {
+    pub text: Vec<u8>,
+    pub count: Count,
+}
+
+/// A section on its way to the new text.
+#[derive(Drop)]
+struct Group {
+    /// The header, and the rest of its line.
+    head: Vec<u8>,
+    /// What follows that line.
+    body: Vec<u8>,
+    /// Whether nothing precedes the header on its line.
+    starts_line: bool,
+    /// Whether the line of the header goes on.
+    in_head: bool,
+    /// Whether an entry was taken out.
+    has_lost: bool,
+    /// Whether an entry or a comment is left, or a comment precedes the header.
+    is_kept: bool,
+}
+
+impl Group {
+    /// What precedes the first header.
+    fn new(alloc: Global) -> Group
+        ensures head { result.head.items ≡ [] }
+        ensures body { result.body.items ≡ [] }
+        ensures in_head { result.in_head ≡ false }
+        ensures has_lost { result.has_lost ≡ false }
+        ensures is_kept { result.is_kept ≡ true }
+    {
+        Group {
+            head: Vec::new(alloc),
+            body: Vec::new(alloc),
+            starts_line: true,
+            in_head: false,
+            has_lost: false,
+            is_kept: true,
+        }
+    }
+
+    /// Goes on with the section of this header.
+    fn begin(
+        &mut self,
+        piece: &Piece<'_>,
+        starts_line: bool,
+        is_kept: bool,
+    ) -> Result<(), AllocError>
+        ensures { OnOk result ((self.new.head.items ≡ piece.now.bytes.now) × (self.new.body.items ≡ [])
+            × (self.new.in_head ≡ true) × (self.new.has_lost ≡ false) × (self.new.is_kept ≡ is_kept)) }
+    {
+        self.head.clear();
+        self.body.clear();
+        self.head.extend_from_slice(piece.bytes)?;
+        self.starts_line = starts_line;
+        self.in_head = true;
+        self.has_lost = false;
+        self.is_kept = is_kept;
+        Ok(())
+    }
+
+    /// Keeps a piece.
+    fn keep(&mut self, piece: &Piece<'_>) -> Result<(), AllocError>
+        ensures { OnOk result (IsPushed self.old self.new piece.now.bytes.now × (self.new.in_head ≡ false)
+            × (self.new.has_lost ≡ self.old.has_lost) × (self.new.is_kept ≡ self.old.is_kept || not (is_blank_held piece.now.held))) }
+    {
+        self.is_kept = self.is_kept || !is_blank(piece);
+        self.push(piece.bytes)
+    }
+
+    /// Leaves an entry out. The end of its line stays if the header is on the line.
+    fn lose(&mut self, piece: &Piece<'_>) -> Result<(), AllocError>
+        ensures { OnOk result ((end : List ℕ) × IsEnd end × IsPushed self.old self.new end × (self.old.in_head ≡ false → end ≡ [])
+            × (self.new.in_head ≡ false) × (self.new.has_lost ≡ true) × (self.new.is_kept ≡ self.old.is_kept)) }
+    {
+        self.has_lost = true;
+        let end: &[u8] = if self.in_head { piece.line_end() } else { &[] };
+        self.push(end)
+    }
+
+    fn push(&mut self, bytes: &[u8]) -> Result<(), AllocError>
+        ensures { OnOk result (IsPushed self.old self.new bytes.now × (self.new.in_head ≡ false)
+            × (self.new.has_lost ≡ self.old.has_lost) × (self.new.is_kept ≡ self.old.is_kept)) }
+    {
+        if self.in_head {
+            self.in_head = false;
+            self.head.extend_from_slice(bytes)?;
+        } else {
+            self.body.extend_from_slice(bytes)?;
+        }
+        Ok(())
+    }
+
+    /// Appends the section.
+    fn finish(&self, new: &mut Vec<u8>) -> Result<(), AllocError>
+        ensures { OnOk result ((put : List ℕ) × (new.new.items ≡ new.old.items ++ put) × IsFinished self.now put) }
+    {
+        new.extend_from_slice(self.head_left())?;
+        new.extend_from_slice(self.body.as_slice())?;
+        Ok(())
+    }
+
+    /// The head, or what is left of its line if the section has lost its only entries.
+    fn head_left(&self) -> &[u8]
+        ensures { (result.now ≡ self.now.head.items)
+            ⊎ ((self.now.is_kept ≡ false) × (self.now.has_lost ≡ true) × IsEnd result.now) }
+    {
+        if self.is_kept || !self.has_lost {
+            return self.head.as_slice();
+        }
+        if self.starts_line {
+            return &[];
+        }
+        match last_line_end(self.head.as_slice()) {
+            Some(line_end) => line_end,
+            None => &[],
+        }
+    }
+}
+
+/// A text without the entries of the key.
+pub(crate) fn without(alloc: Global, text: &[u8], key: &Key<'_>) -> Result<Taken, AllocError>
+    ensures { (contents : List Content) → Ends None text.now contents
+        → IfOk result (λ taken. IsTaken (key_of key.now) text.now contents taken) }
+{
+    let mut new = Vec::with_capacity(alloc, text.len())?;
+    let mut rest = text;
+    let mut section: Option<Section<'_>> = None;
+    let mut group = Group::new(alloc);
+    let mut count = Count::None;
+    let mut starts_line = true;
+    let mut below_comment = false;
+    'pieces: while let Some(piece) = next_piece(rest) {
+        match &piece.held {
+            Held::Header(header) => {
+                section = Some(*header);
+                group.finish(&mut new)?;
+                group.begin(&piece, starts_line, below_comment)?;
+            }
+            Held::Entry(parts) => {
+                if is_of(key, &section, parts) {
+                    count = count.more();
+                    group.lose(&piece)?;
+                } else {
+                    group.keep(&piece)?;
+                }
+            }
+            Held::Nothing | Held::Comment => group.keep(&piece)?,
+        }
+        below_comment = piece.ends_in_comment() || below_comment && is_blank(&piece);
+        starts_line = piece.is_line;
+        rest = piece.rest;
+    }
+    group.finish(&mut new)?;
+    Ok(Taken { text: new, count })
+}
+
+/// Whether a piece has only blanks.
+fn is_blank(piece: &Piece<'_>) -> bool
+    ensures { result ≡ is_blank_held piece.now.held }
+{
+    match &piece.held {
+        Held::Nothing => true,
+        _ => false,
+    }
+}

@@ -1,6 +1,0 @@
-use Rattle.std.proofs.Common.{rules}
-use Rattle.config_file.proofs.Pieces.{comment_cut}
-use Rattle.config_file.proofs.edit.piece.after_comment.Goals as goal
-
-pub returns-in-Some-clause-cut : goal.returns-in-Some-clause-cut
-returns-in-Some-clause-cut c = comment_cut {sign = c.in-Some.sign} (search rules) (search rules) c.run.ensures

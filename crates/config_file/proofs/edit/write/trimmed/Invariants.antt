@@ -1,9 +1,0 @@
-use Rattle.std.proofs.Common.{◌≡◌, ◌++◌, List, ℕ, length}
-use Rattle.config_file.specs.Edit.{AreBlank}
-use Rattle.config_file.proofs.edit.write.trimmed.Given as goal
-
-abbrev pub invariant-blanks : goal.invariant-blanks
-invariant-blanks l = (blanks : List ℕ) × (l.fn.text ≡ l.front ++ blanks) × AreBlank blanks
-
-abbrev pub decreases-blanks : goal.decreases-blanks
-decreases-blanks l = length l.front

@@ -1,9 +1,0 @@
-use Rattle.std.proofs.Common.{◌↔◌, length}
-use Rattle.config_file.proofs.UrlHosts.{Stands}
-use Rattle.config_file.proofs.url.host.stands_for_host.Given as goal
-
-abbrev pub invariant-labels : goal.invariant-labels
-invariant-labels l = Stands l.wanted l.left ↔ Stands l.fn.pattern l.fn.host
-
-abbrev pub decreases-labels : goal.decreases-labels
-decreases-labels l = length l.wanted

@@ -1,5 +1,0 @@
-use Rattle.config_file.proofs.UrlNormal.{goes_end}
-use Rattle.config_file.proofs.url.normal.normal.Goals as goal
-
-pub returns : goal.returns
-returns c = goes_end c.bytes.invariant c.in_default.ensures

@@ -1,9 +1,0 @@
-use Rattle.std.proofs.Common.{length}
-use Rattle.config_file.specs.Reading.Urls.{GoesOn}
-use Rattle.config_file.proofs.url.normal.normal.Given as goal
-
-abbrev pub invariant-bytes : goal.invariant-bytes
-invariant-bytes l = GoesOn l.fn.text l.written.items l.rest
-
-abbrev pub decreases-bytes : goal.decreases-bytes
-decreases-bytes l = length l.rest

@@ -1,6 +1,0 @@
-use Rattle.std.proofs.Common.{◌≡◌, ◌++◌, take}
-use Rattle.config_file.proofs.UrlPaths.{Joined}
-use Rattle.config_file.proofs.url.path.push_names.Given as goal
-
-abbrev pub invariant-loop-name : goal.invariant-loop-name
-invariant-loop-name l = l.path.items ≡ l.fn.path.items ++ Joined (take l.name-index l.fn.names)

@@ -1,4 +1,0 @@
-use Rattle.config_file.proofs.url.user_of.Goals as goal
-
-pub returns-in_default-2 : goal.returns-in_default-2
-returns-in_default-2 c = rw c.in-Some.is (rw c.in_default-2.is at c.in_ok-name.ensures)

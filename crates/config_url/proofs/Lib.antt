@@ -1,0 +1,7 @@
+mod UrlPieces
+mod UrlParts
+mod UrlNormal
+mod UrlHosts
+mod UrlPaths
+mod UrlMatches
+mod UrlFits

@@ -1,0 +1,176 @@
+-- Patterns of URLs: paths, and what fits.
+use Rattle.std.proofs.Common.{◌≡◌, ◌≢◌, ◌+◌, ◌++◌, ◌∙◌, ◌↔◌, inl, inr, ◌==◌, not, ℕ, Bool, true, false, List, [], ◌∷◌, Some, None, Option, length, IsTrue}
+use Rattle.std.proofs.Common.{refl, sym, subst, ap, arith, Result, Ok, Err, IfOk, MatchOption}
+use Rattle.std.specs.Prelude.{unwrap_or, is_some}
+use Rattle.std.specs.List.{AllZip}
+use Rattle.std.proofs.lemmas.Bool.{false≢true}
+use Rattle.std.proofs.lemmas.Bool.Decides.{nat_tests}
+use Rattle.std.proofs.lemmas.List.{length-append}
+use Rattle.config_file.specs.Header.{BeginsWithout}
+use Rattle.config_file.specs.Runs.{Run}
+use Rattle.config_url.specs.Url.{closed, SplitUrl, Url, url, IsPort, IsDefault, IsUser, IsForm, IsUrl, IsWritten}
+use Rattle.config_url.specs.Url.{Matches, AllowsUser, StandsFor, pieces, fit, fit_of}
+use Rattle.config_file.proofs.OneRun.{run_only}
+use Rattle.config_url.proofs.UrlNormal.{normal_only}
+use Rattle.config_url.proofs.UrlParts.{written_only}
+use Rattle.config_url.proofs.UrlPaths.{path_only}
+
+-- ---- a path with a slash at its end
+
+closed_snoc : (a : List ℕ) → closed (a ++ 47 ∷ []) ≡ a ++ 47 ∷ []
+unfolding closed
+closed_snoc [] = refl
+closed_snoc (b ∷ []) = refl
+closed_snoc (b ∷ c ∷ a) = ap (λ t. b ∷ t) (closed_snoc (c ∷ a))
+
+closed_more : (a : List ℕ) (x : ℕ) → (x == 47) ≡ false → closed (a ++ x ∷ []) ≡ (a ++ x ∷ []) ++ 47 ∷ []
+unfolding closed
+closed_more [] x e = rw e refl
+closed_more (b ∷ []) x e = rw e refl
+closed_more (b ∷ c ∷ a) x e = ap (λ t. b ∷ t) (closed_more (c ∷ a) x e)
+
+other_byte : (x : ℕ) → x ≢ 47 → (x == 47) ≡ false
+other_byte x other = grind (arith, nat_tests)
+
+pub closed_slash : (path front : List ℕ) (last : ℕ) → path ≡ front ++ last ∷ [] → last ≡ 47
+    → closed path ≡ front ++ 47 ∷ []
+closed_slash path front last e f =
+    ap closed (e ∙ ap (λ x. front ++ x ∷ []) f) ∙ closed_snoc front
+
+pub closed_other : (path front : List ℕ) (last : ℕ) → path ≡ front ++ last ∷ [] → last ≢ 47
+    → closed path ≡ path ++ 47 ∷ []
+closed_other path front last e f =
+    ap closed e ∙ closed_more front last (other_byte last f) ∙ ap (λ p. p ++ 47 ∷ []) (sym e)
+
+pub closed_none : (path : List ℕ) → length path ≡ 0 → closed path ≡ path ++ 47 ∷ []
+unfolding closed
+closed_none [] e = refl
+closed_none (b ∷ path) e = absurd (omega (arith, e))
+
+-- ---- at or below
+
+abbrev pub Below : List ℕ → List ℕ → Type 0
+Below front path = (rest : List ℕ) × (path ++ 47 ∷ [] ≡ (front ++ 47 ∷ []) ++ rest)
+
+below_same : (b : ℕ) (front path : List ℕ) → (Below front path ↔ Below (b ∷ front) (b ∷ path))
+below_same b front path = (
+  λ p. (p.0, ap (λ t. b ∷ t) p.1),
+  λ p. let tails : path ++ 47 ∷ [] ≡ (front ++ 47 ∷ []) ++ p.0 = cc in (p.0, tails),
+)
+
+pub below_next : (b : ℕ) (wanted left more after front path : List ℕ) → wanted ≡ b ∷ more → left ≡ b ∷ after
+    → (Below wanted left ↔ Below front path) → (Below more after ↔ Below front path)
+below_next b wanted left more after front path e f same =
+    let step = below_same b more after in (
+      λ p. same.0 (subst (λ w. Below w left) (sym e) (subst (λ l. Below (b ∷ more) l) (sym f) (step.0 p))),
+      λ p. step.1 (subst (λ l. Below (b ∷ more) l) f (subst (λ w. Below w left) e (same.1 p))),
+    )
+
+some_slash : (more rest : List ℕ) → [] ≡ (more ++ 47 ∷ []) ++ rest → ⊥
+some_slash [] rest e = cc
+some_slash (x ∷ more) rest e = cc
+
+slash_test : (b : ℕ) → b ≡ 47 → (b == 47) ≡ true
+slash_test b e = rw e refl
+
+slash_is : (b : ℕ) → IsTrue (b == 47) → b ≡ 47
+slash_is b t = grind (arith, nat_tests)
+
+not_below : (b : ℕ) (more left : List ℕ) → BeginsWithout b left → ¬ (Below (b ∷ more) left)
+not_below b more [] other (rest, e) =
+    let tails : [] ≡ (more ++ 47 ∷ []) ++ rest = cc in
+    absurd (some_slash more rest tails)
+not_below b more (x ∷ left) other (rest, e) = let heads : x ≡ b = cc in other heads
+
+pub below_not : (b : ℕ) (wanted left more front path : List ℕ) → wanted ≡ b ∷ more → BeginsWithout b left
+    → (Below wanted left ↔ Below front path) → (IsTrue false ↔ Below front path)
+below_not b wanted left more front path e other same =
+    (λ t. absurd (false≢true t), λ p. absurd (not_below b more left other (subst (λ w. Below w left) e (same.1 p))))
+
+pub below_here : (wanted left front path : List ℕ) → wanted ≡ [] → left ≡ [] → (Below wanted left ↔ Below front path)
+    → (IsTrue true ↔ Below front path)
+below_here wanted left front path e f same =
+    (λ t. same.0 ([], rw (e, f) refl), λ p. refl)
+
+pub below_slash : (b : ℕ) (wanted left after front path : List ℕ) (r : Bool) → wanted ≡ [] → left ≡ b ∷ after
+    → r ≡ (b == 47) → (Below wanted left ↔ Below front path) → (IsTrue r ↔ Below front path)
+below_slash b wanted left after front path r e f test same = (
+  λ t. let is : b ≡ 47 = slash_is b (subst IsTrue test t) in
+      same.0 (subst (λ w. Below w left) (sym e) (subst (λ l. Below [] l) (sym f)
+      (subst (λ x. Below [] (x ∷ after)) (sym is) (after ++ 47 ∷ [], refl)))),
+  λ p. let (rest, whole) = subst (λ l. Below [] l) f (subst (λ w. Below w left) e (same.1 p)) in
+      let heads : b ≡ 47 = cc in test ∙ slash_test b heads,
+)
+
+-- ---- one URL
+
+some_not_default : (scheme digits : List ℕ) (n : ℕ) → IsPort scheme digits None → IsPort scheme digits (Some n) → ⊥
+some_not_default scheme digits n (inl e) is = is.0 e
+some_not_default scheme digits n (inr d) is = is.4 (subst (λ m. IsDefault scheme m) is.1 d)
+
+pub port_only : (scheme digits : List ℕ) (a b : Option ℕ) → IsPort scheme digits a → IsPort scheme digits b → a ≡ b
+port_only scheme digits None None p q = refl
+port_only scheme digits None (Some n) p q = absurd (some_not_default scheme digits n p q)
+port_only scheme digits (Some n) None p q = absurd (some_not_default scheme digits n q p)
+port_only scheme digits (Some n) (Some m) p q = ap Some (sym p.1 ∙ q.1)
+
+pub user_only : (login : Option (List ℕ)) (a b : Option (List ℕ)) → IsUser login a → IsUser login b → a ≡ b
+user_only None a b p q = p ∙ sym q
+user_only (Some login) a b (n, x, r, is, cut, e) (m, y, s, other, also, f) =
+    let same = normal_only is other in
+    let (names, rest) = run_only (subst (λ t. Run (λ c. not (c == 58)) t x r) same cut) also in
+    e ∙ ap Some names ∙ sym f
+
+url_same : (a b : Url) → a.scheme ≡ b.scheme → a.user ≡ b.user → a.host ≡ b.host → a.port ≡ b.port
+    → a.path ≡ b.path → a ≡ b
+url_same a b e f g h i =
+    ap (λ x. url x a.user a.host a.port a.path) e ∙ ap (λ x. url b.scheme x a.host a.port a.path) f
+    ∙ ap (λ x. url b.scheme b.user x a.port a.path) g ∙ ap (λ x. url b.scheme b.user b.host x a.path) h
+    ∙ ap (λ x. url b.scheme b.user b.host b.port x) i
+
+pub form_only : {p : SplitUrl} (a b : Url) → IsForm p a → IsForm p b → a ≡ b
+form_only {p = p} a b f g =
+    let schemes : a.scheme ≡ b.scheme = f.scheme ∙ sym g.scheme in
+    url_same a b schemes (user_only p.login a.user b.user f.user g.user) (f.host ∙ sym g.host)
+    (port_only b.scheme (unwrap_or p.port []) a.port b.port
+    (subst (λ s. IsPort s (unwrap_or p.port []) a.port) schemes f.port) g.port)
+    (path_only a.path b.path f.path g.path)
+
+pub url_only : {s : Bool} {text : List ℕ} (a b : Url) → IsUrl s text a → IsUrl s text b → a ≡ b
+url_only a b (p, w, f) (q, v, g) =
+    let same = written_only p q w v in form_only a b (subst (λ r. IsForm r a) same f) g
+
+-- what is written so has no URL if its parts have none
+pub no_url : {s : Bool} {text : List ℕ} (p : SplitUrl) → IsWritten s text p → ((u : Url) → ¬ (IsForm p u))
+    → (u : Url) → ¬ (IsUrl s text u)
+no_url p w never u (q, v, f) = never u (subst (λ r. IsForm r u) (sym (written_only p q w v)) f)
+
+pub read_is : {V E : Type 0} (view : V → Url) {s : Bool} {text : List ℕ} (p : SplitUrl) (r : Result (Option V) E)
+    → IsWritten s text p
+    → IfOk r (λ found. MatchOption found ((u : Url) → ¬ (IsForm p u)) (λ v. IsForm p (view v)))
+    → IfOk r (λ found. MatchOption found ((u : Url) → ¬ (IsUrl s text u)) (λ v. IsUrl s text (view v)))
+read_is view p (Ok None) w h = no_url p w h
+read_is view p (Ok (Some v)) w h = (p, w, h)
+read_is view p (Err e) w h = h
+
+-- ---- what matches
+
+pub path_length : (path front : List ℕ) → closed path ≡ front ++ 47 ∷ [] → length (closed path) ≡ length front + 1
+path_length path front e = omega (arith, ap length e, length-append front (47 ∷ []))
+
+pub matches : (pattern u : Url) (front : List ℕ) → pattern.scheme ≡ u.scheme → AllowsUser pattern.user u.user
+    → AllZip StandsFor (pieces 46 pattern.host) (pieces 46 u.host) → pattern.port ≡ u.port → Below front u.path
+    → closed pattern.path ≡ front ++ 47 ∷ [] → Matches pattern u
+matches pattern u front scheme user host port below e = record {
+  scheme = scheme;
+  user = user;
+  host = host;
+  port = port;
+  path = (below.0, below.1 ∙ ap (λ t. t ++ below.0) (sym e));
+}
+
+pub fit_same : (p : Url) (front : List ℕ) (h n : ℕ) (b : Bool) → h ≡ length p.host → closed p.path ≡ front ++ 47 ∷ []
+    → n ≡ length front + 1 → b ≡ is_some p.user → fit h n b ≡ fit_of p
+fit_same p front h n b e f g i =
+    ap (λ x. fit x n b) e ∙ ap (λ x. fit (length p.host) x b) (g ∙ sym (path_length p.path front f))
+    ∙ ap (λ x. fit (length p.host) (length (closed p.path)) x) i

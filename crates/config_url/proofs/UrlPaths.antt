@@ -1,0 +1,164 @@
+-- Paths of URLs, name by name.
+use Rattle.std.proofs.Common.{◌≡◌, ◌≢◌, ◌≤◌, ◌<◌, ◌+◌, ◌++◌, ◌∙◌, ◌↔◌, ◌==◌, ℕ, true, false, List, [], ◌∷◌, Some, None, Option, length, take, map}
+use Rattle.std.proofs.Common.{refl, sym, subst, ap}
+use Rattle.std.specs.Prelude.{codes, flat_map}
+use Rattle.std.specs.Borrow.{Bor}
+use Rattle.std.specs.List.{slice_get}
+use Rattle.std.proofs.lemmas.Bool.{true≢false}
+use Rattle.std.proofs.lemmas.List.{append-nil, append_assoc, map-append, take_all}
+use Rattle.config_file.specs.Runs.{Run}
+use Rattle.config_url.specs.Url.{IsNormal, IsPath, is_path_byte, without_root}
+use Rattle.config_url.specs.Url.{Leads, ends, stays, drops, keeps, pieces, joined_names}
+use Rattle.config_url.specs.Reading.Urls.{CutsPiece, Steps}
+use Rattle.config_file.proofs.Picked.{take_next}
+use Rattle.config_file.proofs.OneRun.{run_only}
+use Rattle.config_url.proofs.UrlNormal.{normal_only}
+use Rattle.config_url.proofs.UrlPieces.{closed_next, closed_last}
+
+dots : codes "." ≡ codes ".." → ⊥
+dots e = true≢false (ap (λ t. length t == 1) e)
+
+nil_snoc : {X : Type 0} (b : List X) (y : X) → [] ≡ b ++ y ∷ [] → ⊥
+nil_snoc [] y e = cc
+nil_snoc (z ∷ b) y e = cc
+
+snoc_same : {X : Type 0} (a b : List X) (x y : X) → a ++ x ∷ [] ≡ b ++ y ∷ [] → a ≡ b
+snoc_same [] [] x y e = refl
+snoc_same [] (z ∷ b) x y e = let tails : [] ≡ b ++ y ∷ [] = cc in absurd (nil_snoc b y tails)
+snoc_same (z ∷ a) [] x y e = let tails : [] ≡ a ++ x ∷ [] = cc in absurd (nil_snoc a x tails)
+snoc_same (z ∷ a) (w ∷ b) x y e =
+    let heads : z ≡ w = cc in
+    let tails : a ++ x ∷ [] ≡ b ++ y ∷ [] = cc in
+    let fronts : a ≡ b = snoc_same a b x y tails in cc
+
+here_back : {kept rest all : List (List ℕ)} {name : List ℕ} → name ≡ codes "." → Leads kept (name ∷ rest) all
+    → Leads kept rest all
+here_back e (stays f l) = l
+here_back e (drops last f g l) = absurd (dots (sym e ∙ f))
+here_back e (keeps n m l) = absurd (n e)
+
+pub here_steps : (kept : List (List ℕ)) (name : List ℕ) → name ≡ codes "." → (rest all : List (List ℕ))
+    → (Leads kept rest all ↔ Leads kept (name ∷ rest) all)
+here_steps kept name e rest all = (λ l. stays e l, λ l. here_back e l)
+
+up_back : {kept front rest all : List (List ℕ)} {name : List ℕ} (last : List ℕ) → name ≡ codes ".."
+    → kept ≡ front ++ last ∷ [] → Leads kept (name ∷ rest) all → Leads front rest all
+up_back last e f (stays g l) = absurd (dots (sym g ∙ e))
+up_back {front = front} {rest = rest} {all = all} last e f (drops {front = other} one g h l) =
+    subst (λ k. Leads k rest all) (snoc_same other front one last (sym h ∙ f)) l
+up_back last e f (keeps n m l) = absurd (m e)
+
+pub up_steps : (kept front : List (List ℕ)) (name last : List ℕ) → name ≡ codes ".." → kept ≡ front ++ last ∷ []
+    → (rest all : List (List ℕ)) → (Leads front rest all ↔ Leads kept (name ∷ rest) all)
+up_steps kept front name last e f rest all = (λ l. drops last e f l, λ l. up_back last e f l)
+
+pub root_steps : (kept : List (List ℕ)) (name : List ℕ) → name ≡ codes ".." → kept ≡ [] → (rest all : List (List ℕ))
+    → ¬ (Leads kept (name ∷ rest) all)
+root_steps kept name e f rest all (stays g l) = dots (sym g ∙ e)
+root_steps kept name e f rest all (drops {front = front} one g h l) = nil_snoc front one (sym f ∙ h)
+root_steps kept name e f rest all (keeps n m l) = m e
+
+name_back : {kept rest all : List (List ℕ)} {name : List ℕ} → name ≢ codes "." → name ≢ codes ".."
+    → Leads kept (name ∷ rest) all → Leads (kept ++ name ∷ []) rest all
+name_back d u (stays g l) = absurd (d g)
+name_back d u (drops one g h l) = absurd (u g)
+name_back d u (keeps n m l) = l
+
+pub name_steps : (kept : List (List ℕ)) (name : List ℕ) → name ≢ codes "." → name ≢ codes ".."
+    → (rest all : List (List ℕ)) → (Leads (kept ++ name ∷ []) rest all ↔ Leads kept (name ∷ rest) all)
+name_steps kept name d u rest all = (λ l. keeps d u l, λ l. name_back d u l)
+
+-- the kept names lead on as the names of the whole path do
+abbrev pub LeadsAs : List (List ℕ) → List ℕ → List ℕ → Type 0
+LeadsAs kept left path = (all : List (List ℕ))
+    → (Leads kept (pieces 47 (left ++ 47 ∷ [])) all ↔ Leads [] (pieces 47 (path ++ 47 ∷ [])) all)
+
+some_piece : (text piece : List ℕ) (after : Option (List ℕ)) → CutsPiece 47 text piece after
+    → (more : List (List ℕ)) × (pieces 47 (text ++ 47 ∷ []) ≡ piece ∷ more)
+some_piece text piece None cut = ([], closed_last 47 text piece cut)
+some_piece text piece (Some after) cut = (pieces 47 (after ++ 47 ∷ []), closed_next 47 text piece after cut)
+
+pub names_stop : (kept next : List (List ℕ)) (name left path : List ℕ) (after : Option (List ℕ))
+    → CutsPiece 47 left name after → Steps kept name false next → LeadsAs kept left path
+    → (all : List (List ℕ)) → ¬ (Leads [] (pieces 47 (path ++ 47 ∷ [])) all)
+names_stop kept next name left path after cut never same all leads =
+    let (more, e) = some_piece left name after cut in
+    never more all (subst (λ ps. Leads kept ps all) e ((same all).1 leads))
+
+pub names_end : (kept next : List (List ℕ)) (name left path : List ℕ) → CutsPiece 47 left name None
+    → Steps kept name true next → LeadsAs kept left path → Leads [] (pieces 47 (path ++ 47 ∷ [])) next
+names_end kept next name left path cut steps same =
+    (same next).0 (subst (λ ps. Leads kept ps next) (sym (closed_last 47 left name cut)) ((steps [] next).0 ends))
+
+pub names_more : (kept next : List (List ℕ)) (name left after path : List ℕ) → CutsPiece 47 left name (Some after)
+    → Steps kept name true next → LeadsAs kept left path → LeadsAs next after path
+names_more kept next name left after path cut steps same all = (
+  λ l. (same all).0 (subst (λ ps. Leads kept ps all) (sym (closed_next 47 left name after cut))
+      ((steps (pieces 47 (after ++ 47 ∷ [])) all).0 l)),
+  λ l. (steps (pieces 47 (after ++ 47 ∷ [])) all).1
+      (subst (λ ps. Leads kept ps all) (closed_next 47 left name after cut) ((same all).1 l)),
+)
+
+-- ---- joined names
+
+flat_snoc : (xs : List (List ℕ)) (x : List ℕ)
+    → flat_map (λ n. 47 ∷ n) (xs ++ x ∷ []) ≡ flat_map (λ n. 47 ∷ n) xs ++ 47 ∷ x
+flat_snoc [] x = append-nil (47 ∷ x)
+flat_snoc (y ∷ xs) x =
+    ap (λ t. (47 ∷ y) ++ t) (flat_snoc xs x) ∙ sym (append_assoc (47 ∷ y) (flat_map (λ n. 47 ∷ n) xs) (47 ∷ x))
+
+abbrev pub Joined : List (Bor (List ℕ)) → List ℕ
+Joined names = flat_map (λ n. 47 ∷ n) (map (λ n. n.now) names)
+
+pub joined_next : (names : List (Bor (List ℕ))) (i : ℕ) (name : Bor (List ℕ)) (start old new : List ℕ)
+    → slice_get names i ≡ Some name → i < length names → old ≡ start ++ Joined (take i names)
+    → new ≡ old ++ 47 ∷ name.now → new ≡ start ++ Joined (take (i + 1) names)
+joined_next names i name start old new at within before e =
+    let split : Joined (take (i + 1) names) ≡ Joined (take i names) ++ 47 ∷ name.now =
+    ap Joined (take_next names i name at within)
+    ∙ ap (flat_map (λ n. 47 ∷ n)) (map-append (λ n. n.now) (take i names) (name ∷ []))
+    ∙ flat_snoc (map (λ n. n.now) (take i names)) name.now in
+    e ∙ ap (λ t. t ++ 47 ∷ name.now) before ∙ append_assoc start (Joined (take i names)) (47 ∷ name.now)
+    ∙ ap (λ t. start ++ t) (sym split)
+
+joined_some : (names : List (Bor (List ℕ))) → (length names == 0) ≡ false
+    → joined_names (map (λ n. n.now) names) ≡ Joined names
+joined_some [] e = absurd (true≢false e)
+joined_some (n ∷ names) e = refl
+
+pub joined_done : (names : List (Bor (List ℕ))) (i : ℕ) (start out : List ℕ) → length names ≤ i
+    → (length names == 0) ≡ false → out ≡ start ++ Joined (take i names)
+    → out ≡ start ++ joined_names (map (λ n. n.now) names)
+joined_done names i start out past some e =
+    e ∙ ap (λ ns. start ++ Joined ns) (take_all i names past) ∙ ap (λ t. start ++ t) (sym (joined_some names some))
+
+-- ---- one path
+
+pub leads_only : {kept names a b : List (List ℕ)} → Leads kept names a → Leads kept names b → a ≡ b
+leads_only ends ends = refl
+leads_only (stays e l) (stays f m) = leads_only l m
+leads_only (stays e l) (drops one f g m) = absurd (dots (sym e ∙ f))
+leads_only (stays e l) (keeps d u m) = absurd (d e)
+leads_only (drops one f g l) (stays e m) = absurd (dots (sym e ∙ f))
+leads_only {b = b} (drops {front = x} {rest = rest} one f g l) (drops {front = y} two h i m) =
+    leads_only l (subst (λ k. Leads k rest b) (snoc_same y x two one (sym i ∙ g)) m)
+leads_only (drops one f g l) (keeps d u m) = absurd (u f)
+leads_only (keeps d u l) (stays e m) = absurd (d e)
+leads_only (keeps d u l) (drops one f g m) = absurd (u f)
+leads_only (keeps d u l) (keeps v w m) = leads_only l m
+
+pub no_path : {text normal : List ℕ} (names query root : List ℕ) → IsNormal text normal
+    → Run is_path_byte normal names query → root ≡ without_root names
+    → ((all : List (List ℕ)) → ¬ (Leads [] (pieces 47 (root ++ 47 ∷ [])) all)) → (path : List ℕ) → ¬ (IsPath text path)
+no_path names_of query root is cut e never path p =
+    let same = normal_only p.is_normal is in
+    let (names, rest) = run_only (subst (λ t. Run is_path_byte t p.names p.query) same p.is_cut) cut in
+    never p.kept (subst (λ t. Leads [] (pieces 47 (t ++ 47 ∷ [])) p.kept) (ap without_root names ∙ sym e) p.leads)
+
+pub path_only : {text : List ℕ} (a b : List ℕ) → IsPath text a → IsPath text b → a ≡ b
+path_only a b p q =
+    let same = normal_only p.is_normal q.is_normal in
+    let (names, rest) = run_only (subst (λ t. Run is_path_byte t p.names p.query) same p.is_cut) q.is_cut in
+    let kept : p.kept ≡ q.kept = leads_only (subst (λ t. Leads [] (pieces 47 (without_root t ++ 47 ∷ [])) p.kept) names p.leads)
+    q.leads in
+    p.joined ∙ ap (λ k. joined_names k ++ p.query) kept ∙ ap (λ r. joined_names q.kept ++ r) rest ∙ sym q.joined

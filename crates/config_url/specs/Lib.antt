@@ -1,0 +1,4 @@
+pub mod Url
+pub mod UrlView
+pub mod Deciding
+pub mod Reading

@@ -1,0 +1,2 @@
+pub mod Urls
+pub mod Fits
