@@ -47,7 +47,7 @@ def edit_of(file):
 
 def function_of(place):
     """The function of an expected goal: its name, or that of the folder of proofs that has the refused answer."""
-    return place if "::" in place else place.rpartition("/")[0].replace("/", "::")
+    return place if "::" in place or place.islower() else place.rpartition("/")[0].replace("/", "::")
 
 
 def is_own(function, goal, why):

@@ -19,14 +19,17 @@ ROOT = pathlib.Path(__file__).resolve().parent.parent
 CRATES = ROOT / "crates"
 TOOLCHAIN = pathlib.Path(subprocess.check_output(["rt", "doc"], text=True).split("\n")[0]).parent / "rattle"
 LIBRARY = ("gix_config_value", "config_text", "config_integer", "config_boolean", "config_word",
-           "config_color", "config_path", "config_file", "config_host", "config_checks")
+           "config_color", "config_path", "config_file", "config_edit", "config_url", "config_host",
+           "config_checks")
 LISTED = (*LIBRARY, "uses")
 # the parts of the pages, each a function of what is put into it
 PARTS = {name: text.strip().format for name, text in re.findall(
     r"(?ms)^<!-- (\w+) -->\n(.*?)(?=^<!-- |\Z)", (ROOT / "docs/reference.html").read_text("utf-8"))}
-# what is public only because another crate of the repository needs it
-INNER = """begins_with_run digit_of equals equals_ignoring_case exists has_includes line_of LONGEST_NAME LONGEST_SET
-    normalize_into_as prepare read_bytes read_cow read_owned read_text rgb_bytes same_as seek_urls""".split()
+# modules and items that are public only because another crate of the repository needs them
+INNER = """after_mark begins_with_run config_file.bytes config_file.header digit_of EntryParts equals equals_ignoring_case
+    exists has_includes is_name is_section is_spellable line_of LONGEST_NAME LONGEST_SET normalize_into_as prepare
+    push_as_git push_header push_lower read_bytes read_cow read_entry read_owned read_text rgb_bytes same_as seek_urls
+    Stop""".split()
 # the calls whose clauses are the sentences of README: for any kind, for colors, and for settings in files
 SENTENCE = {"headline": ("config_text.value.meaning", "config_text.value.one_meaning"),
             "joined": ("config_color.laws.colors.joined",), "setting": ("uses.setting_headline.value_of",)}
@@ -247,7 +250,7 @@ class Reference:
         self.modules = {}
         files = [file for crate in LIBRARY for file in sorted(CRATES.glob(f"{crate}/src/**/*.rt"))]
         items = [it for file in files for it in opened(file).items]
-        hidden = tuple(f"{it.id}." for it in items if it.kind == "mod" and not it.is_public)
+        hidden = tuple(f"{it.id}." for it in items if it.kind == "mod" and (not it.is_public or it.id in INNER))
         self.passed = {(file.crate, new): (path[0], path[-1]) for file in map(opened, files)
                        for new, (path, is_passed) in file.brought.items() if is_passed}
         self.impls = [it for it in items if it.kind == "impl"]

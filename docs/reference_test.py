@@ -105,7 +105,8 @@ def main():
         texts = "".join((folder / f"{name}.html").read_text("utf-8") for name in ("headline", "setting"))
         untold = set(re.findall(r"<h3><code>([^<]*)</code></h3><pre (?:(?!</div>).)*toolchain, ", texts))
         results.append((f"words of the toolchain without a meaning: {untold}", not untold))
-        public = {it.name for file in reference.SOURCES for it in reference.opened(file).items if it.is_public}
+        items = [it for file in reference.SOURCES for it in reference.opened(file).items if it.is_public]
+        public = {name for it in items for name in (it.name, it.id)}
         results.append((f"hidden, but not there: {set(reference.INNER) - public}", public.issuperset(reference.INNER)))
         if not shutil.which("chromium"):
             print("skipped: the browser, since there is no chromium")

@@ -33,7 +33,8 @@ use Rattle.config_edit.specs.Reading.{IsHeaderAt, contents_in, section_after, Is
 use Rattle.config_edit.specs.Reading.{line_ends, is_item, IsPlace, IsPlaceSoFar, Placing, ArePlaces, IsPast, ComesBehind}
 use Rattle.config_edit.specs.Reading.{IsAdded, new_line}
 use Rattle.config_edit.specs.Edit.{AreBlank, IsEntry, IsTail, absent}
-use Rattle.config_file.specs.Reading.Spellings.{is_section, is_spellable, spelled_section, git_spelled}
+use Rattle.config_file.specs.Reading.Spellings.{is_section, is_spellable}
+use Rattle.config_file.specs.Spelling.{spelled_section, git_spelled}
 use Rattle.config_edit.proofs.Pieces.{header_holds, entry_holds, made_passed, first_of, first_blank, other_blanks, blank_no_sign}
 use Rattle.config_file.proofs.LineEnds.{not_none}
 use Rattle.config_file.proofs.SpelledHeaders.{header_spelled, letter_is_key_byte}

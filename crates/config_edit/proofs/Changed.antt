@@ -20,7 +20,8 @@ use Rattle.config_edit.specs.Edit.{HasValue, IsGap, PutsValue, value_bytes}
 use Rattle.config_edit.specs.Reading.{IsPutIn, IsSet}
 use Rattle.config_edit.specs.Edit.{AreBlank, IsTail, IsEntry, IsComment, absent, present}
 use Rattle.config_file.specs.Bytes.{BeginsWithLetter}
-use Rattle.config_file.specs.Reading.Spellings.{git_spelled, is_spellable}
+use Rattle.config_file.specs.Reading.Spellings.{is_spellable}
+use Rattle.config_file.specs.Spelling.{git_spelled}
 use Rattle.config_file.specs.Views.{value_of}
 use Rattle.config_edit.proofs.Pieces.{key_before_value, key_joined, first_blank, other_blanks}
 use Rattle.config_file.proofs.Spellings.{git_spelling}

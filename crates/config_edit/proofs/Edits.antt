@@ -26,7 +26,7 @@ use Rattle.config_edit.specs.Reading.{Holds, Ends, Passed, anywhere, at_end, IsR
 use Rattle.config_edit.specs.Reading.{IsPiece, IsHeaderAt, IsHeaderHeld, contents_in, section_after}
 use Rattle.config_edit.specs.Reading.{IsSplit, Corresponds, Renaming, Comes, ComesBehind}
 use Rattle.config_edit.specs.Edit.{AreBlank}
-use Rattle.config_file.specs.Reading.Spellings.{spelled_section}
+use Rattle.config_file.specs.Spelling.{spelled_section}
 use Rattle.config_file.specs.Views.{section_of, value_of}
 use Rattle.config_file.proofs.AddedEntries.{begins_no_mark, begins_unmarked, mark_is}
 use Rattle.config_file.proofs.EachReading.{are_read, not_empty}
@@ -75,9 +75,6 @@ passed_join {a = a} {b = b} some first (anywhere second) =
     anywhere (holds_join a b (passed_holds some first) second)
 passed_join {a = a} {b = b} some first (at_end none second) =
     at_end none (holds_end a b (passed_holds some first) second)
-
-no_contents : (contents : List Content) → contents ++ [] ≡ contents
-no_contents contents = append-nil contents
 
 pub passed_ends : {section next : Option Section} {text rest : List ℕ} {contents : List Content} → rest ≡ []
     → Passed section text contents next rest

@@ -318,12 +318,6 @@ comment_cut {bytes = bytes} {sign = sign} e is run =
 pub no_comment : (text : List ℕ) → (comment : List ℕ) × (text ≡ comment ++ text) × IsComment comment
 no_comment text = ([], refl, absent)
 
-pub comment_ended : {text bytes rest : List ℕ} → Run is_comment_byte text bytes rest → (b : ℕ) (more : List ℕ)
-    → rest ≡ b ∷ more → b ≡ 10
-comment_ended run b more e =
-    let stops : is_comment_byte b ≡ false =
-    subst (StopsRun is_comment_byte) e run.longest in grind (arith, nat_tests)
-
 pub tail_of_line : {text blanks at comment end rest : List ℕ} → Run is_blank text blanks at
     → at ≡ comment ++ end → IsComment comment → end ≡ 10 ∷ rest
     → (tail : List ℕ) × (text ≡ tail ++ rest) × (t : IsTail tail rest true) × (t.comment ≡ comment)
@@ -364,12 +358,6 @@ tail_of_end {blanks = blanks} {comment = comment} {end = end} run at_is is end_i
   },
   refl,
 )
-
-pub line_goes_on : {text blanks at more : List ℕ} {b : ℕ} → Run is_blank text blanks at → at ≡ b ∷ more
-    → is_comment_sign b ≡ false → b ≢ 10 → edit.GoesOn text
-line_goes_on {blanks = blanks} {more = more} {b = b} run at_is no_sign no_line =
-    let stops : is_blank b ≡ false = subst (StopsRun is_blank) at_is run.longest in
-    (blanks, b, more, run.joined ∙ ap (λ x. blanks ++ x) at_is, run.pass, stops, no_sign, no_line)
 
 pub entry_holds : {key at bytes rest : List ℕ} {value : Option (List ℕ)} {lines : ℕ} (blanks : List ℕ)
     → AreBlank blanks
@@ -487,12 +475,6 @@ nothing_stops (c ∷ rest) (no_blank, no_bracket, no_letter) (blanks, b, more, j
       file.no_item
           (begins_none c no_blank feed sign no_bracket no_letter),
     )
-
-pub starts_line : {text blanks at : List ℕ} → Run is_blank text blanks at
-    → ((b : ℕ) (rest : List ℕ) → at ≡ b ∷ rest → (b ≢ 91) × (is_ascii_alphabetic b ≡ false)) → StartsLine at
-starts_line {at = []} run others = tt
-starts_line {at = b ∷ rest} run others =
-    let (no_bracket, no_letter) = others b rest refl in (run.longest, no_bracket, no_letter)
 
 pub blank_no_feed : (x : ℕ) → is_blank x ≡ true → x ≡ 10 → ⊥
 blank_no_feed x blank is = grind (arith, nat_tests)

@@ -466,12 +466,6 @@ pub replacing_listable : (key : Key) (text rest start new : List ℕ) (section :
 replacing_listable key text rest start new section several None (front, contents, past, nothing, start_is, new_is, several_is) = past.listable
 replacing_listable key text rest start new section several (Some f) r = r.listable
 
-pub start_cut : (key : Key) (text rest start new : List ℕ) (section : Option Section) (several : Bool)
-    (found : Option Found)
-    → Replacing key text rest start new section found several → (between : List ℕ) × (start ≡ between ++ rest)
-start_cut key text rest start new section several None (front, contents, past, nothing, start_is, new_is, several_is) = (front, start_is ∙ past.joined)
-start_cut key text rest start new section several (Some f) r = (r.between, r.cut)
-
 pub no_entry_held : (key : Key) (section : Option Section) (h : Held)
     → (h ≡ held.Nothing) ⊎ (h ≡ held.Comment) → ¬ (IsEntryHeld key section h)
 no_entry_held key section h (inl e) is = subst (IsEntryHeld key section) e is

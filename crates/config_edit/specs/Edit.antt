@@ -10,8 +10,7 @@ use Rattle.config_file.specs.Bytes.{tab, line_feed, carriage_return, dot, space,
 use Rattle.config_file.specs.Bytes.{is_blank, is_comment_sign, is_comment_byte}
 use Rattle.config_file.specs.Header.{Section, Header}
 use Rattle.config_file.specs.Value.{Ending, SpellsValue}
-use Rattle.config_file.specs.Reading.Spellings.{git_spelled, spelled_section}
-use Rattle.config_file.specs.Spelling.{SpellsSection, IsHeader, IsSpelling, HasNoHeader, LacksSpelling}
+use Rattle.config_file.specs.Spelling.{SpellsSection, IsGitHeader, IsGitSpelling, HasNoHeader, LacksSpelling}
 use Rattle.config_file.specs.File.{Entry, TakesEntry, Begins, IsFile}
 use Rattle.config_edit.specs.Reached.{Leads}
 use Rattle.config_file.specs.Bytes.{BeginsWithLetter}
@@ -84,8 +83,7 @@ IsHeaderOf key bytes = (inner : List ℕ) × (section : Section) × (bytes ≡ l
 
 -- these bytes are the header of the section of the key that is written
 abbrev pub IsWrittenHeader : Key → List ℕ → Type 0
-IsWrittenHeader key bytes = IsHeader bytes key.section key.subsection
-    × (bytes ≡ left_bracket ∷ spelled_section key.section key.subsection)
+IsWrittenHeader key bytes = IsGitHeader bytes key.section key.subsection
 
 -- a header of the first key may become one of the second
 abbrev pub RenamesHeader : Key → Key → List Content → Option Section → List ℕ → List ℕ → List ℕ → Type 0
@@ -250,10 +248,6 @@ pub record ChangesAt (May : List ℕ → List ℕ → List ℕ → Type 0) (befo
 abbrev pub value_bytes : Option (List ℕ) → List ℕ
 value_bytes None = []
 value_bytes (Some raw) = raw
-
--- these bytes are the spelling of the value that Git writes
-abbrev pub IsGitSpelling : List ℕ → List ℕ → Type 0
-IsGitSpelling spelling value = IsSpelling spelling value × (spelling ≡ git_spelled value)
 
 -- The bytes of a value become those of another one: blanks around it stay. If the old one has only blanks, all of them stay,
 -- and behind a key alone a sign comes before the value.

@@ -1,3 +1,12 @@
+pub use Rattle.config_file.specs.Bytes
+pub use Rattle.config_file.specs.Runs
+pub use Rattle.config_file.specs.Header
+pub use Rattle.config_file.specs.Value
+pub use Rattle.config_file.specs.File
+pub use Rattle.config_file.specs.Listing
+pub use Rattle.config_file.specs.Key
+pub use Rattle.config_file.specs.KeyView
+pub use Rattle.config_file.specs.Spelling
 pub mod Reached
 pub mod Edit
 pub mod Reading

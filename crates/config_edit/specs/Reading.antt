@@ -38,7 +38,8 @@ use Rattle.config_file.specs.Bytes.{BeginsWithLetter}
 use Rattle.config_edit.specs.Edit.{PutsValue, GivesValue, Becomes, IsApart}
 use Rattle.config_file.specs.Listing.{IsListedSection}
 use Rattle.config_edit.specs.Edit.{ChangesEach, ChangesValueTo, MayChange, AreInOrder, name_after, value_bytes}
-use Rattle.config_file.specs.Reading.Spellings.{git_spelled, is_spellable}
+use Rattle.config_file.specs.Reading.Spellings.{is_spellable}
+use Rattle.config_file.specs.Spelling.{git_spelled}
 use Rattle.config_file.specs.Views.{section_of, value_of}
 
 -- whatever line it is on and whatever follows it, the text leads from the first section to the second one, with these

@@ -5,7 +5,8 @@ ghost use Rattle.config_file.specs.Key.{is_name};
 ghost use Rattle.config_file.specs.KeyView.{key_of};
 ghost use Rattle.config_file.specs.Views.{section_of};
 ghost use Rattle.config_edit.specs.Reading.{ArePlaces, Ends, IsAdded, IsLeft, IsListable, IsReplacement, content_of, is_item, line_ends, new_line};
-ghost use Rattle.config_file.specs.Reading.Spellings.{is_section, is_spellable, spelled_section};
+ghost use Rattle.config_file.specs.Reading.Spellings.{is_section, is_spellable};
+ghost use Rattle.config_file.specs.Spelling.{spelled_section};
 
 use crate::piece::{Held, Piece, last_line_end, next_piece};
 use crate::write::{End, push_changed, push_line};

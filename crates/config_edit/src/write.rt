@@ -6,7 +6,8 @@ ghost use Rattle.config_file.specs.Value.{Ending, SpellsValue};
 ghost use Rattle.config_file.specs.Views.{value_of};
 ghost use Rattle.config_edit.specs.Reading.{IsEndOf, IsOpen, IsSet, IsPutIn, line_ends, new_line};
 ghost use Rattle.config_edit.specs.Edit.{AreBlank, IsEntry};
-ghost use Rattle.config_file.specs.Reading.Spellings.{is_spellable, git_spelled};
+ghost use Rattle.config_file.specs.Reading.Spellings.{is_spellable};
+ghost use Rattle.config_file.specs.Spelling.{git_spelled};
 
 use crate::piece::{Held, Piece};
 use config_file::bytes::{Class, before, is_blank, is_comment_sign, run, split};

@@ -1,5 +1,6 @@
 -- Entries that are added to a configuration file.
-use Rattle.std.proofs.Common.{◌≡◌, ◌≢◌, ℕ, ◌+◌, Bool, true, false, List, [], ◌∷◌, ◌++◌, Option, Some, None, refl, sym, ap, ◌∙◌, subst, append_assoc, arith, inl, inr, ◌⊎◌, ◌==◌, ◌&&◌, ◌||◌}
+use Rattle.std.proofs.Common.{◌≡◌, ◌≢◌, ℕ, ◌+◌, Bool, true, false, List, [], ◌∷◌, ◌++◌, Option, Some, None}
+use Rattle.std.proofs.Common.{refl, sym, ap, ◌∙◌, subst, append_assoc, arith, inl, inr, ◌⊎◌, ◌==◌, ◌&&◌, ◌||◌}
 use Rattle.std.specs.List.{list_all, flat_map}
 use Rattle.std.specs.Char.{is_ascii_alphabetic}
 use Rattle.std.proofs.lemmas.Bool.{cases_Bool, true≢false}
@@ -8,64 +9,69 @@ use Rattle.config_file.specs.Bytes.{is_comment_byte, is_key_byte}
 use Rattle.config_file.specs.Header.{Section}
 use Rattle.config_file.specs.Value.{TakesValue, closed, line_feeds}
 use Rattle.config_file.specs.File as file
-use Rattle.config_file.specs.File.{Entry, TakesKey, TakesEntry, alone, valued, Reads, Begins, marked, part_of_mark, unmarked, after_mark, IsPartOfMark, IsFile}
-use Rattle.config_file.specs.Spelling.{is_continued, HasLineEnd, EndsLine, IsHeader, IsSpelling, SpellsOptional, IsEntry, AddsEntry, IsLine, HasNoHeader, IsNoKey, LacksSpelling}
-use Rattle.config_file.specs.Reading.Spellings.{letter_of, spelled_byte, after_backslash, is_quoted, spelled_value, is_spellable, is_spellable_or_absent, is_key, spelled_line, is_section, spelled_section, is_writable}
-use Rattle.config_file.proofs.LineEnds.{line_feeds_after, line_feeds_none, after_front, ends_line, continued_tail, continued_by_last, pair_continued}
-use Rattle.config_file.proofs.Spellings.{value_spelled, not_spelled}
-use Rattle.config_file.proofs.Shortest.{shortest_spelling}
-use Rattle.config_file.proofs.SpelledHeaders.{header_spelled, shortest_header, no_header, no_key}
+use Rattle.config_file.specs.File.{Entry, TakesKey, TakesEntry, alone, valued, Reads, Begins, marked}
+use Rattle.config_file.specs.File.{part_of_mark, unmarked, after_mark, IsPartOfMark, IsFile}
+use Rattle.config_file.specs.Spelling.{is_continued, HasLineEnd, EndsLine, IsHeader, IsSpelling}
+use Rattle.config_file.specs.Spelling.{SpellsOptional, IsEntry}
+use Rattle.config_file.specs.Spelling.{AddsEntry, IsLine, HasNoHeader, IsNoKey, LacksSpelling, letter_of}
+use Rattle.config_file.specs.Spelling.{after_backslash}
+use Rattle.config_file.specs.Spelling.{spelled_byte, needs_quotes, git_spelled, spelled_section}
+use Rattle.config_file.specs.Reading.Spellings.{is_spellable, is_spellable_or_absent, is_key, spelled_line}
+use Rattle.config_file.specs.Reading.Spellings.{is_section, is_writable}
+use Rattle.config_file.proofs.LineEnds.{line_feeds_after, line_feeds_none, after_front, ends_line}
+use Rattle.config_file.proofs.LineEnds.{continued_tail, continued_by_last, pair_continued}
+use Rattle.config_file.proofs.Spellings.{git_spelling, not_spelled}
+use Rattle.config_file.proofs.SpelledHeaders.{header_spelled, no_header, no_key}
 use Rattle.config_file.proofs.Appended.{reads_more, both_other}
 
 -- a spelling has no LF
-letter_other : (q : Bool) (b l : ℕ) → letter_of q b ≡ Some l → is_comment_byte l ≡ true
-letter_other true b l e = grind (arith, nat_tests)
-letter_other false b l e = grind (arith, nat_tests)
+letter_other : (b l : ℕ) → letter_of b ≡ Some l → is_comment_byte l ≡ true
+letter_other b l e = grind (arith, nat_tests)
 
-no_letter_other : (q : Bool) (b : ℕ) → letter_of q b ≡ None → is_comment_byte b ≡ true
-no_letter_other true b e = grind (arith, nat_tests)
-no_letter_other false b e = grind (arith, nat_tests)
+no_letter_other : (b : ℕ) → letter_of b ≡ None → is_comment_byte b ≡ true
+no_letter_other b e = grind (arith, nat_tests)
 
-byte_other : (q : Bool) (b : ℕ) (o : Option ℕ) → letter_of q b ≡ o
-    → list_all is_comment_byte (after_backslash b o) ≡ true
-byte_other q b (Some l) is = rw (letter_other q b l is)
-byte_other q b None is = rw (no_letter_other q b is)
+byte_other : (b : ℕ) (o : Option ℕ) → letter_of b ≡ o → list_all is_comment_byte (after_backslash b o) ≡ true
+byte_other b (Some l) is = rw (letter_other b l is)
+byte_other b None is = rw (no_letter_other b is)
 
-bytes_other : (q : Bool) (value : List ℕ) → list_all is_comment_byte (flat_map (spelled_byte q) value) ≡ true
-bytes_other q [] = refl
-bytes_other q (b ∷ value) = both_other (spelled_byte q b) (flat_map (spelled_byte q) value) (byte_other q b (letter_of q b) refl) (bytes_other q value)
+bytes_other : (value : List ℕ) → list_all is_comment_byte (flat_map spelled_byte value) ≡ true
+bytes_other [] = refl
+bytes_other (b ∷ value) =
+    both_other (spelled_byte b) (flat_map spelled_byte value) (byte_other b (letter_of b) refl) (bytes_other value)
 
-value_lines : (value : List ℕ) → line_feeds (spelled_value value) ≡ 0
+value_lines : (value : List ℕ) → line_feeds (git_spelled value) ≡ 0
 value_lines value =
-    elim (cases_Bool (is_quoted value)) [
-      | inl is ↦ rw is
-          (line_feeds_none (34 ∷ (flat_map (spelled_byte true) value ++ 34 ∷ [])) (both_other (flat_map (spelled_byte true) value) (34 ∷ []) (bytes_other true value) refl))
-      | inr other ↦ rw other (line_feeds_none (flat_map (spelled_byte false) value) (bytes_other false value))
+    elim (cases_Bool (needs_quotes value)) [
+      | inl is ↦
+          let all = both_other (flat_map spelled_byte value) (34 ∷ []) (bytes_other value) refl in
+          rw is (line_feeds_none (34 ∷ (flat_map spelled_byte value ++ 34 ∷ [])) all)
+      | inr other ↦ rw other (line_feeds_none (flat_map spelled_byte value) (bytes_other value))
     ]
 
 -- no spelling is continued: it does not end in a backslash that is not escaped
-letter_stays : (b l : ℕ) → letter_of false b ≡ Some l → l ≢ 13
+letter_stays : (b l : ℕ) → letter_of b ≡ Some l → l ≢ 13
 letter_stays b l e is = grind (arith, nat_tests)
 
-no_letter_stays : (b : ℕ) → letter_of false b ≡ None → b ≢ 92
+no_letter_stays : (b : ℕ) → letter_of b ≡ None → b ≢ 92
 no_letter_stays b e is = grind (arith, nat_tests)
 
-byte_stays : (b : ℕ) (o : Option ℕ) (line : List ℕ) → letter_of false b ≡ o → is_continued line ≡ false
+byte_stays : (b : ℕ) (o : Option ℕ) (line : List ℕ) → letter_of b ≡ o → is_continued line ≡ false
     → is_continued (after_backslash b o ++ line) ≡ false
 byte_stays b (Some l) line is h = pair_continued l line (letter_stays b l is) ∙ h
 byte_stays b None line is h = continued_tail b line (no_letter_stays b is) ∙ h
 
-bytes_stay : (value : List ℕ) → is_continued (flat_map (spelled_byte false) value) ≡ false
+bytes_stay : (value : List ℕ) → is_continued (flat_map spelled_byte value) ≡ false
 bytes_stay [] = refl
-bytes_stay (b ∷ value) = byte_stays b (letter_of false b) (flat_map (spelled_byte false) value) refl (bytes_stay value)
+bytes_stay (b ∷ value) = byte_stays b (letter_of b) (flat_map spelled_byte value) refl (bytes_stay value)
 
-value_stays : (value : List ℕ) → is_continued (spelled_value value) ≡ false
+value_stays : (value : List ℕ) → is_continued (git_spelled value) ≡ false
 value_stays value =
-    elim (cases_Bool (is_quoted value)) [
+    elim (cases_Bool (needs_quotes value)) [
       | inl is ↦
           let no_backslash : 34 ≢ 92 = omega arith in
           let no_return : 34 ≢ 13 = omega arith in
-          rw is (continued_by_last (34 ∷ flat_map (spelled_byte true) value) 34 [] no_backslash no_return refl)
+          rw is (continued_by_last (34 ∷ flat_map spelled_byte value) 34 [] no_backslash no_return refl)
       | inr other ↦ rw other (bytes_stay value)
     ]
 
@@ -97,7 +103,7 @@ line_ends front (k ∷ key) None is =
     }
 line_ends front (k ∷ key) (Some value) is =
     let letter : is_ascii_alphabetic k ≡ true = grind (arith, nat_tests) in
-    let raw = spelled_value value in
+    let raw = git_spelled value in
     let no_backslash : 61 ≢ 92 = omega arith in
     let no_return : 61 ≢ 13 = omega arith in
     let after = continued_tail 61 raw no_backslash ∙ value_stays value in
@@ -111,7 +117,7 @@ line_ends front (k ∷ key) (Some value) is =
 -- a line with a key, and with a value if there is one
 value_of : Option (List ℕ) → Option (List ℕ)
 value_of None = None
-value_of (Some value) = Some (spelled_value value)
+value_of (Some value) = Some (git_spelled value)
 
 key_then : (k : ℕ) (key rest : List ℕ) (b : ℕ) → list_all is_key_byte (k ∷ key) ≡ true
     → is_key_byte b ≡ false → (b == 32 || b == 9) ≡ false
@@ -133,9 +139,9 @@ line_taken k key None is spellable =
     alone (key_then k key [] 10 all refl refl) refl
 line_taken k key (Some value) is spellable =
     let all : list_all is_key_byte (k ∷ key) ≡ true = grind (arith, nat_tests) in
-    let raw = spelled_value value in
+    let raw = git_spelled value in
     let after = raw ++ 10 ∷ [] in
-    let taken : TakesValue after raw (line_feeds raw) (10 ∷ []) = closed refl (value_spelled value spellable).0 (inl refl) in
+    let taken : TakesValue after raw (line_feeds raw) (10 ∷ []) = closed refl (git_spelling value spellable).0 (inl refl) in
     let none = value_lines value in
     valued (key_then k key after 61 all refl refl) refl (subst (λ l. TakesValue after raw l (10 ∷ [])) none taken)
 
@@ -143,7 +149,7 @@ value_spells : (value : Option (List ℕ)) → is_spellable_or_absent value ≡ 
     → SpellsOptional IsSpelling (value_of value) value
 unfolding value_of
 value_spells None is = tt
-value_spells (Some value) is = value_spelled value is
+value_spells (Some value) is = git_spelling value is
 
 entry_on : Section → List ℕ → Option (List ℕ) → ℕ → Entry
 entry_on section key value line = record { section = Some section; key = key; value = value_of value; line = line }
@@ -300,8 +306,9 @@ pub writable_line : (name : List ℕ) (text : Option (List ℕ)) (key : List ℕ
     → IsLine ((91 ∷ spelled_section name text) ++ spelled_line key value) name text key value
 writable_line name text key None all =
     let section : is_section name text ≡ true = and_left _ (is_key key) (and_left _ true all) in
-    (91 ∷ spelled_section name text, shortest_header name text section, refl)
+    (91 ∷ spelled_section name text, (header_spelled name text section, refl), refl)
 writable_line name text key (Some value) all =
     let section : is_section name text ≡ true = and_left _ (is_key key) (and_left _ (is_spellable value) all) in
     let spellable : is_spellable value ≡ true = and_right (is_section name text && is_key key) _ all in
-    (91 ∷ spelled_section name text, spelled_value value, shortest_header name text section, shortest_spelling value spellable, refl)
+    let header = (header_spelled name text section, refl) in
+    (91 ∷ spelled_section name text, git_spelled value, header, (git_spelling value spellable, refl), refl)

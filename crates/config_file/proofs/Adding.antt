@@ -1,5 +1,6 @@
 -- Settings that are added one by one.
-use Rattle.std.proofs.Common.{◌≡◌, ◌++◌, ◌∙◌, ℕ, length, option_map, map, refl, arith, List, [], ◌∷◌, Option, sym, ap, subst}
+use Rattle.std.proofs.Common.{◌≡◌, ◌++◌, ◌∙◌, ℕ, length, option_map, map, refl, arith, List, [], ◌∷◌, Option}
+use Rattle.std.proofs.Common.{sym, ap, subst}
 use Rattle.std.specs.List.{AllZip}
 use Rattle.std.proofs.lemmas.List.{append_assoc, append-nil}
 use Rattle.config_file.specs.declared.errors.FileError.{FileError}
@@ -13,10 +14,6 @@ use Rattle.config_file.proofs.EachReading.{are_read}
 
 pub adds_none : (settings : List Setting) → AddsEach [] settings settings
 adds_none settings = ([], sym (append-nil settings), tt)
-
-pub adds_one : (found : List ℕ × Entry) (old new : List Setting) (setting : Setting) → IsSettingOf found setting
-    → new ≡ old ++ setting ∷ [] → AddsEach (found ∷ []) old new
-adds_one found old new setting is more = (setting ∷ [], more, (is, tt))
 
 zip_append : {A B : Type 0} (R : A → B → Type 0) (xs more : List A) (ys others : List B) → AllZip R xs ys
     → AllZip R more others → AllZip R (xs ++ more) (ys ++ others)
@@ -52,10 +49,6 @@ file_adds_more file entries entry old new newer adds one =
 pub file_more : (text : List ℕ) (entries left : List Entry) (entry : Entry) (error : Option FileError)
     → IsFile text (entries ++ entry ∷ left) error → IsFile text ((entries ++ entry ∷ []) ++ left) error
 file_more text entries left entry error file = subst (λ e. IsFile text e error) (sym (append_assoc entries (entry ∷ []) left)) file
-
-pub file_end : (text : List ℕ) (entries : List Entry) (error : Option FileError)
-    → IsFile text (entries ++ []) error → IsFile text entries error
-file_end text entries error file = subst (λ e. IsFile text e error) (append-nil entries) file
 
 pub first_of : (text : List ℕ) (entries : List Entry) (reader : Entries)
     → ((left : List Entry) (error : Option FileError) → HasLeft reader left error → IsFile text (entries ++ left) error)

@@ -1,8 +1,8 @@
 -- What a text begins with.
-use Rattle.std.proofs.Common.{◌≡◌, ◌≢◌, ◌<◌, ◌++◌, ◌∙◌, ◌==◌, ◌&&◌, Bool, true, false, ℕ, zero, suc, List, [], ◌∷◌, Option, None, Some, Bor, MatchOption, length, take, drop, get_or, sym, ap, refl, arith}
+use Rattle.std.proofs.Common.{◌≡◌, ◌≢◌, ◌<◌, ◌++◌, ◌∙◌, ◌==◌, ◌&&◌, Bool, true, false, ℕ, zero, suc, List, []}
+use Rattle.std.proofs.Common.{◌∷◌, length, take, drop, get_or, sym, ap, refl, arith}
 use Rattle.std.proofs.lemmas.Bool.{true≢false, eq-eqb}
 use Rattle.config_text.specs.Bytes.{LacksFront}
-use Rattle.std.proofs.lemmas.List.{append_assoc, append_cancel_left}
 use Rattle.std.specs.Char.{to_ascii_lowercase}
 use Rattle.std.specs.Str.{str_to_ascii_lowercase}
 
@@ -14,20 +14,6 @@ goes_on [] text rest more i within part whole = absurd (omega arith)
 goes_on (f ∷ front) text rest more zero within part whole = (str_to_ascii_lowercase front ++ more, sym part ∙ whole)
 goes_on (f ∷ front) text rest more (suc i) within part whole =
     goes_on front (str_to_ascii_lowercase (take i front) ++ rest) rest more i (omega arith) refl (ap (drop 1) (sym part ∙ whole))
-
--- a text that does not begin with the first part does not begin with both parts
-pub not_both : (first second text : List ℕ) → ((more : List ℕ) → text ≢ first ++ more)
-    → (more : List ℕ) → text ≢ first ++ second ++ more
-not_both first second text never more e = never (second ++ more) (e ∙ append_assoc first second more)
-
--- after the first part, the text begins with both exactly if the rest begins with the second
-pub both : (first second text rest : List ℕ) (found : Option (Bor (List ℕ))) → text ≡ first ++ rest
-    → MatchOption found ((more : List ℕ) → rest ≢ second ++ more) (λ after. rest ≡ second ++ after.now)
-    → MatchOption found ((more : List ℕ) → text ≢ first ++ second ++ more) (λ after. text ≡ first ++ second ++ after.now)
-both first second text rest None begins never =
-    λ more e. never more (append_cancel_left first rest (second ++ more) (sym begins ∙ e ∙ append_assoc first second more))
-both first second text rest (Some after) begins goes =
-    begins ∙ ap (λ t. first ++ t) goes ∙ sym (append_assoc first second after.now)
 
 -- whether the text begins with the whole front, which computes
 abbrev pub is_front : List ℕ → List ℕ → Bool

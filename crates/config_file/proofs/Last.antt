@@ -1,12 +1,13 @@
 -- Settings with a key, searched one by one.
-use Rattle.std.proofs.Common.{◌≡◌, ◌≤◌, ◌<◌, ◌+◌, ◌++◌, ◌∙◌, ◌↔◌, ◌⊎◌, inl, inr, ℕ, Bool, true, false, List, [], ◌∷◌, Some, length, take, get_or}
+use Rattle.std.proofs.Common.{◌≡◌, ◌≤◌, ◌<◌, ◌+◌, ◌++◌, ◌∙◌, ◌↔◌, ◌⊎◌, inl, inr, ℕ, Bool, true, false, List}
+use Rattle.std.proofs.Common.{[], ◌∷◌, Some, length, take, get_or}
 use Rattle.std.proofs.Common.{IsTrue, rules, refl, sym, subst, ap, arith, zero, suc}
 use Rattle.std.specs.List.{slice_get, AllWithin}
 use Rattle.std.proofs.lemmas.Option.{get_or_from_slice_get, slice_get-get_or}
 use Rattle.std.proofs.lemmas.List.{take_all}
 use Rattle.config_file.specs.Key.{Key, HasKey}
 use Rattle.config_file.specs.Listing.{IsListed}
-use Rattle.config_file.specs.Settings.{AreListed, IsLast, AllWithKey, Picks, IsBelow}
+use Rattle.config_file.specs.Settings.{AreListed, IsLast, AllWithKey, Picks}
 use Rattle.config_file.proofs.Picked.{picks_next}
 use Rattle.config_file.specs.Views.{entry_of}
 use Rattle.config_file.specs.declared.settings.Setting.{Setting}
@@ -68,28 +69,12 @@ not_found settings key i low setting b at within above is_false tests later list
       | inr more ↦ later listed k d (omega (arith, above, more)) to
     ]
 
--- whether a setting is below a prefix, by what a test of a listed entry says
-abbrev pub TestsBelow : List ℕ → Setting → Bool → Type 0
-TestsBelow prefix setting b = (text : List ℕ)
-    → IsListed (entry_of setting.entry).section (entry_of setting.entry).key text
-    → (IsTrue b ↔ IsBelow prefix setting)
-
 pub all_next : {key : Key} {all : List Setting} (settings : List Setting) (i : ℕ) (setting : Setting) (next : List Setting)
     (b : Bool) → slice_get settings i ≡ Some setting → i < length settings → Tests setting key b
     → ((b ≡ true) × (next ≡ all ++ setting ∷ [])) ⊎ ((b ≡ false) × (next ≡ all))
     → (AreListed settings → AllWithKey key (take i settings) all) → AreListed settings
     → AllWithKey key (take (i + 1) settings) next
 all_next settings i setting next b at within tests either before listed =
-    let (text, is) = listed_at settings i setting at within listed in
-    picks_next settings i setting next b at within (tests text is) either (before listed)
-
-pub below_next : (prefix : List ℕ) {all : List Setting} (settings : List Setting) (i : ℕ) (setting : Setting)
-    (next : List Setting) (b : Bool) → slice_get settings i ≡ Some setting → i < length settings
-    → TestsBelow prefix setting b
-    → ((b ≡ true) × (next ≡ all ++ setting ∷ [])) ⊎ ((b ≡ false) × (next ≡ all))
-    → (AreListed settings → Picks (IsBelow prefix) (take i settings) all) → AreListed settings
-    → Picks (IsBelow prefix) (take (i + 1) settings) next
-below_next prefix settings i setting next b at within tests either before listed =
     let (text, is) = listed_at settings i setting at within listed in
     picks_next settings i setting next b at within (tests text is) either (before listed)
 

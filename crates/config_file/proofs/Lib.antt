@@ -21,7 +21,6 @@ pub mod Plain
 pub mod Spellings
 pub mod SpelledHeaders
 pub mod LineEnds
-pub mod Shortest
 pub mod Appended
 pub mod AddedEntries
 pub mod EachValue

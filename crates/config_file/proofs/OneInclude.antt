@@ -1,6 +1,6 @@
 -- An entry of a file aims at one file at most: its section and its value spell a text, and a text has one
 -- meaning.
-use Rattle.std.proofs.Common.{◌≡◌, ℕ, Bool, true, false, List, ◌++◌, codes, Option, None, Some}
+use Rattle.std.proofs.Common.{◌≡◌, ℕ, true, false, List, ◌++◌, codes, Option, None, Some}
 use Rattle.std.proofs.Common.{refl, sym, ap, ◌∙◌, subst, option_map}
 use Rattle.std.proofs.lemmas.Bool.{true≢false}
 use Rattle.std.proofs.lemmas.Option.{same_Some, none-some}
@@ -11,7 +11,8 @@ use Rattle.config_file.specs.Subsection.{SpellsSubsection, IsSubsection}
 use Rattle.config_file.specs.Value.{SpellsValue}
 use Rattle.config_file.specs.Listing.{IsListed, alone, in_section, plain, quoted}
 use Rattle.config_file.specs.Include as include
-use Rattle.config_file.specs.Include.{SpellsCondition, Holds, IsSameCondition, IsPathIn, EntryFollows, IsGitDir}
+use Rattle.config_file.specs.Include.{SpellsCondition, Holds, IsSameCondition, IsPathIn, EntryFollows}
+use Rattle.config_file.specs.Include.{IsGitDir}
 use Rattle.config_file.specs.Include.{IsOnBranch, HasUrl}
 use Rattle.config_file.specs.Path as path
 use Rattle.config_file.specs.Path.{Expands, BeginsUnknown, IsIncludedName, is_rest}
@@ -145,13 +146,6 @@ not_both includes dir entry read (include.holds raw is h) (include.fails other s
     let (written, found, named) = is.1 in
     condition_spelled includes dir (spells read.listed.1 found) (same_Some _ _ (subsections entry is so)) h n
 not_both includes dir entry read (include.holds raw is h) (include.unrelated n m) = m raw is
-
-pub one_answer : (includes : Includes) (dir : List ℕ) (entry : Entry) (a b : Bool) → IsRead entry
-    → EntryFollows includes dir entry a → EntryFollows includes dir entry b → a ≡ b
-one_answer includes dir entry true true read is so = refl
-one_answer includes dir entry true false read is so = absurd (not_both includes dir entry read is so)
-one_answer includes dir entry false true read is so = absurd (not_both includes dir entry read so is)
-one_answer includes dir entry false false read is so = refl
 
 -- ---- the name of a file
 

@@ -1,5 +1,6 @@
 -- What is picked from a list, one by one.
-use Rattle.std.proofs.Common.{◌≡◌, ◌≤◌, ◌<◌, ◌+◌, ◌++◌, ◌∙◌, ◌↔◌, ◌⊎◌, inl, inr, ℕ, Bool, true, false, List, [], ◌∷◌, Some, length, take}
+use Rattle.std.proofs.Common.{◌≡◌, ◌≤◌, ◌<◌, ◌+◌, ◌++◌, ◌∙◌, ◌↔◌, ◌⊎◌, inl, inr, ℕ, Bool, true, false, List}
+use Rattle.std.proofs.Common.{[], ◌∷◌, Some, length, take}
 use Rattle.std.proofs.Common.{IsTrue, rules, refl, sym, subst, ap, arith, zero, suc, map, get_or, Contains}
 use Rattle.std.proofs.lemmas.List.{map-append, take_all}
 use Rattle.std.specs.List.{slice_get}
@@ -24,10 +25,6 @@ picks_same x not (leaves l rest) = leaves l (picks_same x not rest)
 pub is_true : (b : Bool) → b ≡ true → IsTrue b
 is_true true e = search rules
 is_true false e = absurd (false≢true e)
-
-pub is_so : (b : Bool) → IsTrue b → b ≡ true
-is_so true t = refl
-is_so false t = search rules
 
 -- the first elements and the next one
 pub take_next : {X : Type 0} (xs : List X) (i : ℕ) (x : X) → slice_get xs i ≡ Some x → i < length xs

@@ -1,20 +1,14 @@
 -- The scopes of settings that are added.
-use Rattle.std.proofs.Common.{◌≡◌, ◌++◌, ◌∙◌, [], ◌∷◌, sym, ap, subst}
+use Rattle.std.proofs.Common.{◌≡◌, ◌++◌, ◌∙◌, [], sym, ap, subst}
 use Rattle.std.proofs.lemmas.List.{append_assoc, append-nil}
 use Rattle.std.specs.List.{All}
-use Rattle.std.proofs.lemmas.List.Elements.{All-nil, All-cons, All-append}
+use Rattle.std.proofs.lemmas.List.Elements.{All-nil, All-append}
 use Rattle.config_file.specs.Settings.{AddsInScope}
-use Rattle.config_file.specs.declared.settings.Setting.{Setting}
 use Rattle.config_file.specs.declared.settings.Settings.{Settings}
 
 pub scope_none : (old new : Settings) → new.scope ≡ old.scope → new.entries.items ≡ old.entries.items
     → AddsInScope old new
 scope_none old new same is = (same, ([], is ∙ sym (append-nil old.entries.items), All-nil _))
-
-pub scope_one : (old new : Settings) (setting : Setting) → setting.scope ≡ old.scope → new.scope ≡ old.scope
-    → new.entries.items ≡ old.entries.items ++ setting ∷ [] → AddsInScope old new
-scope_one old new setting has same is =
-    (same, (setting ∷ [], is, All-cons (λ s. s.scope ≡ old.scope) setting [] has (All-nil (λ s. s.scope ≡ old.scope))))
 
 pub scope_both : (old new newer : Settings) → AddsInScope old new → AddsInScope new newer → AddsInScope old newer
 scope_both old new newer (same, (first, is, all)) (same2, (second, is2, all2)) = (

@@ -1,24 +1,22 @@
 -- The subsections of settings, found one by one.
 use Rattle.std.proofs.Common.{◌≡◌, ◌≢◌, ◌<◌, ◌+◌, ◌++◌, ◌∙◌, ◌⊎◌, inl, inr, ℕ, List, [], ◌∷◌}
-use Rattle.std.proofs.Common.{Option, Some, None, length, take, drop, map, option_map, sym, subst, ap, MatchOption, Bool, IsTrue}
-use Rattle.std.proofs.Common.{◌↔◌, ◌≤◌, eqb, bytes_eq}
+use Rattle.std.proofs.Common.{Option, Some, None, length, take, map, option_map, sym, subst, ap, MatchOption}
+use Rattle.std.proofs.Common.{◌≤◌, bytes_eq}
 use Rattle.std.specs.Char.{to_ascii_lowercase}
-use Rattle.std.specs.List.{slice_get, starts_with}
-use Rattle.std.proofs.lemmas.Bool.Decides.{Decides-eqb}
+use Rattle.std.specs.List.{slice_get}
 use Rattle.std.proofs.lemmas.List.{take_all}
-use Rattle.std.proofs.lemmas.Slice.Eq.{starts_is}
 use Rattle.std.proofs.lemmas.Bool.{true≢false, cases_Bool}
 use Rattle.std.proofs.lemmas.Slice.Eq.{bytes_eq-Decides}
 use Rattle.config_file.specs.Key.{Key, IsCut}
 use Rattle.config_file.specs.Listing.{IsListed}
 use Rattle.config_file.specs.Reading.Adds.{AddsOnce}
-use Rattle.config_file.specs.Settings.{AreListed, Picks, none, takes, leaves, IsBelow, HasSubsection, LacksSubsection}
+use Rattle.config_file.specs.Settings.{AreListed, Picks, none, takes, leaves, HasSubsection, LacksSubsection}
 use Rattle.config_file.specs.Settings.{AreSubsections, no_settings, lacks, has}
 use Rattle.config_file.specs.Views.{entry_of}
 use Rattle.config_file.specs.declared.settings.Setting.{Setting}
 use Rattle.config_file.proofs.Last.{listed_at}
 use Rattle.config_file.proofs.OneKey.{cut_same}
-use Rattle.config_file.proofs.Picked.{picks_more, picks_same, take_next, In, in_of, contains_of, is_true, is_so}
+use Rattle.config_file.proofs.Picked.{picks_more, picks_same, take_next, In, in_of, contains_of}
 
 same_or_not : (x y : List ℕ) → (x ≡ y) ⊎ (x ≢ y)
 same_or_not x y = elim (cases_Bool (bytes_eq x y)) [
@@ -128,17 +126,3 @@ pub no_subsection : (section items : List ℕ) (setting : Setting) (key : Key) �
 no_subsection section items setting key only cut is sub found =
     let same : None ≡ Some sub =
     sym is ∙ ap (λ k. k.subsection) (sym (same_cut key only cut found)) ∙ found.has_subsection in cc
-
--- whether a setting is below a prefix, by the text that Git lists
-pub below_tests : (prefix items : List ℕ) (setting : Setting) (b : Bool) → b ≡ starts_with eqb items prefix
-    → IsOnlyText items setting → (text : List ℕ)
-    → IsListed (entry_of setting.entry).section (entry_of setting.entry).key text → (IsTrue b ↔ IsBelow prefix setting)
-below_tests prefix items setting b is only text listed =
-    let (begins, begun) = starts_is Decides-eqb items prefix b is in (
-      λ t. (
-        drop (length prefix) items,
-        subst (λ l. IsListed (entry_of setting.entry).section (entry_of setting.entry).key l)
-            (sym (only text listed) ∙ begins (is_so b t)) listed,
-      ),
-      λ below. is_true b (begun below.0 (only (prefix ++ below.0) below.1)),
-    )

@@ -1,5 +1,6 @@
 -- Spellings of headers and keys.
-use Rattle.std.proofs.Common.{◌≡◌, ◌≢◌, ℕ, true, false, not, ◌||◌, List, [], ◌∷◌, ◌++◌, Option, Some, None, length, length-append, ◌+◌, ◌≤◌, refl, sym, ap, ◌∙◌, subst, append_assoc, arith, inl, inr, ◌==◌}
+use Rattle.std.proofs.Common.{◌≡◌, ◌≢◌, ℕ, true, false, not, ◌||◌, List, [], ◌∷◌, ◌++◌, Option, Some, None}
+use Rattle.std.proofs.Common.{length, ◌+◌, refl, sym, ◌∙◌, subst, append_assoc, arith, inl, inr, ◌==◌}
 use Rattle.std.specs.List.{list_all}
 use Rattle.std.specs.Char.{is_ascii_alphabetic}
 use Rattle.std.proofs.lemmas.Bool.{cases_Bool, true≢false}
@@ -9,8 +10,9 @@ use Rattle.config_file.specs.Runs.{StopsRun}
 use Rattle.config_file.specs.Subsection as sub
 use Rattle.config_file.specs.Subsection.{SpellsSubsection}
 use Rattle.config_file.specs.Header.{Section, Header, plain, quoted, closes}
-use Rattle.config_file.specs.Spelling.{SpellsSection, IsHeader, IsShortestHeader, HasNoHeader, IsNoKey}
-use Rattle.config_file.specs.Reading.Spellings.{spelled_in_subsection, spelled_subsection, spelled_section, is_section, is_key}
+use Rattle.config_file.specs.Spelling.{SpellsSection, IsHeader, HasNoHeader, IsNoKey, spelled_subsection}
+use Rattle.config_file.specs.Spelling.{spelled_section}
+use Rattle.config_file.specs.Reading.Spellings.{is_section, is_key}
 
 plain_in_quotes_is_text : (b : ℕ) → is_plain_in_quotes b ≡ true → is_text_byte b ≡ true
 plain_in_quotes_is_text b is = grind (arith, nat_tests)
@@ -107,62 +109,3 @@ no_key (k ∷ key) refused b text rest letter run =
     let pass = run.pass in
     let is : is_key (k ∷ key) ≡ true = rw (first, pass) in
     true≢false (sym is ∙ refused)
-
--- no header with the same name and subsection has fewer bytes
-subsection_byte_fits : (b : ℕ) → length (spelled_in_subsection b) ≤ 2
-subsection_byte_fits b = elim (cases_Bool (b == 34 || b == 92)) [ inl is ↦ rw is (omega arith) | inr other ↦ rw other (omega arith) ]
-
-plain_byte_fits : (b : ℕ) → is_plain_in_quotes b ≡ true → length (spelled_in_subsection b) ≤ 1
-plain_byte_fits b is = let other : (b == 34 || b == 92) ≡ false = grind (arith, nat_tests) in rw other (omega arith)
-
-subsection_fits : {raw text : List ℕ} → SpellsSubsection raw text
-    → length (spelled_subsection text) ≤ length raw
-subsection_fits sub.ends = omega arith
-subsection_fits (sub.escaped {e = e} {raw = raw} {text = text} b t s) =
-    let more = subsection_fits s in
-    let first = subsection_byte_fits e in
-    let both = length-append (spelled_in_subsection e) (spelled_subsection text) in
-    omega arith
-subsection_fits (sub.plain {b = b} {raw = raw} {text = text} p s) =
-    let more = subsection_fits s in
-    let first = plain_byte_fits b p in
-    let both = length-append (spelled_in_subsection b) (spelled_subsection text) in
-    omega arith
-
-some_length : (bytes : List ℕ) → bytes ≢ [] → 1 ≤ length bytes
-some_length [] some = absurd (some refl)
-some_length (b ∷ bytes) some = omega arith
-
-header_fits : {inner rest : List ℕ} {section : Section} (name : List ℕ) (text : Option (List ℕ))
-    → Header inner section rest → SpellsSection section name text
-    → length (spelled_section name text) + length rest ≤ length inner
-header_fits name None (plain {b = b} {name = same_name} {rest = rest} run some e) (same, h) =
-    let joined = ap length run.joined ∙ length-append same_name (b ∷ rest) in
-    let mine = length-append name (93 ∷ []) in
-    let lengths = ap length same in
-    omega arith
-header_fits name (Some t) (plain run some e) (same, h) = absurd h
-header_fits name None (quoted opens c) (same, h) = absurd h
-header_fits name (Some t) (quoted {name = same_name} {inner = inner} opens (closes {b = b} {raw = raw} {rest = rest} takes e)) (same, h) =
-    let first = ap length opens.name_run.joined ∙ length-append same_name opens.blanked in
-    let second = ap length opens.blank_run.joined ∙ length-append opens.blanks (opens.quote ∷ inner) in
-    let third = ap length takes.joined ∙ length-append raw (34 ∷ b ∷ rest) in
-    let blanks = some_length opens.blanks opens.some_blank in
-    let raws = subsection_fits h in
-    let mine = length-append name (32 ∷ 34 ∷ (spelled_subsection t ++ 34 ∷ 93 ∷ [])) in
-    let within = length-append (spelled_subsection t) (34 ∷ 93 ∷ []) in
-    let lengths = ap length same in
-    omega arith
-
-pub shortest_header : (name : List ℕ) (text : Option (List ℕ)) → is_section name text ≡ true
-    → IsShortestHeader (91 ∷ spelled_section name text) name text
-shortest_header name text is =
-    record {
-      is_header = header_spelled name text is;
-      fewest = λ other h.
-          let (inner, section, same, names, header) = h in
-          let fits = header_fits name text (header []) names in
-          let joined = length-append inner [] in
-          let whole = ap length same in
-          omega arith;
-    }

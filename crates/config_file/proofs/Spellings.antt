@@ -1,15 +1,20 @@
 -- Spellings of values.
-use Rattle.std.proofs.Common.{◌≡◌, ◌≢◌, ℕ, suc, ◌-◌, ◌≤◌, Bool, true, false, not, ◌||◌, List, [], ◌∷◌, ◌++◌, Option, Some, None, length, refl, sym, ap, subst, ◌∙◌, append_assoc, append-nil, arith, inl, inr, ◌==◌, slice_index_or}
+use Rattle.std.proofs.Common.{◌≡◌, ◌≢◌, ℕ, suc, ◌-◌, ◌≤◌, Bool, true, false, not, ◌||◌, List, [], ◌∷◌, ◌++◌}
+use Rattle.std.proofs.Common.{Option, Some, None, length, refl, sym, ap, subst, ◌∙◌, append_assoc, append-nil}
+use Rattle.std.proofs.Common.{arith, inl, inr, ◌==◌, slice_index_or}
 use Rattle.std.specs.Prelude.{nat_eq}
 use Rattle.std.specs.List.{flat_map, list_any}
 use Rattle.std.proofs.lemmas.List.Folds.{list_all-append}
 use Rattle.std.proofs.lemmas.Bool.{cases_Bool, true≢false}
 use Rattle.std.proofs.lemmas.Bool.Decides.{nat_tests}
 use Rattle.config_file.specs.Bytes.{is_plain, is_blank}
-use Rattle.config_file.specs.Value.{Ending, outside, Spells, itself, as_space, ends_outside, ends_inside, ends_at_backslash, quote, escaped, continued, continued_after_return, blank, plain, kept, escape}
-use Rattle.config_file.specs.Spelling.{IsSpelling, HasNoSpelling}
+use Rattle.config_file.specs.Value.{Ending, outside, Spells, itself, as_space, ends_outside, ends_inside}
+use Rattle.config_file.specs.Value.{ends_at_backslash, quote, escaped, continued, continued_after_return}
+use Rattle.config_file.specs.Value.{blank, plain, kept, escape}
+use Rattle.config_file.specs.Spelling.{IsSpelling, HasNoSpelling, letter_of, after_backslash, spelled_byte}
+use Rattle.config_file.specs.Spelling.{is_lost, begins_with_space, ends_with_space, needs_quotes, git_spelled}
 use Rattle.config_file.proofs.Spelled.{kept_none}
-use Rattle.config_file.specs.Reading.Spellings.{letter_of, after_backslash, spelled_byte, is_lost, begins_with_space, ends_with_space, needs_quotes, is_quoted, spelled_value, git_spelled, is_spellable}
+use Rattle.config_file.specs.Reading.Spellings.{is_spellable}
 
 pub ends_with_space_at : (value : List ℕ) → 1 ≤ length value
     → nat_eq (slice_index_or value (length value - 1) 0) 32 ≡ ends_with_space value
@@ -19,37 +24,34 @@ ends_with_space_at (b ∷ c ∷ rest) some =
     let next : length (b ∷ c ∷ rest) - 1 ≡ suc (length (c ∷ rest) - 1) = omega arith in
     let more = ends_with_space_at (c ∷ rest) (omega arith) in rw next more
 
-letter_escapes : (q : Bool) (b l : ℕ) → letter_of q b ≡ Some l → escape l ≡ Some b
-letter_escapes true b l e = grind (arith, nat_tests)
-letter_escapes false b l e = grind (arith, nat_tests)
+letter_escapes : (b l : ℕ) → letter_of b ≡ Some l → escape l ≡ Some b
+letter_escapes b l e = grind (arith, nat_tests)
 
-plain_in_quotes : (q : Bool) (b : ℕ) → letter_of q b ≡ None → b ≢ 0 → is_plain true b ≡ true
-plain_in_quotes true b e some = grind (arith, nat_tests)
-plain_in_quotes false b e some = grind (arith, nat_tests)
+plain_in_quotes : (b : ℕ) → letter_of b ≡ None → b ≢ 0 → is_plain true b ≡ true
+plain_in_quotes b e some = grind (arith, nat_tests)
 
-plain_outside : (b : ℕ) → letter_of false b ≡ None → b ≢ 0 → is_lost b ≡ false → b ≢ 32
+plain_outside : (b : ℕ) → letter_of b ≡ None → b ≢ 0 → is_lost b ≡ false → b ≢ 32
     → is_plain false b ≡ true
 plain_outside b e some found other = grind (arith, nat_tests)
 
 -- a spelled byte, before bytes that spell the rest of a value, adds that byte to the value
-spelled_next : {w : ℕ → ℕ} {q : Bool} {value held raw text : List ℕ} {e : Ending} (p : Bool) (b : ℕ) (o : Option ℕ)
-    → letter_of p b ≡ o
-    → (letter_of p b ≡ None → is_plain q b ≡ true)
+spelled_next : {w : ℕ → ℕ} {q : Bool} {value held raw text : List ℕ} {e : Ending} (b : ℕ) (o : Option ℕ)
+    → letter_of b ≡ o
+    → (letter_of b ≡ None → is_plain q b ≡ true)
     → Spells w q (kept value held ++ b ∷ []) [] raw text e → Spells w q value held (after_backslash b o ++ raw) text e
-spelled_next p b (Some l) is no_letter h = escaped refl (letter_escapes p b l is) h
-spelled_next p b None is no_letter h = plain (no_letter is) h
+spelled_next b (Some l) is no_letter h = escaped refl (letter_escapes b l is) h
+spelled_next b None is no_letter h = plain (no_letter is) h
 
--- in quotes a TAB may have a backslash too
-spelled_quoted : (w : ℕ → ℕ) (q : Bool) (value before : List ℕ) → is_spellable value ≡ true
-    → Spells w true before [] (flat_map (spelled_byte q) value ++ 34 ∷ []) (before ++ value) outside
-spelled_quoted w q [] before all = quote refl (rw (kept_none before, append-nil before) ends_outside)
-spelled_quoted w q (b ∷ rest) before all =
+spelled_quoted : (w : ℕ → ℕ) (value before : List ℕ) → is_spellable value ≡ true
+    → Spells w true before [] (flat_map spelled_byte value ++ 34 ∷ []) (before ++ value) outside
+spelled_quoted w [] before all = quote refl (rw (kept_none before, append-nil before) ends_outside)
+spelled_quoted w (b ∷ rest) before all =
     let some : b ≢ 0 = grind (arith, nat_tests) in
     let others : is_spellable rest ≡ true = grind (arith, nat_tests) in
-    let more = spelled_quoted w q rest (before ++ b ∷ []) others in
+    let more = spelled_quoted w rest (before ++ b ∷ []) others in
     let same : (before ++ b ∷ []) ++ rest ≡ before ++ b ∷ rest = append_assoc before (b ∷ []) rest in
-    rw (append_assoc (spelled_byte q b) (flat_map (spelled_byte q) rest) (34 ∷ []))
-    (spelled_next q b (letter_of q b) refl (λ e. plain_in_quotes q b e some) (rw (kept_none before) (rw same at more)))
+    rw (append_assoc (spelled_byte b) (flat_map spelled_byte rest) (34 ∷ []))
+    (spelled_next b (letter_of b) refl (λ e. plain_in_quotes b e some) (rw (kept_none before) (rw same at more)))
 
 last_is_no_space : (b : ℕ) (rest : List ℕ) → ends_with_space (b ∷ rest) ≡ false → ends_with_space rest ≡ false
 last_is_no_space b [] e = refl
@@ -76,7 +78,7 @@ module _ (w : ℕ → ℕ) (reads : w 32 ≡ 32) where
   spelled_after : (value before held : List ℕ) (first : ℕ) → is_spellable value ≡ true
       → list_any is_lost value ≡ false
       → ends_with_space value ≡ false → (value ≡ [] → held ≡ [])
-      → Spells w false (first ∷ before) held (flat_map (spelled_byte false) value) (kept (first ∷ before) held ++ value) outside
+      → Spells w false (first ∷ before) held (flat_map spelled_byte value) (kept (first ∷ before) held ++ value) outside
   spelled_after [] before held first all found last none =
       let e = none refl in rw (e, append-nil before, append-nil (first ∷ before)) ends_outside
   spelled_after (b ∷ rest) before held first all found last none =
@@ -97,12 +99,12 @@ module _ (w : ℕ → ℕ) (reads : w 32 ≡ 32) where
             let more = spelled_after rest now [] first others no_others last_other (λ e. refl) in
             let same : kept (first ∷ now) [] ++ rest ≡ kept (first ∷ before) held ++ b ∷ rest =
             rw (append-nil now) (ap (◌∷◌ first) (append_assoc (before ++ held) (b ∷ []) rest)) in
-            spelled_next false b (letter_of false b) refl (λ e. plain_outside b e some not_lost no_space) (rw same at more)
+            spelled_next b (letter_of b) refl (λ e. plain_outside b e some not_lost no_space) (rw same at more)
       ]
 
   spelled_outside : (value : List ℕ) → is_spellable value ≡ true → list_any is_lost value ≡ false
       → begins_with_space value ≡ false → ends_with_space value ≡ false
-      → Spells w false [] [] (flat_map (spelled_byte false) value) value outside
+      → Spells w false [] [] (flat_map spelled_byte value) value outside
   spelled_outside [] all found first last = ends_outside
   spelled_outside (b ∷ rest) all found first last =
       let some : b ≢ 0 = grind (arith, nat_tests) in
@@ -110,7 +112,7 @@ module _ (w : ℕ → ℕ) (reads : w 32 ≡ 32) where
       let not_lost : is_lost b ≡ false = grind (arith, nat_tests) in
       let no_others : list_any is_lost rest ≡ false = grind (arith, nat_tests) in
       let no_space : b ≢ 32 = grind (arith, nat_tests) in
-      spelled_next false b (letter_of false b) refl (λ e. plain_outside b e some not_lost no_space)
+      spelled_next b (letter_of b) refl (λ e. plain_outside b e some not_lost no_space)
       (spelled_after rest [] [] b others no_others (last_is_no_space b rest last) (λ e. refl))
 
 or_left : (a b : Bool) → (a || b) ≡ false → a ≡ false
@@ -122,7 +124,7 @@ or_right true b e = absurd (true≢false e)
 or_right false b e = e
 
 unquoted : (w : ℕ → ℕ) → w 32 ≡ 32 → (value : List ℕ) → is_spellable value ≡ true → needs_quotes value ≡ false
-    → Spells w false [] [] (flat_map (spelled_byte false) value) value outside
+    → Spells w false [] [] (flat_map spelled_byte value) value outside
 unquoted w reads value all other =
     let spaces = or_left _ _ other in
     let found : list_any is_lost value ≡ false = or_right (begins_with_space value || ends_with_space value) _ other in
@@ -130,27 +132,16 @@ unquoted w reads value all other =
     let last : ends_with_space value ≡ false = or_right (begins_with_space value) _ spaces in
     spelled_outside w reads value all found first last
 
-spelled : (w : ℕ → ℕ) → w 32 ≡ 32 → (value : List ℕ) → is_spellable value ≡ true
-    → Spells w false [] [] (spelled_value value) value outside
-spelled w reads value all =
-    elim (cases_Bool (is_quoted value)) [
-      | inl is ↦ rw is (quote refl (spelled_quoted w true value [] all))
-      | inr other ↦ rw other (unquoted w reads value all (or_left (needs_quotes value) _ other))
-    ]
-
 spelled_by_git : (w : ℕ → ℕ) → w 32 ≡ 32 → (value : List ℕ) → is_spellable value ≡ true
     → Spells w false [] [] (git_spelled value) value outside
 spelled_by_git w reads value all =
     elim (cases_Bool (needs_quotes value)) [
-      | inl is ↦ rw is (quote refl (spelled_quoted w false value [] all))
+      | inl is ↦ rw is (quote refl (spelled_quoted w value [] all))
       | inr other ↦ rw other (unquoted w reads value all other)
     ]
 
 pub git_spelling : (value : List ℕ) → is_spellable value ≡ true → IsSpelling (git_spelled value) value
 git_spelling value all = (spelled_by_git itself refl value all, spelled_by_git as_space refl value all)
-
-pub value_spelled : (value : List ℕ) → is_spellable value ≡ true → IsSpelling (spelled_value value) value
-value_spelled value all = (spelled itself refl value all, spelled as_space refl value all)
 
 -- no bytes spell a value with a NUL
 kept_spellable : (value held : List ℕ) → is_spellable value ≡ true → is_spellable held ≡ true

@@ -1,6 +1,7 @@
 -- Settings: the entries of files in order, each with the text of its value for a reader.
 use denote.Ref.{Bor}
-use Rattle.std.specs.Prelude.{◌≡◌, ◌≢◌, Contains, Bool, true, false, ℕ, List, ◌∷◌, [], ◌++◌, ◌+◌, length, Option, Some, None, map, codes, option_map}
+use Rattle.std.specs.Prelude.{◌≡◌, ◌≢◌, Contains, Bool, true, false, ℕ, List, ◌∷◌, [], ◌++◌, ◌+◌, length}
+use Rattle.std.specs.Prelude.{Option, Some, None, map, codes, option_map}
 use Rattle.std.specs.Prelude.{Result, Ok, Err, ⊤}
 use Rattle.std.specs.Char.{to_ascii_lowercase}
 use Rattle.std.specs.Cow.{cow_slice_items}
@@ -25,7 +26,8 @@ use Rattle.config_file.specs.Listing.{IsListed}
 use Rattle.config_file.specs.Shown.{quoted}
 use Rattle.config_file.specs.Value.{Ending, SpellsValue}
 use Rattle.config_file.specs.Views.{entry_of}
-use Rattle.config_file.specs.Walk.{Content, Text, Missing, Unreadable, Stop, Line, NoValue, Unknown, NotRead, TooDeep}
+use Rattle.config_file.specs.Walk.{Content, Text, Missing, Unreadable, Stop, Line, NoValue, Unknown, NotRead}
+use Rattle.config_file.specs.Walk.{TooDeep}
 use Rattle.config_file.specs.Walk.{Item, Found, Stops, WalksText}
 use Rattle.config_file.specs.declared.errors.FileError.{FileError}
 use Rattle.config_file.specs.declared.files.Content.{Content as Given}
@@ -42,7 +44,8 @@ use Rattle.config_file.specs.declared.settings.GetError.TheVariants as get
 use Rattle.config_file.specs.declared.settings.Next.{Next}
 use Rattle.config_file.specs.declared.settings.Next.TheVariants as next
 use Rattle.config_file.specs.declared.walk.Include.{Include}
-use Rattle.config_file.specs.declared.walk.Include.TheVariants.{NotFollowed, MissingValue, UnknownDirectory, Named}
+use Rattle.config_file.specs.declared.walk.Include.TheVariants.{NotFollowed, MissingValue, UnknownDirectory}
+use Rattle.config_file.specs.declared.walk.Include.TheVariants.{Named}
 use Rattle.config_file.specs.declared.walk.Known.{Known}
 use Rattle.config_file.specs.declared.walk.FilePlace.{FilePlace}
 
@@ -256,11 +259,6 @@ pub data Picks {X : Type 0} (P : X → Type 0) : List X → List X → Type 0 wh
 -- these are all settings that have the key, in order
 abbrev pub AllWithKey : Key → List Setting → List Setting → Type 0
 AllWithKey key = Picks (λ setting. HasKey (entry_of setting.entry) key)
-
--- Git lists the setting under a key that begins with this prefix
-abbrev pub IsBelow : List ℕ → Setting → Type 0
-IsBelow prefix setting =
-    (rest : List ℕ) × IsListed (entry_of setting.entry).section (entry_of setting.entry).key (prefix ++ rest)
 
 -- Git lists the setting under a key with this section, ignoring ASCII case, and with this subsection
 pub record HasSubsection (section : List ℕ) (setting : Setting) (subsection : List ℕ) : Type 0 where

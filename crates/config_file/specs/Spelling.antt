@@ -1,7 +1,11 @@
 -- Spellings: the bytes that read back to a value, a header or an entry.
-use Rattle.std.specs.Prelude.{◌≡◌, ℕ, ◌+◌, ◌≤◌, Bool, true, false, ◌==◌, if◌then◌else◌, length, List, [], ◌∷◌, ◌++◌, Option, Some, None, ⊤, ◌⊎◌}
+use Rattle.std.specs.Prelude.{◌≡◌, ℕ, ◌+◌, Bool, true, false, ◌==◌, ◌||◌, if◌then◌else◌, List, [], ◌∷◌, ◌++◌}
+use Rattle.std.specs.Prelude.{Option, Some, None, ⊤, ◌⊎◌}
 use Rattle.std.specs.Char.{is_ascii_alphabetic}
-use Rattle.config_file.specs.Bytes.{line_feed, carriage_return, backslash, equals_sign, left_bracket, is_key_byte}
+use Rattle.std.specs.List.{list_any, flat_map}
+use Rattle.config_file.specs.Bytes.{tab, line_feed, carriage_return, space, double_quote, backslash}
+use Rattle.config_file.specs.Bytes.{equals_sign}
+use Rattle.config_file.specs.Bytes.{left_bracket, right_bracket, is_comment_sign, is_key_byte}
 use Rattle.config_file.specs.Runs.{Run}
 use Rattle.config_file.specs.Subsection.{SpellsSubsection}
 use Rattle.config_file.specs.Header.{Section, Header}
@@ -25,10 +29,23 @@ IsHeader bytes name subsection =
     (inner : List ℕ) × (section : Section) × (bytes ≡ left_bracket ∷ inner) × SpellsSection section name subsection
     × ((rest : List ℕ) → Header (inner ++ rest) section rest)
 
--- these bytes are the shortest header of this name and this subsection
-pub record IsShortestHeader (bytes name : List ℕ) (subsection : Option (List ℕ)) : Type 0 where
-  pub is_header : IsHeader bytes name subsection
-  pub fewest : (other : List ℕ) → IsHeader other name subsection → length bytes ≤ length other
+-- how a byte of a subsection is spelled
+abbrev pub spelled_in_subsection : ℕ → List ℕ
+spelled_in_subsection b = if b == double_quote || b == backslash then backslash ∷ b ∷ [] else b ∷ []
+
+abbrev pub spelled_subsection : List ℕ → List ℕ
+spelled_subsection text = flat_map spelled_in_subsection text
+
+-- the header of this name and this subsection that Git writes, without its `[`
+abbrev pub spelled_section : List ℕ → Option (List ℕ) → List ℕ
+spelled_section name None = name ++ right_bracket ∷ []
+spelled_section name (Some text) =
+    name ++ (space ∷ double_quote ∷ (spelled_subsection text ++ double_quote ∷ right_bracket ∷ []))
+
+-- these bytes are the header of this name and this subsection that Git writes
+abbrev pub IsGitHeader : List ℕ → List ℕ → Option (List ℕ) → Type 0
+IsGitHeader bytes name subsection =
+    IsHeader bytes name subsection × (bytes ≡ left_bracket ∷ spelled_section name subsection)
 
 -- no header has this name and this subsection
 abbrev pub HasNoHeader : List ℕ → Option (List ℕ) → Type 0
@@ -44,10 +61,48 @@ IsNoKey key =
 abbrev pub IsSpelling : List ℕ → List ℕ → Type 0
 IsSpelling raw value = SpellsValue raw value outside × Spells as_space false [] [] raw value outside
 
--- these bytes are the shortest spelling of this value
-pub record IsShortest (raw value : List ℕ) : Type 0 where
-  pub spells : IsSpelling raw value
-  pub fewest : (other : List ℕ) → IsSpelling other value → length raw ≤ length other
+-- the letter that spells this byte of a value after a backslash, if the byte needs a backslash
+abbrev pub letter_of : ℕ → Option ℕ
+letter_of b =
+    if b == line_feed then Some 110
+    else if b == double_quote || b == backslash then Some b
+    else if b == tab then Some 116
+    else None
+
+abbrev pub after_backslash : ℕ → Option ℕ → List ℕ
+after_backslash b None = b ∷ []
+after_backslash b (Some letter) = backslash ∷ letter ∷ []
+
+-- how a byte of a value is spelled
+abbrev pub spelled_byte : ℕ → List ℕ
+spelled_byte b = after_backslash b (letter_of b)
+
+-- whether this byte of a value needs quotes: a CR or a comment sign
+abbrev pub is_lost : ℕ → Bool
+is_lost b = b == carriage_return || is_comment_sign b
+
+abbrev pub begins_with_space : List ℕ → Bool
+begins_with_space [] = false
+begins_with_space (b ∷ rest) = b == space
+
+abbrev pub ends_with_space : List ℕ → Bool
+ends_with_space [] = false
+ends_with_space (b ∷ []) = b == space
+ends_with_space (b ∷ c ∷ rest) = ends_with_space (c ∷ rest)
+
+-- whether a value needs quotes
+abbrev pub needs_quotes : List ℕ → Bool
+needs_quotes value = begins_with_space value || ends_with_space value || list_any is_lost value
+
+-- the spelling of a value that Git writes
+abbrev pub git_spelled : List ℕ → List ℕ
+git_spelled value =
+    if needs_quotes value then double_quote ∷ (flat_map spelled_byte value ++ double_quote ∷ [])
+    else flat_map spelled_byte value
+
+-- these bytes are the spelling of this value that Git writes
+abbrev pub IsGitSpelling : List ℕ → List ℕ → Type 0
+IsGitSpelling raw value = IsSpelling raw value × (raw ≡ git_spelled value)
 
 -- no bytes spell this value
 abbrev pub HasNoSpelling : List ℕ → Type 0
@@ -93,10 +148,10 @@ AddsEntry bytes name subsection key value =
     → (entry : Entry) × IsEntry name subsection key value (1 + line_feeds text) entry
     × IsFile (text ++ bytes) (entries ++ entry ∷ []) None × EndsLine (text ++ bytes)
 
--- these bytes are the shortest header, the key, `=` and the shortest spelling of the value if any, and LF
+-- these bytes are the header, the key, `=` and the spelling of the value if any, as Git writes them, and LF
 abbrev pub IsLine : List ℕ → List ℕ → Option (List ℕ) → List ℕ → Option (List ℕ) → Type 0
 IsLine bytes name subsection key None =
-    (header : List ℕ) × IsShortestHeader header name subsection × (bytes ≡ header ++ (key ++ line_feed ∷ []))
+    (header : List ℕ) × IsGitHeader header name subsection × (bytes ≡ header ++ (key ++ line_feed ∷ []))
 IsLine bytes name subsection key (Some value) =
-    (header raw : List ℕ) × IsShortestHeader header name subsection × IsShortest raw value
+    (header raw : List ℕ) × IsGitHeader header name subsection × IsGitSpelling raw value
     × (bytes ≡ header ++ (key ++ equals_sign ∷ (raw ++ line_feed ∷ [])))

@@ -1,15 +1,16 @@
 //! The settings of several files, in order. The last entry of a key decides its value.
-ghost use Rattle.std.specs.Prelude.{◌≡◌, ◌++◌, ◌∷◌, ◌↔◌, List, ℕ, [], Some, MatchOption, IfOk, OnOk, IsTrue, IsUtf8};
+ghost use Rattle.std.specs.Prelude.{◌≡◌, List, ℕ, [], Some, MatchOption, IfOk, OnOk, IsUtf8};
 ghost use Rattle.std.specs.Prelude.{◌≢◌, Contains, MatchBool, map, option_map};
 ghost use Rattle.std.specs.Option.{ForSome};
 ghost use Rattle.config_path.specs.Interpolation.{known_in};
 ghost use Rattle.config_file.specs.Settings.{place_shown, text_shown, refused_shown, get_error_shown};
-ghost use Rattle.config_file.specs.Settings.{add_error_shown, include_fault_text, value_text, text_of, path_bytes};
+ghost use Rattle.config_file.specs.Settings.{add_error_shown, include_fault_text, value_text, text_of};
+ghost use Rattle.config_file.specs.Settings.{path_bytes};
 ghost use Rattle.config_file.specs.Settings.{IsSettingOf, IsRefusalOf, ReadsSetting, IsPathOfSetting};
 ghost use Rattle.config_file.specs.Settings.{AddsFile, AddsWalk, AddsInScope, IsNext};
 ghost use Rattle.config_file.specs.Reading.Adds.{AddsEntry, AddsNext, AddsOnce, Decides};
 ghost use Rattle.config_file.specs.Settings.{AreListed, LacksKey, IsLast, AllWithKey, Gets, GetsWord};
-ghost use Rattle.config_file.specs.Settings.{Picks, IsBelow, HasSubsection, LacksSubsection, AreSubsections};
+ghost use Rattle.config_file.specs.Settings.{HasSubsection, LacksSubsection, AreSubsections};
 ghost use Rattle.config_file.specs.declared.scope.Scope.TheVariants.{Command};
 ghost use Rattle.config_file.specs.KeyView.{key_of};
 ghost use Rattle.config_file.specs.Listing.{IsListed};
@@ -334,16 +335,6 @@ impl<'t> Setting<'t> {
         }
     }
 
-    /// Whether Git lists the setting under a key that begins with this.
-    fn is_below(&self, alloc: Global, prefix: &[u8]) -> Result<bool, AllocError>
-        ensures { (text : List ℕ)
-            → IsListed (entry_of self.now.entry).section (entry_of self.now.entry).key text
-            → IfOk result (λ is_below. IsTrue is_below ↔ IsBelow prefix.now self.now) }
-    {
-        let key = self.entry.key_text(alloc)?;
-        Ok(key.starts_with(prefix))
-    }
-
     /// The subsection of the key under which Git lists the setting, if the key has this section and a
     /// subsection.
     fn subsection_in(&self, alloc: Global, section: &[u8]) -> Result<Option<Vec<u8>>, AllocError>
@@ -625,62 +616,6 @@ impl<'t> Settings<'t> {
         let mut all = Vec::new(alloc);
         for setting in &self.entries {
             if key.is_of(&setting.entry) {
-                all.push(setting)?;
-            }
-        }
-        Ok(all)
-    }
-
-    /// The settings of a scope, in order. It fails only if memory is refused.
-    ///
-    /// ```rust
-    /// use config_file::{Scope, Settings};
-    ///
-    /// let mut settings = Settings::new(alloc);
-    /// settings.scope = Scope::Global;
-    /// assert!(rt; settings.add_file(alloc, b"/home/ann/.gitconfig", b"[core]\n\tbare").is_ok());
-    /// settings.scope = Scope::Local;
-    /// assert!(rt; settings.add_file(alloc, b".git/config", b"[core]\n\tbare = no").is_ok());
-    /// let local = settings.in_scope(alloc, Scope::Local)?;
-    /// assert_eq!(rt; local.len(), 1);
-    /// assert_eq!(rt; local[0].text(), b"no".as_slice());
-    /// ```
-    pub fn in_scope(&self, alloc: Global, scope: Scope) -> Result<Vec<&Setting<'t>>, AllocError>
-        ensures { IfOk result (λ all. Picks (λ setting. setting.scope ≡ scope) self.now.entries.items
-            (map (λ setting. setting.now) all.items)) }
-    {
-        let mut all = Vec::new(alloc);
-        for setting in &self.entries {
-            if setting.scope == scope {
-                all.push(setting)?;
-            }
-        }
-        Ok(all)
-    }
-
-    /// The settings that Git lists under a key that begins with this prefix, in order: all of the branch
-    /// `main` for `branch.main.`, and all of `remote` for `remote.`. The prefix is compared byte by byte, so
-    /// its section and its name have to be in lower case, as `git config --list` shows them. It fails only if
-    /// memory is refused.
-    ///
-    /// ```rust
-    /// use config_file::Settings;
-    ///
-    /// let mut settings = Settings::new(alloc);
-    /// let text = b"[branch \"main\"]\n\trebase\n\tremote = o\n[branch \"mainline\"]\n\tremote = p";
-    /// assert!(rt; settings.add_file(alloc, b".git/config", text).is_ok());
-    /// let of_main = settings.below(alloc, b"branch.main.")?;
-    /// assert_eq!(rt; of_main.len(), 2);
-    /// assert_eq!(rt; of_main[1].text(), b"o".as_slice());
-    /// ```
-    pub fn below(&self, alloc: Global, prefix: &[u8]) -> Result<Vec<&Setting<'t>>, AllocError>
-        ensures { AreListed self.now.entries.items → IfOk result
-            (λ all. Picks (IsBelow prefix.now) self.now.entries.items (map (λ setting. setting.now) all.items)) }
-    {
-        let mut all = Vec::new(alloc);
-        for setting in &self.entries {
-            let is_below = setting.is_below(alloc, prefix)?;
-            if is_below {
                 all.push(setting)?;
             }
         }

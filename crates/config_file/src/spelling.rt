@@ -1,18 +1,18 @@
-//! Spellings: the fewest bytes that read back to a value, a section header or an entry.
+//! Spellings: the bytes that Git writes for a value, a section header or an entry. They read back to it.
 ghost use Rattle.std.specs.Prelude.{◌≡◌, ◌++◌, ◌∷◌, [], ◌⊎◌, IfOk, IfSome, OnOk, MatchOption, option_copied};
-ghost use Rattle.std.specs.Prelude.{count_by, ◌==◌};
 ghost use Rattle.std.specs.List.{flat_map, list_all, list_any};
 ghost use Rattle.config_file.specs.Bytes.{is_name_byte, is_text_byte, is_key_byte};
-ghost use Rattle.config_file.specs.Spelling.{IsShortest, HasNoSpelling, LacksSpelling, IsShortestHeader};
+ghost use Rattle.config_file.specs.Spelling as spell;
+ghost use Rattle.config_file.specs.Spelling.{IsGitSpelling, HasNoSpelling, LacksSpelling, IsGitHeader};
 ghost use Rattle.config_file.specs.Spelling.{HasNoHeader, IsNoKey, AddsEntry, IsLine};
 ghost use Rattle.config_file.specs.Reading.Spellings as spec;
-ghost use Rattle.config_file.specs.Reading.Spellings.{spelled_byte, spelled_value, git_spelled, spelled_in_subsection};
-ghost use Rattle.config_file.specs.Reading.Spellings.{spelled_subsection, spelled_section, spelled_line};
+ghost use Rattle.config_file.specs.Spelling.{spelled_byte, git_spelled, spelled_subsection, spelled_section};
+ghost use Rattle.config_file.specs.Reading.Spellings.{spelled_line};
 
 use crate::bytes;
 use std::alloc::{AllocError, Global};
 
-/// The fewest bytes that spell this value between an `=` and the end of its line, or `None` if it has a NUL.
+/// The bytes that Git writes for this value between an `=` and the end of its line, or `None` if it has a NUL.
 ///
 /// ```rust
 /// use config_file::spelling::spell_value;
@@ -22,17 +22,17 @@ use std::alloc::{AllocError, Global};
 /// ```
 pub fn spell_value(alloc: Global, value: &[u8]) -> Result<Option<Vec<u8>>, AllocError>
     ensures { IfOk result (λ spelling. MatchOption spelling (HasNoSpelling value.now)
-        (λ raw. IsShortest raw.items value.now)) }
+        (λ raw. IsGitSpelling raw.items value.now)) }
 {
     if !is_spellable(value) {
         return Ok(None);
     }
     let mut spelling = Vec::new(alloc);
-    push_value(&mut spelling, value)?;
+    push_as_git(&mut spelling, value)?;
     Ok(Some(spelling))
 }
 
-/// The fewest bytes that are the header of a section and a subsection. Returns `None` if the name has a byte
+/// The header of a section and a subsection that Git writes. Returns `None` if the name has a byte
 /// that is no letter, digit, `-` or `.`, if it is empty without a subsection, or if the subsection has an LF
 /// or a NUL.
 ///
@@ -49,7 +49,7 @@ pub fn spell_header(
 ) -> Result<Option<Vec<u8>>, AllocError>
     ensures { let text = option_copied subsection.entry in
         IfOk result (λ spelling. MatchOption spelling (HasNoHeader name.now text)
-        (λ bytes. IsShortestHeader bytes.items name.now text)) }
+        (λ bytes. IsGitHeader bytes.items name.now text)) }
 {
     if !is_section(name, subsection) {
         return Ok(None);
@@ -59,7 +59,7 @@ pub fn spell_header(
     Ok(Some(spelling))
 }
 
-/// A line that adds an entry to a file: the shortest header, the key, `=` and the shortest spelling of the
+/// A line that adds an entry to a file: the header, the key, `=` and the spelling of the
 /// value if there is one, and an LF. It can be appended to any file that is empty or ends in an LF, unless a
 /// backslash before that LF continues the line. Returns `None` if the section has no header, if the key is
 /// not a letter and then letters, digits and `-`, or if the value has a NUL.
@@ -82,7 +82,7 @@ pub fn spell_entry(
         IfOk result (λ spelling. MatchOption spelling
         (HasNoHeader name.now text ⊎ IsNoKey key.now ⊎ LacksSpelling spelled)
         (λ bytes. AddsEntry bytes.items name.now text key.now spelled)) }
-    ensures shortest { let text = option_copied subsection.entry in
+    ensures line { let text = option_copied subsection.entry in
         IfOk result (λ spelling. IfSome spelling
         (λ bytes. IsLine bytes.items name.now text key.now (option_copied value.entry))) }
 {
@@ -157,21 +157,21 @@ fn is_writable(name: &[u8], subsection: Option<&[u8]>, key: &[u8], value: Option
 }
 
 /// The letter that spells this byte of a value after a backslash, or `None` if it needs no backslash.
-fn letter_of(quoted: bool, byte: u8) -> Option<u8>
-    ensures { result ≡ spec.letter_of quoted byte }
+fn letter_of(byte: u8) -> Option<u8>
+    ensures { result ≡ spell.letter_of byte }
 {
     match byte {
         b'\n' => Some(b'n'),
         b'"' | b'\\' => Some(byte),
-        b'\t' if !quoted => Some(b't'),
+        b'\t' => Some(b't'),
         _ => None,
     }
 }
 
-fn push_byte(spelling: &mut Vec<u8>, quoted: bool, byte: u8) -> Result<(), AllocError>
-    ensures { OnOk result (spelling.new.items ≡ spelling.old.items ++ spelled_byte quoted byte) }
+fn push_byte(spelling: &mut Vec<u8>, byte: u8) -> Result<(), AllocError>
+    ensures { OnOk result (spelling.new.items ≡ spelling.old.items ++ spelled_byte byte) }
 {
-    match letter_of(quoted, byte) {
+    match letter_of(byte) {
         Some(letter) => {
             spelling.push(b'\\')?;
             spelling.push(letter)?;
@@ -181,25 +181,24 @@ fn push_byte(spelling: &mut Vec<u8>, quoted: bool, byte: u8) -> Result<(), Alloc
     Ok(())
 }
 
-fn push_bytes(spelling: &mut Vec<u8>, quoted: bool, value: &[u8]) -> Result<(), AllocError>
-    ensures { OnOk result
-        (spelling.new.items ≡ spelling.old.items ++ flat_map (spelled_byte quoted) value.now) }
+fn push_bytes(spelling: &mut Vec<u8>, value: &[u8]) -> Result<(), AllocError>
+    ensures { OnOk result (spelling.new.items ≡ spelling.old.items ++ flat_map spelled_byte value.now) }
 {
     'bytes: for byte in value {
-        push_byte(spelling, quoted, *byte)?;
+        push_byte(spelling, *byte)?;
     }
     Ok(())
 }
 
 /// Whether this byte of a value needs quotes.
 fn is_lost(byte: u8) -> bool
-    ensures { result ≡ spec.is_lost byte }
+    ensures { result ≡ spell.is_lost byte }
 {
     byte == b'\r' || bytes::is_comment_sign(byte)
 }
 
 fn ends_with_space(value: &[u8]) -> bool
-    ensures { result ≡ spec.ends_with_space value.now }
+    ensures { result ≡ spell.ends_with_space value.now }
 {
     match value {
         [.., last] => *last == b' ',
@@ -208,7 +207,7 @@ fn ends_with_space(value: &[u8]) -> bool
 }
 
 fn begins_with_space(value: &[u8]) -> bool
-    ensures { result ≡ spec.begins_with_space value.now }
+    ensures { result ≡ spell.begins_with_space value.now }
 {
     match value {
         [first, ..] => *first == b' ',
@@ -217,55 +216,28 @@ fn begins_with_space(value: &[u8]) -> bool
 }
 
 fn has_lost(value: &[u8]) -> bool
-    ensures { result ≡ list_any spec.is_lost value.now }
+    ensures { result ≡ list_any spell.is_lost value.now }
 {
     value.iter().any(|byte| is_lost(*byte))
 }
 
-fn tabs(value: &[u8]) -> usize
-    ensures { result ≡ count_by (λ b. b == 9) value.now }
-{
-    value.iter().filter(|byte| **byte == b'\t').count()
-}
-
 fn needs_quotes(value: &[u8]) -> bool
-    ensures { result ≡ spec.needs_quotes value.now }
+    ensures { result ≡ spell.needs_quotes value.now }
 {
     begins_with_space(value) || ends_with_space(value) || has_lost(value)
 }
 
-/// Whether a value needs quotes, or they are shorter than the backslashes before its TABs.
-fn is_quoted(value: &[u8]) -> bool
-    ensures { result ≡ spec.is_quoted value.now }
-{
-    needs_quotes(value) || 2 < tabs(value)
-}
-
-fn push_value(spelling: &mut Vec<u8>, value: &[u8]) -> Result<(), AllocError>
-    ensures { OnOk result (spelling.new.items ≡ spelling.old.items ++ spelled_value value.now) }
-{
-    let quoted = is_quoted(value);
-    if quoted {
-        spelling.push(b'"')?;
-        push_bytes(spelling, true, value)?;
-        spelling.push(b'"')?;
-        return Ok(());
-    }
-    push_bytes(spelling, false, value)
-}
-
-/// Appends the spelling that Git writes, in which a TAB has its backslash in quotes too. It fails if memory is
-/// refused.
+/// Appends the spelling of a value. It fails if memory is refused.
 pub fn push_as_git(spelling: &mut Vec<u8>, value: &[u8]) -> Result<(), AllocError>
     ensures { OnOk result (spelling.new.items ≡ spelling.old.items ++ git_spelled value.now) }
 {
     if needs_quotes(value) {
         spelling.push(b'"')?;
-        push_bytes(spelling, false, value)?;
+        push_bytes(spelling, value)?;
         spelling.push(b'"')?;
         return Ok(());
     }
-    push_bytes(spelling, false, value)
+    push_bytes(spelling, value)
 }
 
 fn push_subsection(spelling: &mut Vec<u8>, subsection: &[u8]) -> Result<(), AllocError>
@@ -307,7 +279,7 @@ fn push_line(spelling: &mut Vec<u8>, key: &[u8], value: Option<&[u8]>) -> Result
     spelling.extend_from_slice(key)?;
     if let Some(value) = value {
         spelling.push(b'=')?;
-        push_value(spelling, value)?;
+        push_as_git(spelling, value)?;
     }
     spelling.push(b'\n')?;
     Ok(())

@@ -1,5 +1,6 @@
 -- Labels of hosts, and numbers of ports.
-use Rattle.std.proofs.Common.{◌≡◌, ◌≤◌, ◌+◌, ◌-◌, ◌*◌, ◌∙◌, ◌↔◌, inl, inr, ℕ, Bool, true, false, List, [], ◌∷◌, ◌==◌, length}
+use Rattle.std.proofs.Common.{◌≡◌, ◌≤◌, ◌+◌, ◌-◌, ◌*◌, ◌∙◌, ◌↔◌, inl, inr, ℕ, Bool, true, false, List, []}
+use Rattle.std.proofs.Common.{◌∷◌, ◌==◌, length}
 use Rattle.std.proofs.Common.{refl, sym, subst, arith, IsTrue, suc}
 use Rattle.std.specs.Char.{is_ascii_digit}
 use Rattle.std.specs.List.{list_all, AllZip}
@@ -9,19 +10,6 @@ use Rattle.config_url.specs.Url.{StandsFor, pieces, onto, number_after}
 
 abbrev pub Stands : List ℕ → List ℕ → Type 0
 Stands pattern host = AllZip StandsFor (pieces 46 pattern) (pieces 46 host)
-
-pub stands_more : (p h w x q k : List ℕ) → pieces 46 p ≡ w ∷ pieces 46 q → pieces 46 h ≡ x ∷ pieces 46 k
-    → StandsFor w x → (Stands q k ↔ Stands p h)
-stands_more p h w x q k e f is = (
-  λ rest. subst (λ a. AllZip StandsFor a (pieces 46 h)) (sym e)
-      (subst (λ b. AllZip StandsFor (w ∷ pieces 46 q) b) (sym f) (is, rest)),
-  λ all. (subst (λ b. AllZip StandsFor (w ∷ pieces 46 q) b) f (subst (λ a. AllZip StandsFor a (pieces 46 h)) e all)).1,
-)
-
-pub stands_not : (p h w x q k : List ℕ) → pieces 46 p ≡ w ∷ pieces 46 q → pieces 46 h ≡ x ∷ pieces 46 k
-    → ¬ (StandsFor w x) → ¬ (Stands p h)
-stands_not p h w x q k e f other all =
-    other (subst (λ b. AllZip StandsFor (w ∷ pieces 46 q) b) f (subst (λ a. AllZip StandsFor a (pieces 46 h)) e all)).0
 
 abbrev Some_pieces : List (List ℕ) → Type 0
 Some_pieces ps = (p : List ℕ) × (rest : List (List ℕ)) × (ps ≡ p ∷ rest)
@@ -66,9 +54,6 @@ pub stands_half : (wanted left pattern host : List ℕ) → (Stands wanted left 
 stands_half [] left pattern host same e f = absurd (false≢true (sym e))
 stands_half (b ∷ p) [] pattern host same e f = (λ t. absurd (false≢true t), λ s. absurd (stand_none b p (same.1 s)))
 stands_half (b ∷ p) (c ∷ h) pattern host same e f = absurd (false≢true (sym (not_zero (length h)) ∙ f))
-
-pub digit_above : (d : ℕ) → is_ascii_digit d ≡ true → 48 ≤ d
-digit_above d is = grind (arith, nat_tests)
 
 pub number_grows : (n : ℕ) (digits : List ℕ) → n ≤ number_after n digits
 unfolding number_after

@@ -1,14 +1,14 @@
 -- Patterns of URLs: paths, and what fits.
-use Rattle.std.proofs.Common.{◌≡◌, ◌≢◌, ◌+◌, ◌++◌, ◌∙◌, ◌↔◌, inl, inr, ◌==◌, not, ℕ, Bool, true, false, List, [], ◌∷◌, Some, None, Option, length, IsTrue}
+use Rattle.std.proofs.Common.{◌≡◌, ◌≢◌, ◌+◌, ◌++◌, ◌∙◌, ◌↔◌, inl, inr, ◌==◌, not, ℕ, Bool, true, false, List}
+use Rattle.std.proofs.Common.{[], ◌∷◌, Some, None, Option, length, IsTrue}
 use Rattle.std.proofs.Common.{refl, sym, subst, ap, arith, Result, Ok, Err, IfOk, MatchOption}
 use Rattle.std.specs.Prelude.{unwrap_or, is_some}
 use Rattle.std.specs.List.{AllZip}
-use Rattle.std.proofs.lemmas.Bool.{false≢true}
 use Rattle.std.proofs.lemmas.Bool.Decides.{nat_tests}
 use Rattle.std.proofs.lemmas.List.{length-append}
-use Rattle.config_file.specs.Header.{BeginsWithout}
 use Rattle.config_file.specs.Runs.{Run}
-use Rattle.config_url.specs.Url.{closed, SplitUrl, Url, url, IsPort, IsDefault, IsUser, IsForm, IsUrl, IsWritten}
+use Rattle.config_url.specs.Url.{closed, SplitUrl, Url, url, IsPort, IsDefault, IsUser, IsForm, IsUrl}
+use Rattle.config_url.specs.Url.{IsWritten}
 use Rattle.config_url.specs.Url.{Matches, AllowsUser, StandsFor, pieces, fit, fit_of}
 use Rattle.config_file.proofs.OneRun.{run_only}
 use Rattle.config_url.proofs.UrlNormal.{normal_only}
@@ -66,31 +66,11 @@ below_next b wanted left more after front path e f same =
       λ p. step.1 (subst (λ l. Below (b ∷ more) l) f (subst (λ w. Below w left) e (same.1 p))),
     )
 
-some_slash : (more rest : List ℕ) → [] ≡ (more ++ 47 ∷ []) ++ rest → ⊥
-some_slash [] rest e = cc
-some_slash (x ∷ more) rest e = cc
-
 slash_test : (b : ℕ) → b ≡ 47 → (b == 47) ≡ true
 slash_test b e = rw e refl
 
 slash_is : (b : ℕ) → IsTrue (b == 47) → b ≡ 47
 slash_is b t = grind (arith, nat_tests)
-
-not_below : (b : ℕ) (more left : List ℕ) → BeginsWithout b left → ¬ (Below (b ∷ more) left)
-not_below b more [] other (rest, e) =
-    let tails : [] ≡ (more ++ 47 ∷ []) ++ rest = cc in
-    absurd (some_slash more rest tails)
-not_below b more (x ∷ left) other (rest, e) = let heads : x ≡ b = cc in other heads
-
-pub below_not : (b : ℕ) (wanted left more front path : List ℕ) → wanted ≡ b ∷ more → BeginsWithout b left
-    → (Below wanted left ↔ Below front path) → (IsTrue false ↔ Below front path)
-below_not b wanted left more front path e other same =
-    (λ t. absurd (false≢true t), λ p. absurd (not_below b more left other (subst (λ w. Below w left) e (same.1 p))))
-
-pub below_here : (wanted left front path : List ℕ) → wanted ≡ [] → left ≡ [] → (Below wanted left ↔ Below front path)
-    → (IsTrue true ↔ Below front path)
-below_here wanted left front path e f same =
-    (λ t. same.0 ([], rw (e, f) refl), λ p. refl)
 
 pub below_slash : (b : ℕ) (wanted left after front path : List ℕ) (r : Bool) → wanted ≡ [] → left ≡ b ∷ after
     → r ≡ (b == 47) → (Below wanted left ↔ Below front path) → (IsTrue r ↔ Below front path)

@@ -1,7 +1,7 @@
 -- Normal forms of texts of URLs.
 use Rattle.std.proofs.Common.{◌≡◌, ◌≢◌, ◌+◌, ◌*◌, ◌++◌, ◌∙◌, ℕ, Bool, true, false, List, [], ◌∷◌, Some, ◌||◌}
 use Rattle.std.proofs.Common.{refl, sym, subst, ap}
-use Rattle.std.proofs.lemmas.List.{append-nil, append_assoc}
+use Rattle.std.proofs.lemmas.List.{append-nil}
 use Rattle.config_url.specs.Url.{IsNormal, done, plain, escape, escaped, is_unsafe, is_reserved, hex_value}
 use Rattle.config_url.specs.Reading.Urls.{GoesOn, written_as}
 
@@ -41,16 +41,6 @@ pub escaped_goes : (b high low h l : ℕ) (text more rest : List ℕ) → b ≡ 
 escaped_goes b high low h l text more rest e first second f g =
     subst (λ t. GoesOn (b ∷ t) (written_as true (h * 16 + l)) rest) (sym (first ∙ ap (λ t. high ∷ t) second))
     (escape_goes b high low h l rest e f g)
-
-pub goes_first : (text : List ℕ) → GoesOn text [] text
-goes_first text = record { more = λ normal is. is; none = λ never. never }
-
-pub goes_more : {text a rest b left : List ℕ} → GoesOn text a rest → GoesOn rest b left → GoesOn text (a ++ b) left
-goes_more {text = text} {a = a} {b = b} first second = record {
-  more = λ normal is. subst (λ t. IsNormal text t) (sym (append_assoc a b normal))
-      (first.more (b ++ normal) (second.more normal is));
-  none = λ never. first.none (second.none never);
-}
 
 pub goes_end : {text a rest : List ℕ} → GoesOn text a rest → rest ≡ [] → IsNormal text a
 goes_end {text = text} {a = a} on e =

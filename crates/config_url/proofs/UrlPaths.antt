@@ -1,16 +1,15 @@
 -- Paths of URLs, name by name.
-use Rattle.std.proofs.Common.{◌≡◌, ◌≢◌, ◌≤◌, ◌<◌, ◌+◌, ◌++◌, ◌∙◌, ◌↔◌, ◌==◌, ℕ, true, false, List, [], ◌∷◌, Some, None, Option, length, take, map}
+use Rattle.std.proofs.Common.{◌≡◌, ◌≢◌, ◌≤◌, ◌+◌, ◌++◌, ◌∙◌, ◌↔◌, ◌==◌, ℕ, true, false, List, [], ◌∷◌, Some}
+use Rattle.std.proofs.Common.{None, Option, length, take, map}
 use Rattle.std.proofs.Common.{refl, sym, subst, ap}
 use Rattle.std.specs.Prelude.{codes, flat_map}
 use Rattle.std.specs.Borrow.{Bor}
-use Rattle.std.specs.List.{slice_get}
 use Rattle.std.proofs.lemmas.Bool.{true≢false}
-use Rattle.std.proofs.lemmas.List.{append-nil, append_assoc, map-append, take_all}
+use Rattle.std.proofs.lemmas.List.{take_all}
 use Rattle.config_file.specs.Runs.{Run}
 use Rattle.config_url.specs.Url.{IsNormal, IsPath, is_path_byte, without_root}
 use Rattle.config_url.specs.Url.{Leads, ends, stays, drops, keeps, pieces, joined_names}
 use Rattle.config_url.specs.Reading.Urls.{CutsPiece, Steps}
-use Rattle.config_file.proofs.Picked.{take_next}
 use Rattle.config_file.proofs.OneRun.{run_only}
 use Rattle.config_url.proofs.UrlNormal.{normal_only}
 use Rattle.config_url.proofs.UrlPieces.{closed_next, closed_last}
@@ -51,12 +50,6 @@ up_back last e f (keeps n m l) = absurd (m e)
 pub up_steps : (kept front : List (List ℕ)) (name last : List ℕ) → name ≡ codes ".." → kept ≡ front ++ last ∷ []
     → (rest all : List (List ℕ)) → (Leads front rest all ↔ Leads kept (name ∷ rest) all)
 up_steps kept front name last e f rest all = (λ l. drops last e f l, λ l. up_back last e f l)
-
-pub root_steps : (kept : List (List ℕ)) (name : List ℕ) → name ≡ codes ".." → kept ≡ [] → (rest all : List (List ℕ))
-    → ¬ (Leads kept (name ∷ rest) all)
-root_steps kept name e f rest all (stays g l) = dots (sym g ∙ e)
-root_steps kept name e f rest all (drops {front = front} one g h l) = nil_snoc front one (sym f ∙ h)
-root_steps kept name e f rest all (keeps n m l) = m e
 
 name_back : {kept rest all : List (List ℕ)} {name : List ℕ} → name ≢ codes "." → name ≢ codes ".."
     → Leads kept (name ∷ rest) all → Leads (kept ++ name ∷ []) rest all
@@ -101,25 +94,8 @@ names_more kept next name left after path cut steps same all = (
 
 -- ---- joined names
 
-flat_snoc : (xs : List (List ℕ)) (x : List ℕ)
-    → flat_map (λ n. 47 ∷ n) (xs ++ x ∷ []) ≡ flat_map (λ n. 47 ∷ n) xs ++ 47 ∷ x
-flat_snoc [] x = append-nil (47 ∷ x)
-flat_snoc (y ∷ xs) x =
-    ap (λ t. (47 ∷ y) ++ t) (flat_snoc xs x) ∙ sym (append_assoc (47 ∷ y) (flat_map (λ n. 47 ∷ n) xs) (47 ∷ x))
-
 abbrev pub Joined : List (Bor (List ℕ)) → List ℕ
 Joined names = flat_map (λ n. 47 ∷ n) (map (λ n. n.now) names)
-
-pub joined_next : (names : List (Bor (List ℕ))) (i : ℕ) (name : Bor (List ℕ)) (start old new : List ℕ)
-    → slice_get names i ≡ Some name → i < length names → old ≡ start ++ Joined (take i names)
-    → new ≡ old ++ 47 ∷ name.now → new ≡ start ++ Joined (take (i + 1) names)
-joined_next names i name start old new at within before e =
-    let split : Joined (take (i + 1) names) ≡ Joined (take i names) ++ 47 ∷ name.now =
-    ap Joined (take_next names i name at within)
-    ∙ ap (flat_map (λ n. 47 ∷ n)) (map-append (λ n. n.now) (take i names) (name ∷ []))
-    ∙ flat_snoc (map (λ n. n.now) (take i names)) name.now in
-    e ∙ ap (λ t. t ++ 47 ∷ name.now) before ∙ append_assoc start (Joined (take i names)) (47 ∷ name.now)
-    ∙ ap (λ t. start ++ t) (sym split)
 
 joined_some : (names : List (Bor (List ℕ))) → (length names == 0) ≡ false
     → joined_names (map (λ n. n.now) names) ≡ Joined names

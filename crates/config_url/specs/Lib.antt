@@ -1,3 +1,11 @@
+pub use Rattle.config_file.specs.Bytes
+pub use Rattle.config_file.specs.Runs
+pub use Rattle.config_file.specs.File
+pub use Rattle.config_file.specs.Listing
+pub use Rattle.config_file.specs.Key
+pub use Rattle.config_file.specs.KeyView
+pub use Rattle.config_file.specs.Views
+pub use Rattle.config_file.specs.Settings
 pub mod Url
 pub mod UrlView
 pub mod Deciding

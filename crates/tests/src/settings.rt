@@ -39,42 +39,6 @@ fn a_file_is_that_of_a_command_at_first(rt: HostRuntime) {
     assert!(rt; Settings::new(rt.alloc()).scope == Scope::Command);
 }
 
-/// Prefixes, and the keys that begin with them. Case counts in a subsection.
-static BELOW: [(&str, &str); 5] = [
-    (
-        "branch.main.",
-        "branch.main.rebase\nbranch.main.remote\nbranch.main.merge\n",
-    ),
-    ("branch.Main.", "branch.Main.remote\n"),
-    ("branch.mainl", "branch.mainline.remote\n"),
-    ("Branch.", ""),
-    ("branch.s", "branch.sort\n"),
-];
-
-/// The keys that begin with a prefix.
-fn below(alloc: Global, settings: &Settings<'_>, prefix: &str) -> Result<Vec<u8>, AllocError> {
-    let mut keys = Vec::new(alloc);
-    for setting in settings.below(alloc, prefix.as_bytes())? {
-        push_key(alloc, &mut keys, setting)?;
-    }
-    Ok(keys)
-}
-
-#[test]
-fn lists_what_is_below_a_prefix(rt: HostRuntime) -> Result<(), Fail> {
-    let settings = both(rt.alloc())?;
-    for (prefix, wanted) in &BELOW {
-        let given = below(rt.alloc(), &settings, prefix)?;
-        equal(
-            &rt,
-            BStr::new(&given),
-            BStr::new(wanted.as_bytes()),
-            *prefix,
-        );
-    }
-    Ok(())
-}
-
 /// Scopes, and the keys of their settings.
 static SCOPES: [(Scope, &str); 3] = [
     (
@@ -91,8 +55,10 @@ static SCOPES: [(Scope, &str); 3] = [
 /// The keys of the settings of a scope.
 fn in_scope(alloc: Global, settings: &Settings<'_>, scope: Scope) -> Result<Vec<u8>, AllocError> {
     let mut keys = Vec::new(alloc);
-    for setting in settings.in_scope(alloc, scope)? {
-        push_key(alloc, &mut keys, setting)?;
+    for setting in &settings.entries {
+        if setting.scope == scope {
+            push_key(alloc, &mut keys, setting)?;
+        }
     }
     Ok(keys)
 }

@@ -10,14 +10,14 @@ loop-setting-init c = λ listed. best_first fit_in (key_of c.args.key.now) (url_
 
 pub loop-setting-preserved : goal.loop-setting-preserved
 loop-setting-preserved c =
-    best_next fit_in (key_of c.args.key.now) (url_of c.args.url.now) c.args.self.now.entries.items
+    best_next fit_in (key_of c.args.key.now) (url_of c.args.url.now) c.args.settings.now.entries.items
     c.loop-setting.setting-index c.setting-item.result c.loop-setting.best c.in_ok-best.best
-    (at_index c.args.self.now.entries.items c.loop-setting.setting-index c.setting-item.result (search rules)
+    (at_index c.args.settings.now.entries.items c.loop-setting.setting-index c.setting-item.result (search rules)
     (c.setting-item.is
     ∙ ap (λ s. get_or s c.loop-setting.setting-index c.setting-item.result) c.deref-setting-items.ensures.value))
     (search rules) c.in_ok-best.ensures c.loop-setting.invariant
 
 pub returns-in-None : goal.returns-in-None
 returns-in-None c listed =
-    rw c.in-None.is at (best_done fit_in (key_of c.args.key.now) (url_of c.args.url.now) c.args.self.now.entries.items
+    rw c.in-None.is at (best_done fit_in (key_of c.args.key.now) (url_of c.args.url.now) c.args.settings.now.entries.items
     c.loop-setting.setting-index c.loop-setting.best (search rules) c.loop-setting.invariant listed)

@@ -1,7 +1,7 @@
 use Rattle.std.proofs.Common.{◌≡◌, ◌∷◌, length}
 use Rattle.config_file.specs.KeyView.{key_of}
 use Rattle.config_edit.specs.Reading.{Renaming}
-use Rattle.config_file.specs.Reading.Spellings.{spelled_section}
+use Rattle.config_file.specs.Spelling.{spelled_section}
 use Rattle.config_edit.proofs.sections.renamed.Given as goal
 
 abbrev pub invariant-pieces : goal.invariant-pieces

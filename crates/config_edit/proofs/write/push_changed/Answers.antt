@@ -1,7 +1,7 @@
 use Rattle.std.proofs.Common.{◌≡◌, ◌++◌, ◌∷◌, ◌∙◌, refl, ap, sym, subst, List, ℕ, Some, None}
 use Rattle.std.proofs.Common.{append_assoc, inl, inr, true≢false}
 use Rattle.config_edit.specs.Edit.{HasValue}
-use Rattle.config_file.specs.Reading.Spellings.{git_spelled}
+use Rattle.config_file.specs.Spelling.{git_spelled}
 use Rattle.config_file.specs.Views.{value_of}
 use Rattle.config_edit.proofs.Changed.{can_hold, tail_cut, front_cut, value_changed, value_given, value_kept}
 use Rattle.config_edit.proofs.Changed.{spelled_of}

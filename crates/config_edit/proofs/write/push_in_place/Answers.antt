@@ -1,6 +1,6 @@
 use Rattle.std.proofs.Common.{◌≡◌, ◌≢◌, ◌++◌, ◌∙◌, ap, [], length, append_assoc, arith}
 use Rattle.std.proofs.lemmas.Bool.Decides.{nat_tests}
-use Rattle.config_file.specs.Reading.Spellings.{git_spelled}
+use Rattle.config_file.specs.Spelling.{git_spelled}
 use Rattle.config_edit.proofs.Changed.{put_between}
 use Rattle.config_edit.proofs.write.push_in_place.Goals as goal
 

@@ -1,6 +1,6 @@
 use Rattle.std.proofs.Common.{◌≡◌, ◌++◌, take}
 use Rattle.std.specs.List.{flat_map}
-use Rattle.config_file.specs.Reading.Spellings.{spelled_in_subsection}
+use Rattle.config_file.specs.Spelling.{spelled_in_subsection}
 use Rattle.config_file.proofs.spelling.push_subsection.Given as goal
 
 abbrev pub invariant-bytes : goal.invariant-bytes

@@ -1,6 +1,6 @@
 use Rattle.std.proofs.Common.{◌≡◌, ◌∷◌, ◌++◌, ◌∙◌, ap, rules, option_copied}
-use Rattle.config_file.specs.Spelling.{AddsEntry, IsLine}
-use Rattle.config_file.specs.Reading.Spellings.{spelled_section, spelled_line}
+use Rattle.config_file.specs.Spelling.{AddsEntry, IsLine, spelled_section}
+use Rattle.config_file.specs.Reading.Spellings.{spelled_line}
 use Rattle.config_file.proofs.AddedEntries.{writable_added, writable_line, not_writable}
 use Rattle.config_file.proofs.spelling.spell_entry.Goals as goal
 
@@ -25,8 +25,8 @@ returns-clause-adds c =
     rw e (writable_added c.args.name.now text c.args.key.now value (search rules)) in
     adds
 
-pub returns-clause-shortest : goal.returns-clause-shortest
-returns-clause-shortest c =
+pub returns-clause-line : goal.returns-clause-line
+returns-clause-line c =
     let text = option_copied c.args.subsection in
     let value = option_copied c.args.value in
     let e = written c in
