@@ -2,8 +2,8 @@
 # Installs the programs, their man pages and completions, the C library and the Python package: sh install.sh PREFIX
 # Removes what it has installed, and nothing else:                    sh install.sh --uninstall PREFIX
 #
-# The programs are config_value, git-settings, which `git settings` runs, and config_check, which is also git-config-check,
-# so that `git config-check` runs it. They are taken from `out/` of their crates, where `rt run` and `rt ci` put what is
+# The programs are config_value, git-settings, which `git settings` runs, and config_check, which is git-config-check
+# too, for `git config-check`. They are taken from `out/` of their crates, where `rt run` and `rt ci` put what is
 # proved, or from the folder PROGRAMS. The library is made of what `rt lib` has proved, or of the archive GCV_ARCHIVE:
 # crates/gix_config_value_c/build.sh says what it needs. Man pages need help2man, and Python its headers.
 # A part that lacks something is left out, and the last lines say so.

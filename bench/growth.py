@@ -1,5 +1,6 @@
-"""Measures how the time of programs grows with their input: python3 growth.py CONFIG_VALUE GIT_SETTINGS CONFIG_CHECK
-[--runs N].
+"""Measures how the time of the programs grows with their input.
+
+python3 growth.py CONFIG_VALUE GIT_SETTINGS CONFIG_CHECK [--runs N]
 
 Each input is measured in turn at its size and at twice that size. The result is the least processor time of all runs,
 minus that of an empty input. A ratio near 2 says that the time grows as the input does. A long line takes less time

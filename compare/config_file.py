@@ -69,7 +69,7 @@ LONG = rb'''# one of each
 BATCH = 500
 SHOWN = 20
 REFUSED = 128
-# how Git tells a line at which it stops, how the program tells that of an include, and how both tell that it is too deep
+# how Git tells a line at which it stops, how the program tells that of an include, and how both tell a chain too long
 REFUSAL = re.compile(rb"^fatal: (?:bad config line (\d+) in file (.+?)|(.+?):(\d+))(?:: .*)?$", re.MULTILINE)
 DEEP = re.compile(rb"exceeded maximum include depth|too deep")
 TOO_DEEP = "too deep"

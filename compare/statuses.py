@@ -1,6 +1,6 @@
 #!/usr/bin/env python3
 """The exit status of the built program: python3 statuses.py PROGRAM. It is 0 if each line has a value, 1 if some
-line has no value, and 2 if the input cannot be read, the output cannot be written or there is an argument but --help and
+line has no value, and 2 if the input cannot be read, the output cannot be written, or an argument is neither --help nor
 --version. The last line is 'N passed, M failed'."""
 import os
 import pathlib

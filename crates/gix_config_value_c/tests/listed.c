@@ -1,5 +1,5 @@
-/* Lists a file and what it includes as Git does, for compare/config_file.py: listed FILE. Conditions are about the
- * repository here. */
+/* Lists a file and what it includes as Git does, for compare/config_file.py: listed FILE. Conditions are about this
+ * repository. */
 #define _DEFAULT_SOURCE
 #include <gix_config_value.h>
 #include <stdio.h>

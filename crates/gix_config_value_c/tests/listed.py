@@ -1,6 +1,6 @@
-"""Lists a file and what it includes as Git does, by the Python package, for compare/config_file.py: listed.py FOLDER FILE
+"""Lists a file and what it includes as Git does, by the Python package: listed.py FOLDER FILE
 
-FOLDER has the package. Conditions are about the repository here.
+compare/config_file.py calls it. FOLDER has the package. Conditions are about the repository here.
 """
 import os
 import sys
