@@ -2,9 +2,9 @@
 # Installs the programs, their man pages and completions, the C library and the Python package: sh install.sh PREFIX
 # Removes what it has installed, and nothing else:                    sh install.sh --uninstall PREFIX
 #
-# The programs are config_value and config_check, which is also git-config-check, so that `git config-check` runs it.
-# They are taken from `out/` of their crates, where `rt run` and `rt ci` put what is proved, or from the folder
-# PROGRAMS. The library is made of what `rt lib` has proved, or of the archive GCV_ARCHIVE:
+# The programs are config_value, git-settings, which `git settings` runs, and config_check, which is git-config-check
+# too, for `git config-check`. They are taken from `out/` of their crates, where `rt run` and `rt ci` put what is
+# proved, or from the folder PROGRAMS. The library is made of what `rt lib` has proved, or of the archive GCV_ARCHIVE:
 # crates/gix_config_value_c/build.sh says what it needs. Man pages need help2man, and Python its headers.
 # A part that lacks something is left out, and the last lines say so.
 #
@@ -57,39 +57,45 @@ has() {
         command -v "$command" > /dev/null || return 1
     done
 }
-# a man page of what a program says of itself: page PROGRAM WORD SUMMARY
-page() {
-    page=$1${2:+-$2}
-    # help2man splits the command at spaces, and names the page after the program alone
-    (cd "$stage$prefix/bin" && LC_ALL=C help2man --no-info --name="$3" "./$1${2:+ $2}") > "$work/page"
-    sed "/^\\.SH NAME/{n;s/^$1 /$page /}" "$work/page" > "$share/man/man1/$page.1"
+# man pages of what a program says of itself, and of what its words say: pages PROGRAM [WORD..]
+pages() {
+    program=$1
+    shift
+    for word in "" "$@"; do
+        page=$program${word:+-$word}
+        # help2man splits the command at spaces, and names the page after the program alone
+        command="./$program${word:+ $word}"
+        (cd "$stage$prefix/bin" && LC_ALL=C help2man --no-info --name="$($command --help | head -n 1)" "$command") \
+            > "$work/page"
+        sed "/^\\.SH NAME/{n;s/^$program /$page /}" "$work/page" > "$share/man/man1/$page.1"
+    done
 }
-# a program with its completions and its man pages
+# a program with its man pages and completions: program CRATE NAME [WORD..]
 program() {
-    built=${PROGRAMS:-$root/crates/$1/out}/$1
+    crate=$1
+    shift
+    built=${PROGRAMS:-$root/crates/$crate/out}/$crate
     if [ ! -x "$built" ]; then
-        skipped "$1, since there is no $built: \`(cd crates/$1 && rt run < /dev/null)\` proves and builds it"
+        skipped "$1, since there is no $built: \`(cd crates/$crate && rt run < /dev/null)\` proves and builds it"
         return
     fi
     mkdir -p -- "$stage$prefix/bin" "$share/man/man1" "$share/bash-completion/completions" "$share/zsh/site-functions"
     install -m 755 "$built" "$stage$prefix/bin/$1"
-    install -m 644 "$root/packaging/completions/bash" "$share/bash-completion/completions/$1"
-    install -m 644 "$root/packaging/completions/zsh" "$share/zsh/site-functions/_$1"
+    # config_value has no options to complete
+    if [ "$1" != config_value ]; then
+        install -m 644 "$root/packaging/completions/bash" "$share/bash-completion/completions/$1"
+        install -m 644 "$root/packaging/completions/zsh" "$share/zsh/site-functions/_$1"
+    fi
+    if has help2man; then
+        pages "$@"
+    else
+        skipped "the man pages of $1, without help2man"
+    fi
     if [ "$1" = config_check ]; then
         ln -s config_check "$stage$prefix/bin/git-config-check"
         ln -s config_check "$share/bash-completion/completions/git-config-check"
         ln -s _config_check "$share/zsh/site-functions/_git-config-check"
-    fi
-    if ! has help2man; then
-        skipped "the man pages of $1, without help2man"
-    elif [ "$1" = config_check ]; then
-        page config_check "" "find what is wrong in configuration files of Git"
-        ln -s config_check.1 "$share/man/man1/git-config-check.1"
-    else
-        page config_value "" "read configuration files of Git"
-        page config_value get "print the values of a key in configuration files of Git"
-        page config_value list "list the entries of configuration files of Git"
-        page config_value set "change configuration files of Git"
+        ! has help2man || ln -s config_check.1 "$share/man/man1/git-config-check.1"
     fi
 }
 # the C library, and the Python package over it
@@ -124,8 +130,9 @@ print(next((it for it in site.getsitepackages() if it.startswith(sys.argv[1] + "
     mkdir -p -- "$stage$site"
     python3 -m zipfile -e "$work"/wheel/*.whl "$stage$site"
 }
-program config_value
-program config_check
+program config_value config_value
+program git_settings git-settings get list set unset rename-section remove-section
+program config_check config_check
 libraries
 
 mkdir -p -- "$stage"

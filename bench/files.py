@@ -1,10 +1,10 @@
-"""Measures reading and checking files: python3 files.py CONFIG_VALUE CONFIG_CHECK [--prefix PREFIX] [--runs N].
+"""Measures reading and checking files: python3 files.py GIT_SETTINGS CONFIG_CHECK [--prefix PREFIX] [--runs N].
 
 The programs are compared with `git config --list -z`, of the file alone and as the user's file, plain C that makes no
 entries (entries.c), libgit2 if it is installed, and for the small file dulwich, if Python has it. PREFIX has the
 library for C, which is measured too (walk.c), and a lookup in it. The processor time is the least of the runs, made in
 turn; it includes a program's start and its output. The last column has it as a part of that of Git with the file
-alone. If a list of config_value is not Git's, the status is 1.
+alone. If a list of git_settings is not Git's, the status is 1.
 """
 import argparse
 import importlib.util
@@ -54,9 +54,9 @@ def walks(folder, prefix):
 
 def commands(arguments, folder, file):
     yield "`git config --list -z`", (shutil.which("git"), "config", "--file", file, "--list", "-z")
-    yield "`config_value list -z`", (arguments.config_value, "list", "--file", file, "-z")
-    yield "`config_value --null`, with lines", (arguments.config_value, "--null", "--file", file)
-    yield "the same as the user's file", ("/usr/bin/env", f"GIT_CONFIG_GLOBAL={file}", "git", "config", "--list", "-z")
+    yield "`git_settings list -z`", (arguments.git_settings, "list", "--file", file, "-z")
+    yield "the same with `--show-origin`", (arguments.git_settings, "list", "--file", file, "-z", "--show-origin")
+    yield "Git, as the user's file", ("/usr/bin/env", f"GIT_CONFIG_GLOBAL={file}", "git", "config", "--list", "-z")
     yield "`config_check`", (arguments.config_check, file)
     yield "plain C", (f"{folder}/entries", file)
     for name, program in walks(folder, arguments.prefix):
@@ -70,9 +70,9 @@ def rows(measuring, asked, file, arguments):
     for size, asked in zip(SIZES, (asked, [it for it in asked if it[0] != "dulwich"])):
         text = "".join(SECTION % number for number in range(size // ENTRIES))
         pathlib.Path(file).write_text(text, encoding="utf-8")
-        git, same, with_lines = (listed(*command) for _, command in asked[:3])
-        if same != git or with_lines[1::2] != git[:-1]:
-            sys.exit("a list of config_value is not Git's")
+        git, same, with_origins = (listed(*command) for _, command in asked[:3])
+        if same != git or with_origins[1::2] != git[:-1]:
+            sys.exit("a list of git_settings is not Git's")
         times = [[usage(measuring, *command)[0] for _, command in asked] for _ in range(arguments.runs)]
         least = [min(seconds) for seconds in zip(*times)]
         for (name, _), seconds in zip(asked, least):
@@ -91,7 +91,7 @@ def lookups(folder, prefix, file, runs):
 
 def main():
     arguments = argparse.ArgumentParser()
-    arguments.add_argument("config_value", type=os.path.abspath)
+    arguments.add_argument("git_settings", type=os.path.abspath)
     arguments.add_argument("config_check", type=os.path.abspath)
     arguments.add_argument("--prefix", type=os.path.abspath)
     arguments.add_argument("--runs", type=int, default=5)

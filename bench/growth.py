@@ -1,4 +1,6 @@
-"""Measures how the program's time grows with its input: python3 growth.py PROGRAM [--check CHECK] [--runs N].
+"""Measures how the time of the programs grows with their input.
+
+python3 growth.py CONFIG_VALUE GIT_SETTINGS CONFIG_CHECK [--runs N]
 
 Each input is measured in turn at its size and at twice that size. The result is the least processor time of all runs,
 minus that of an empty input. A ratio near 2 says that the time grows as the input does. A long line takes less time
@@ -50,7 +52,7 @@ class Condition(Given):
 
     def __init__(self, pattern, branch):
         self.made, self.file = tempfile.TemporaryDirectory(), tempfile.TemporaryFile()
-        self.words, self.folder = ["--file", "config", "--includes"], self.made.name
+        self.words, self.folder = ["list", "--file", "config", "--includes"], self.made.name
         for name in ("objects", "refs"):
             pathlib.Path(self.folder, ".git", name).mkdir(parents=True)
         pathlib.Path(self.folder, ".git/HEAD").write_text(f"ref: refs/heads/{branch}\n", "ascii")
@@ -76,7 +78,7 @@ class Includes(Given):
 
     def __init__(self, count, entries):
         self.made, self.file = tempfile.TemporaryDirectory(), tempfile.TemporaryFile()
-        self.words, self.folder = ["--file", "config", "--includes"], self.made.name
+        self.words, self.folder = ["list", "--file", "config", "--includes"], self.made.name
         text = "".join(f"\tpath = {number}\n" for number in range(count))
         pathlib.Path(self.folder, "config").write_text("[include]\n" + text, "ascii")
         for number in range(count):
@@ -88,7 +90,7 @@ class Section(Given):
 
     def __init__(self, size):
         self.made, self.file = tempfile.TemporaryDirectory(), tempfile.TemporaryFile()
-        self.words, self.folder = ["--file", "config", "s" * size + ".k"], self.made.name
+        self.words, self.folder = ["get", "--file", "config", "s" * size + ".k"], self.made.name
         pathlib.Path(self.folder, "config").write_text(f"[{'s' * size}]\n" + "k\n" * size, "ascii")
 
 
@@ -109,7 +111,7 @@ class Parameters(Given):
 
     def __init__(self, count):
         self.made, self.file = tempfile.TemporaryDirectory(), tempfile.TemporaryFile()
-        self.words, self.folder = ["--list"], self.made.name
+        self.words, self.folder = ["list"], self.made.name
         self.known = {"HOME": self.folder, "GIT_CONFIG_NOSYSTEM": "1",
                       "GIT_CONFIG_PARAMETERS": " ".join(["'a.b=1'"] * count)}
 
@@ -124,8 +126,8 @@ def lines(*texts):
     return lambda size: Lines(b"".join(text + b"\n" for text in texts) * (size // len(texts)))
 
 
-# the name of an input, its size, and what makes the input of a size
-INPUTS = [
+# for each program the name of an input, its size, and what makes the input of a size
+LINES = [
     ("digits `9`, refused (100 lines)", 100_000, often(100, b"integer ", b"9")),
     ("zeros, then `7` (100 lines)", 100_000, often(100, b"integer -0", b"0", b"7")),
     ("zeros of a boolean (100 lines)", 100_000, often(100, b"boolean 0b", b"0")),
@@ -140,6 +142,8 @@ INPUTS = [
     ("one line of 25 and 50 MB, digits", 25_000_000, lambda size: Lines(b"integer " + b"9" * size + b"\n")),
     ("one line of 25 and 50 MB, zeros", 25_000_000, lambda size: Lines(b"integer 0x" + b"0" * size + b"7\n")),
     ("one line of 25 and 50 MB, `ul `", 25_000_000, lambda size: Lines(b"color " + b"ul " * (size // 3) + b"\n")),
+]
+SETTINGS = [
     ("settings of `git -c`", 8_000, Parameters),
     ("tables of references", 10_000, Tables),
     ("included files of 100 entries", 400, lambda size: Includes(size, 100)),
@@ -159,8 +163,6 @@ INPUTS = [
     ("`**/a/` for each name, then `b`", 5_000, lambda size: Condition("**/a/" * size + "b", "a/" * size + "a")),
     ("`*` and a set of `[:` that is not closed", 2_000, lambda size: Condition("*[" + "[:" * size, "a" * size)),
 ]
-
-# the same for `config_check`
 CHECKED = [
     ("unknown keys of a section near one of Git", 500_000, functools.partial(Unknown, b"[coer]\n")),
     ("unknown keys of `core`", 100_000, functools.partial(Unknown, b"[core]\n")),
@@ -195,15 +197,15 @@ def measure(program, empty, inputs, runs):
 
 def main():
     arguments = argparse.ArgumentParser()
-    arguments.add_argument("program", type=os.path.abspath)
-    arguments.add_argument("--check", type=os.path.abspath)
+    for name in ("config_value", "git_settings", "config_check"):
+        arguments.add_argument(name, type=os.path.abspath)
     arguments.add_argument("--runs", type=int, default=15)
     arguments = arguments.parse_args()
     print("| Input | Size | ms | Twice | ms | Ratio |")
     print("|---|---|---|---|---|---|")
-    measure(arguments.program, Lines(b""), INPUTS, arguments.runs)
-    if arguments.check:
-        measure(arguments.check, Unknown(b"", 0), CHECKED, arguments.runs)
+    measure(arguments.config_value, Lines(b""), LINES, arguments.runs)
+    measure(arguments.git_settings, Includes(0, 0), SETTINGS, arguments.runs)
+    measure(arguments.config_check, Unknown(b"", 0), CHECKED, arguments.runs)
 
 
 if __name__ == "__main__":

@@ -4,9 +4,8 @@ python3 config_file.py PROGRAM [--seed N] [--files N] [--short] [--trees N] [--p
                        [--git COMMAND]
 python3 config_file.py --reader WORDS [--seed N] [--trees N] [--git COMMAND]
 
-PROGRAM is config_value, which lists many files in one call; Git lists one in a call. Both have to give the same
-entries in the same order, and to refuse a file at the same line after the same entries. Git tells the line of an entry
-whose value is not a color; the program has to give this line to an entry.
+PROGRAM is git_settings. It and Git have to give the same entries in the same order, to refuse a file at the same line
+after the same entries, and to tell the same line of the first entry whose value is not a color.
 
 The files are those of config_files.txt, as many random changes of them as --files says, as many files of values with
 TABs and CRs, and as many of the short texts, which are all texts of up to 4 bytes of LETTERS; with --short all of these
@@ -17,8 +16,9 @@ other, in the repositories of STARS, and in as many folders as --patterns says, 
 conditions on a git directory and a branch with a random name. In a repository of STARS the program may take --seconds
 of a processor.
 
-WORDS call a reader that lists a file as config_value --file FILE --includes --null does, and only follows includes in
-the folders of includes.txt and in random ones. It lists nothing of what it refuses.
+WORDS call a reader that lists a file as `git config -l --includes --null --show-origin --file` does, with Git's
+words where it stops, and only follows includes in the folders of includes.txt and in random ones. It lists nothing of
+what it refuses.
 
 A difference has to belong to a class of classes.OF_FILES that is expected in the version of this Git, and each class
 that is expected has to be seen. The run is the same for the same seed and numbers. The last line is 'N passed, M
@@ -69,7 +69,9 @@ LONG = rb'''# one of each
 BATCH = 500
 SHOWN = 20
 REFUSED = 128
-REFUSAL = re.compile(rb"fatal: bad config line (\d+) in file ")
+# how Git tells a line at which it stops, how the program tells that of an include, and how both tell a chain too long
+REFUSAL = re.compile(rb"^fatal: (?:bad config line (\d+) in file (.+?)|(.+?):(\d+))(?:: .*)?$", re.MULTILINE)
+DEEP = re.compile(rb"exceeded maximum include depth|too deep")
 TOO_DEEP = "too deep"
 PATTERNS = 150
 NAMES = [*"aabAB1-[]!^*?:,_~", " ", "\\", "/", "/", "\u00e9"]
@@ -101,10 +103,10 @@ STARS = [Star(*row) for row in [
     ("R", "a" * 60_000, "onbranch:" + "*a" * 60_000, True, None),
 ]]
 
+# the words by which a file is listed with what it includes
+LIST = ["-l", "--includes", "--null", "--show-origin", "--file"]
 # what a reader gives: keys and values (None for a key alone), and the line of the refusal, or None
 Answer = collections.namedtuple("Answer", "entries refused")
-# what the program gives: that answer, the lines of the entries, and the reason of the refusal
-Listed = collections.namedtuple("Listed", "answer lines reason")
 
 
 def entry(data):
@@ -112,66 +114,40 @@ def entry(data):
     return key, value if found else None
 
 
-class Program:
-    """The program, asked for a batch of files in one call."""
-
-    def __init__(self, path, folder):
-        self.path, self.folder = os.path.abspath(path), folder
-
-    def listed(self, names):
-        """What the program gives for each of these files, by its name."""
-        words = [word for name in names for word in ("--file", name)]
-        run = subprocess.run([self.path, "--null", *words], cwd=self.folder, capture_output=True, check=False)
-        *parts, rest = run.stdout.split(b"\0")
-        refusals = dict(map(refusal, run.stderr.splitlines()))
-        if rest or len(parts) % 2 or run.returncode != (REFUSED if refusals else 0):
-            raise Wrong(f"{self.path} ended with status {run.returncode} and {run.stderr[:300]!r}")
-        entries = {name: [] for name in names}
-        for place, data in zip(parts[::2], parts[1::2]):
-            name, line = place.decode().rsplit(":", 1)
-            entries[name].append((entry(data), int(line)))
-        for name, found in entries.items():
-            line, reason = refusals.pop(name, (None, None))
-            yield Listed(Answer([one for one, _ in found], line), [line for _, line in found], reason)
-        if refusals:
-            raise Wrong(f"{self.path} refuses {refusals}")
+def refusal(told):
+    """The file and the line at which a reader stops, or None."""
+    match = REFUSAL.search(told)
+    return match and (match[2] or match[3], int(match[1] or match[4]))
 
 
-def refusal(line):
-    match = re.fullmatch(r"(.+?):(\d+): (.*)", line.decode())
-    if match is None:
-        raise Wrong(f"no refusal: {line!r}")
-    return match[1], (int(match[2]), match[3])
+class Reader:
+    """A program with the words of `git config`, asked for one file in a call."""
 
-
-class Git(readers.Command):
-    """A Git, asked for one file in a call."""
+    def __init__(self, words, folder):
+        self.words, self.folder = words, folder
 
     def run(self, name, *words):
         known = {"PATH": os.environ["PATH"], "LC_ALL": "C", "GIT_CONFIG_NOSYSTEM": "1"}
-        command = [self.command, "config", "--file", name, *words]
+        command = [*self.words, "--file", name, *words]
         return subprocess.run(command, env=known, cwd=self.folder, capture_output=True, check=False)
 
     def answer(self, name):
-        run = self.run(name, "--list", "--null")
+        run = self.run(name, "-l", "--null")
         *parts, rest = run.stdout.split(b"\0")
-        match = REFUSAL.match(run.stderr)
-        if rest or run.returncode != (REFUSED if match else 0):
-            raise Wrong(f"git ended with status {run.returncode}: {run.stderr!r}")
-        return Answer(list(map(entry, parts)), int(match[1]) if match else None)
-
-    def answers(self, names):
-        with concurrent.futures.ThreadPoolExecutor() as pool:
-            return list(pool.map(self.answer, names))
+        stopped = refusal(run.stderr)
+        if rest or run.returncode != (REFUSED if stopped else 0):
+            raise Wrong(f"{self.words[0]} ended with status {run.returncode}: {run.stderr!r}")
+        return Answer(list(map(entry, parts)), stopped and stopped[1])
 
     def line(self, name):
         """The line of the first entry whose value is not a color, if there is one."""
-        match = re.search(rb"fatal: bad config line (\d+)", self.run(name, "--type=color", "--get-regexp", ".").stderr)
-        return int(match[1]) if match else None
+        stopped = refusal(self.run(name, "--type=color", "--get-regexp", ".").stderr)
+        return stopped and stopped[1]
 
-    def lines(self, names):
+    def all(self, asked, names):
+        """What is asked, for each of these files."""
         with concurrent.futures.ThreadPoolExecutor() as pool:
-            return list(pool.map(self.line, names))
+            return list(pool.map(asked, names))
 
 
 def processor_seconds():
@@ -252,7 +228,7 @@ class Folder:
 
     def __init__(self, path, line, git):
         self.path, self.main, self.known, self.line = path, "p", {"PATH": os.environ["PATH"], "LC_ALL": "C"}, line
-        self.git = git.command
+        self.git = git
         path.mkdir(parents=True)
         asked, names = "", []
         for field in line.encode().decode("unicode_escape").split(" | "):
@@ -314,32 +290,23 @@ class Folder:
         except subprocess.TimeoutExpired:
             raise Wrong(f"{self.line[:80]}: {words[0]} does not end") from None
 
-    def by_reader(self, words):
-        """The entries with their files, and where the reader stops: a file and a line, or None."""
+    def listed(self, words):
+        """The entries with their files, and where a reader stops: a file and a line, or None."""
         run = self.run(*words, self.main)
         parts = run.stdout.split(b"\0")
-        stopped = re.fullmatch(rb"(.+):(\d+): (.*)\n", run.stderr, re.DOTALL)
-        if run.returncode != (REFUSED if stopped else 0) or bool(run.stderr) != bool(stopped):
+        place = TOO_DEEP if DEEP.search(run.stderr) else refusal(run.stderr)
+        if run.returncode != (REFUSED if place else 0):
             raise Wrong(f"{self.line[:80]}: {words[0]} ended with status {run.returncode} and {run.stderr!r}")
-        place = stopped and (TOO_DEEP if b"too deep" in stopped[3] else (stopped[1], int(stopped[2])))
-        return [(name.rsplit(b":", 1)[0], entry(data)) for name, data in zip(parts[::2], parts[1::2])], place
+        return [(name.removeprefix(b"file:"), entry(data)) for name, data in zip(parts[::2], parts[1::2])], place
 
     def by_git(self):
-        """The same for Git."""
-        run = self.run(self.git, "config", "--file", self.main, "--includes", "--list", "--null", "--show-origin")
-        parts = run.stdout.split(b"\0")
-        stopped = re.search(rb"fatal: bad config line (\d+) in file (.+)\n", run.stderr)
-        deep = b"fatal: exceeded maximum include depth" in run.stderr
-        if run.returncode != (REFUSED if stopped or deep else 0):
-            raise Wrong(f"{self.line[:80]}: git ended with status {run.returncode}: {run.stderr!r}")
-        place = TOO_DEEP if deep else stopped and (stopped[2], int(stopped[1]))
-        return [(name.removeprefix(b"file:"), entry(data)) for name, data in zip(parts[::2], parts[1::2])], place
+        return self.listed([self.git, "config", *LIST])
 
     def values(self, program):
         """The value of the last entry that has a value, asked by its key: as the program and as Git give it."""
         keys = [key for _, (key, value) in self.by_git()[0] if value is not None and key.count(b".") == 1]
-        ours = [self.run(program, "--file", self.main, key, "--includes").stdout for key in keys[-1:]]
-        return ours, [self.run(self.git, "config", "--file", self.main, "--includes", key).stdout for key in keys[-1:]]
+        return [[self.run(*words, "--file", self.main, "--includes", "--get", key).stdout for key in keys[-1:]]
+                for words in ([program], [self.git, "config"])]
 
 
 def lines_of_trees():
@@ -391,27 +358,26 @@ class Comparison:
 
     def __init__(self, program, reader, git, folder):
         self.program, self.git, self.folder = program, git, folder
-        self.words = [program.path, "--includes", "--null", "--file"] if program else reader
+        self.words = [program, *LIST] if program else reader
         of_reader = OF_FILES if program else {NUL: OF_FILES[NUL]}
         self.expected = [name for name, when in of_reader.items() if is_expected(when, git.running)]
         self.counts = collections.Counter()
         self.faults = []
 
-    def class_of(self, listed, git):
+    def class_of(self, text, ours, git):
         """The class of a difference between what the program and what Git gives for a file, or None."""
-        ours = with_spaces(listed.answer, git) if BLANK in self.expected else listed.answer
-        if ours == git:
+        if (with_spaces(ours, git) if BLANK in self.expected else ours) == git:
             return BLANK
-        is_cut = git.entries[:len(ours.entries)] == ours.entries
-        return NUL if is_cut and listed.reason == "a NUL byte outside a comment" else None
+        is_cut = ours.refused is not None and git.entries[:len(ours.entries)] == ours.entries
+        return NUL if is_cut and b"\0" in text.split(b"\n")[ours.refused - 1] else None
 
-    def judge(self, text, listed, git):
-        if listed.answer == git:
+    def judge(self, text, ours, git):
+        if ours == git:
             name = "accepted" if git.refused is None else "refused"
         else:
-            name = self.class_of(listed, git)
+            name = self.class_of(text, ours, git)
         if name is None:
-            self.faults.append((text, listed, git))
+            self.faults.append((text, ours, git))
         else:
             self.counts[name] += 1
 
@@ -420,19 +386,19 @@ class Comparison:
         names = [str(number) for number in range(len(texts))]
         for name, text in zip(names, texts):
             (self.folder / name).write_bytes(text)
-        given = list(self.program.listed(names))
-        for text, listed, git in zip(texts, given, self.git.answers(names)):
-            self.judge(text, listed, git)
-        told = [(name, text, one) for name, text, one in zip(names, texts, given)
-                if one.answer.entries and one.answer.refused is None]
-        for (_, text, listed), line in zip(told, self.git.lines([name for name, _, _ in told])):
-            self.counts["lines of entries"] += line is not None
-            if line is not None and line not in listed.lines:
-                self.faults.append((text, listed, line))
+        ours, git = Reader([self.program], self.folder), Reader([self.git.command, "config"], self.folder)
+        given = ours.all(ours.answer, names)
+        for text, answer, other in zip(texts, given, git.all(git.answer, names)):
+            self.judge(text, answer, other)
+        told = [name for name, one in zip(names, given) if one.entries and one.refused is None]
+        for name, line, other in zip(told, ours.all(ours.line, told), git.all(git.line, told)):
+            self.counts["lines of entries"] += other is not None
+            if line != other:
+                self.faults.append((texts[int(name)], line, other))
 
     def follow(self, name, tree, difference=None):
         """Compares the entries of a folder with includes. In a class of differences Git may have more entries."""
-        ours, other = tree.by_reader(self.words), tree.by_git()
+        ours, other = tree.listed(self.words), tree.by_git()
         if not self.program and other[1] is not None:
             other = [], other[1]
         if ours != other and difference and is_part(ours[0], other[0]):
@@ -442,7 +408,7 @@ class Comparison:
         else:
             self.counts[name] += 1
             if self.program and other[1] is None:
-                ours, other = tree.values(self.program.path)
+                ours, other = tree.values(self.program)
                 self.counts["values"] += ours == other
                 if ours != other:
                     self.faults.append((tree.line[:200], ours, other))
@@ -453,22 +419,22 @@ class Comparison:
             difference = NUL if r"\x00" in line else None
             # a reader need not know tables, since it finds the repository itself
             if self.program or "@reftable" not in line:
-                self.follow("folders", Folder(folder / f"f{number}" / "R", line, self.git), difference)
+                self.follow("folders", Folder(folder / f"f{number}" / "R", line, self.git.command), difference)
 
     def follow_files(self, arguments, folder):
         """Compares folders of random files."""
         draw = random.Random(arguments.seed)
         for number in range(arguments.trees):
-            self.follow("folders of random files", Folder(folder / f"t{number}" / "R", tree(draw), self.git))
+            self.follow("folders of random files", Folder(folder / f"t{number}" / "R", tree(draw), self.git.command))
 
     def follow_stars(self, seconds, folder):
         """Compares the repositories of STARS with what Git said, and with this Git where it answers at once."""
         for number, star in enumerate(STARS):
-            tree = Folder(folder / f"s{number}" / star.tree, f"?{star.condition}", self.git)
+            tree = Folder(folder / f"s{number}" / star.tree, f"?{star.condition}", self.git.command)
             tree.head("ref:", f"refs/heads/{star.branch}")
             began = processor_seconds()
             try:
-                holds = has_hit(tree.by_reader(self.words))
+                holds = has_hit(tree.listed(self.words))
             except Wrong as wrong:
                 holds = wrong
             taken = processor_seconds() - began
@@ -483,16 +449,16 @@ class Comparison:
         draw = random.Random(arguments.seed)
         for number in range(arguments.patterns):
             name, branch, line = conditions(draw)
-            tree = Folder(folder / f"p{number}", line, self.git)
+            tree = Folder(folder / f"p{number}", line, self.git.command)
             tree.git_dir(name, f"ref: refs/heads/{branch}")
             tree.known["GIT_DIR"] = str(tree.path / name)
             self.follow(f"folders with {PATTERNS} patterns", tree)
 
 
 def compare(arguments, folder):
-    git = Git(arguments.git, folder)
+    git = readers.Command(arguments.git, folder)
     print(f"{git.said}, seed {arguments.seed}")
-    program = Program(arguments.program, folder) if arguments.program else None
+    program = arguments.program and os.path.abspath(arguments.program)
     comparison = Comparison(program, arguments.reader, git, folder)
     texts = files(arguments) if program else []
     for at in range(0, len(texts), BATCH):
@@ -504,8 +470,8 @@ def compare(arguments, folder):
         comparison.follow_drawn(arguments, folder / "drawn")
     for name, count in comparison.counts.items():
         print(f"{count:>7,} {name}")
-    for text, listed, other in comparison.faults[:SHOWN]:
-        print(f"{text!r}: {listed} here, {other} in Git")
+    for text, ours, other in comparison.faults[:SHOWN]:
+        print(f"{text!r}: {ours} here, {other} in Git")
     missing = [name for name in comparison.expected if not comparison.counts[name]]
     for name in missing:
         print(f"not seen: {name}")

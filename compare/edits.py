@@ -1,4 +1,4 @@
-"""Compares what config_value's edits leave in files with what they ask, and with Git: edits.py PROGRAM [--edits N]
+"""Compares what git_settings' edits leave in files with what they ask, and with Git: edits.py PROGRAM [--edits N]
 [--seed S] [--git GIT].
 
 Draws files and edits, and sequences of 50 edits. Git lists the file before and after: the entries have to be the old

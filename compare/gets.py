@@ -2,7 +2,7 @@
 
 python3 gets.py PROGRAM [--seed N] [--gets N] [--git COMMAND]
 
-PROGRAM is config_value. Each file has one key: with no value, with one or with several, or alone. The key is read as a
+PROGRAM is git_settings. Each file has one key: with no value, with one or with several, or alone. The key is read as a
 type, also with a default, all values, names, NULs, origins, a pattern or a URL. The status and the output have to be
 Git's. If they differ, one of the texts has to differ by itself too, in a class of classes.py that is expected in the
 version of this Git; or it is a path that begins with `%(prefix)/`, which the program refuses; or Git crashes at a key

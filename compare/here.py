@@ -2,9 +2,9 @@
 
 python3 here.py [PROGRAM] [--seed N] [--places N] [--git COMMAND] [--python FOLDER]
 
-PROGRAM is config_value, whose `--list --show-scope --null` has to give the same settings in the same order as Git's
-`config --list --show-scope --show-origin --null`, each with the same scope and the same name of its file. If Git
-refuses to go on, the program has to do so too. FOLDER has the Python package: its `read_repository` is compared too.
+PROGRAM is git_settings, whose `-l --show-scope --show-origin --null` has to give the same settings in the same
+order as Git's, each with the same scope and the same name of its file. If Git refuses to go on, the program has to do
+so too. FOLDER has the Python package: its `read_repository` is compared too.
 
 The places are as many random ones as --places says: a folder with or without a repository of some kind, a HEAD, a
 format and an owner, the files of the system and of the user, variables, the settings of a command, and includes with
@@ -47,7 +47,7 @@ def fields(output):
     return list(zip(parts[::3], parts[1::3], parts[2::3]))
 
 
-# what Python lists, in the form of the program, after the folder in which Git works: in it each name begins
+# what Python lists, in Git's form, after the folder in which Git works: in it each name begins
 PYTHON = """
 import os, sys
 sys.path.append(sys.argv[1])
@@ -60,7 +60,7 @@ except (OSError, ValueError) as error:
 words = [_repository.find("").folder.name]
 for entry in config.entries:
     text = entry.key + ("" if entry.text is None else chr(10) + entry.text)
-    words += entry.scope, f"{entry.file}:{entry.line}", text
+    words += entry.scope, entry.origin, text
 sys.stdout.buffer.write(os.fsencode("".join(word + chr(0) for word in words)))
 print(config.refusal, file=sys.stderr)
 """
@@ -70,29 +70,19 @@ def python_words(package):
     return [sys.executable, "-I", "-B", "-c", PYTHON, os.path.abspath(package)]
 
 
-def program_words(program):
-    return [program, "--list", "--show-scope", "--null"]
-
-
-def git_words(git):
-    return [git, "config", "--list", "--show-scope", "--show-origin", "--null"]
-
-
-def of_program(run):
-    settings = [(scope, place.rpartition(b":")[0], entry) for scope, place, entry in fields(run.stdout)]
-    return Answer(run.returncode, settings, run.stderr)
-
-
-def of_python(run):
-    folder, _, output = run.stdout.partition(b"\0")
-    run.stdout = output
-    return of_program(run)._replace(folder=folder)
+def listing(*words):
+    return [*words, "-l", "--show-scope", "--show-origin", "--null"]
 
 
 def of_git(run):
     settings = [(scope, origin.removeprefix(b"file:").removesuffix(b":"), entry)
                 for scope, origin, entry in fields(run.stdout)]
     return Answer(run.returncode, settings, run.stderr)
+
+
+def of_python(run):
+    folder, _, run.stdout = run.stdout.partition(b"\0")
+    return of_git(run)._replace(folder=folder)
 
 
 def run_in(folder, known, words):
@@ -422,7 +412,7 @@ class Comparison:
         # the readers that are compared with Git: how each is called, and how its output is read
         self.ours = {}
         if arguments.program:
-            self.ours[""] = program_words(os.path.abspath(arguments.program)), of_program
+            self.ours[""] = listing(os.path.abspath(arguments.program)), of_git
         if arguments.python:
             self.ours[" in Python"] = python_words(arguments.python), of_python
         self.expected = [name for name, when in classes.OF_PLACES.items() if classes.is_expected(when, git.running)]
@@ -431,7 +421,7 @@ class Comparison:
 
     def ask(self, name, folder, known, place=None):
         """Compares the answers in a folder."""
-        git = of_git(run_in(folder, known, git_words(self.git.command)))
+        git = of_git(run_in(folder, known, listing(self.git.command, "config")))
         for reader, (words, answer) in self.ours.items():
             self.judge(name + reader, answer(run_in(folder, known, words)), git, place)
 
@@ -487,7 +477,7 @@ class Comparison:
         else:
             print(f"skipped: {len(OF_ROOT)} layouts, which need root")
         for layout in LAYOUTS + OF_ROOT * IS_ROOT:
-            git = of_git(self.called(layout, git_words(self.git.command)))
+            git = of_git(self.called(layout, listing(self.git.command, "config")))
             if layout.words == MOUNT and git.status != 0:
                 print(f"skipped: {layout.name}, since {git.told.decode(errors='replace').strip()}")
                 continue

@@ -1,8 +1,9 @@
-"""Puts the Gits of newer Debian suites into a folder, each with its own C library: newer_gits.py FOLDER
+"""Puts the Gits of newer Debian suites into a folder, each with its own C library: newer_gits.py FOLDER [SUITE..]
 
-FOLDER/SUITE/git is then the command, for each of SUITES. The packages are those of Debian's mirror, and apt gets them
-by a list of its own below FOLDER, so that nothing of the system changes. A command that is there is kept. If the
-packages cannot be had within SECONDS, it says `skipped` and why. The last line is 'N passed, M failed'.
+FOLDER/SUITE/git is then the command, for each of these suites, or of SUITES if none is named. The packages are those of
+Debian's mirror, and apt gets them by a list of its own below FOLDER, so that nothing of the system changes. A command
+that is there is kept. If the packages cannot be had within SECONDS, it says `skipped` and why. The last line is
+'N passed, M failed'.
 """
 import concurrent.futures
 import pathlib
@@ -58,16 +59,16 @@ def fetch(folder, suite, until):
     command.write_text(script, "utf-8")
 
 
-def fetch_all(folder):
-    """Makes the commands, and counts them."""
+def fetch_all(folder, suites):
+    """Makes the commands of the suites, and counts them."""
     folder.mkdir(parents=True, exist_ok=True)
     until = time.monotonic() + SECONDS
     with concurrent.futures.ThreadPoolExecutor() as pool:
-        list(pool.map(lambda suite: fetch(folder, suite, until), SUITES))
-    for suite in SUITES:
+        list(pool.map(lambda suite: fetch(folder, suite, until), suites))
+    for suite in suites:
         print(run(until, folder, folder / suite / "git", "--version").decode().strip())
-    return len(SUITES), 0
+    return len(suites), 0
 
 
 if __name__ == "__main__":
-    sys.exit(counted(lambda: fetch_all(pathlib.Path(sys.argv[1]).resolve())))
+    sys.exit(counted(lambda: fetch_all(pathlib.Path(sys.argv[1]).resolve(), sys.argv[2:] or SUITES)))

@@ -1,7 +1,7 @@
 #!/usr/bin/env python3
 """The exit status of the built program: python3 statuses.py PROGRAM. It is 0 if each line has a value, 1 if some
-line has no value, and 2 if the input cannot be read or the output cannot be written. The last line is
-'N passed, M failed'."""
+line has no value, and 2 if the input cannot be read, the output cannot be written, or an argument is neither --help nor
+--version. The last line is 'N passed, M failed'."""
 import os
 import pathlib
 import subprocess
@@ -17,6 +17,9 @@ ANSWERED = [
     ("a line of no kind", b"number 1\n", b"unknown kind\n", 1),
     ("a value after a refusal", b"integer 08\ninteger 1\n", b"refused\nok 1\n", 1),
 ]
+# an argument, how the output begins, and the status
+ARGUMENTS = [("--help", b"Answers each line", 0), ("--version", b"config_value ", 0), ("--list", b"", 2), ("", b"", 2),
+             ("get", b"", 2), ("--version" * 9, b"", 2)]
 # a line with a value and one without: if the answer cannot be written, that alone decides the status
 UNWRITTEN = [b"integer 1\n", b"integer 08\n"]
 
@@ -37,6 +40,10 @@ def rows(program):
     for name, given, answers, wanted in ANSWERED:
         run = subprocess.run([program], input=given, stdout=subprocess.PIPE, check=False)
         yield name, (run.returncode, run.stdout), (wanted, answers)
+    for argument, begin, wanted in ARGUMENTS:
+        run = subprocess.run([program, argument], input=b"integer 1\n", capture_output=True, check=False)
+        came = run.stdout[:len(begin)] if begin else run.stdout, run.returncode, run.stderr.count(b"\n")
+        yield f"the argument {argument!r}", came, (begin, wanted, int(wanted == 2))
     shell = ["sh", "-c", 'exec "$0" <&-', program]
     yield "a closed input", subprocess.run(shell, check=False).returncode, 2
     folder = os.open(".", os.O_RDONLY)

@@ -99,9 +99,10 @@ fi
 
 if of gix-config-value-tools /usr/bin /usr/share/man /usr/share/bash-completion /usr/share/zsh; then
     package gix-config-value-tools vcs "" "programs that read and check configuration files of Git" << 'END'
-config_value prints, lists and changes settings, as git config does.
+git-settings prints, lists and changes settings, as git config does.
 config_check, which is also git-config-check, reports values that Git
-refuses or ignores, misspelled keys and invalid lines.
+refuses or ignores, misspelled keys and invalid lines. config_value
+answers lines of texts with the values that they have.
 END
 fi
 if [ -n "$soname" ]; then

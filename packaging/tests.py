@@ -1,5 +1,6 @@
 #!/usr/bin/env python3
-"""Tests install.sh and debian.sh: python3 packaging/tests.py CONFIG_VALUE CONFIG_CHECK [--archive ARCHIVE]
+"""Tests install.sh and debian.sh: python3 packaging/tests.py CONFIG_VALUE GIT_SETTINGS CONFIG_CHECK
+[--archive ARCHIVE]
 
 The arguments are the built programs, and the static library that `rt` has built for C. Nothing is written outside of
 temporary folders: packages are installed in a copy of the machine that only these processes see, which takes root and
@@ -16,6 +17,8 @@ import tempfile
 
 ROOT = pathlib.Path(__file__).resolve().parent.parent
 VERSION = (ROOT / "crates/gix_config_value_c/VERSION").read_text(encoding="utf-8").strip()
+# the crates of the programs, and as what each is installed
+NAMES = {"config_value": "config_value", "git_settings": "git-settings", "config_check": "config_check"}
 # what a shell completes: the words of a line, and all that is offered for the last one
 COMPLETED = [
     (["config_check", "--fail-on", ""], "note warning error"),
@@ -23,18 +26,21 @@ COMPLETED = [
     (["config_check", "--format", "=", "j"], "json"),
     (["git-config-check", "--col"], "--color"),
     (["config_check", "--settings", "set"], "settings"),
-    (["config_value", "--type", "=", "boo"], "boolean bool bool-or-int bool-or-str"),
-    (["config_value", "get", "--type", "suf"], "suffix"),
-    (["config_value", "get", "--def"], "--default"),
-    (["config_value", "--def"], ""),
-    (["config_value", "--global", "rename-section", "--ap"], "--append"),
-    (["config_value", "re"], "remove-section rename-section"),
-    (["config_value", "get", "my."], "my.key my.other-key"),
+    (["git", "config-check", "--fail-on", "w"], "warning"),
+    (["git-settings", "--type", "=", "boo"], "boolean bool bool-or-int bool-or-str"),
+    (["git-settings", "get", "--type", "suf"], "suffix"),
+    (["git-settings", "get", "--def"], "--default"),
+    (["git-settings", "list", "--def"], ""),
+    (["git-settings", "-l", "set", "--ap"], "--append"),
+    (["git-settings", "re"], "remove-section rename-section"),
+    (["git-settings", "get", "my."], "my.key my.other-key"),
+    (["git", "settings", "get", "my.k"], "my.key"),
 ]
 # lists what it completes: the file of completions, and the words
 COMPLETE = """. "$1"; shift
 COMP_WORDS=("$@"); COMP_CWORD=$(($# - 1))
-_gix_config_value "$1" "${@: -1}" "${@: -2:1}"
+cur=${@: -1} prev=${@: -2:1}
+if [[ $1 == git ]]; then "_git_${2//-/_}"; else _gix_config_value "$1" "$cur" "$prev"; fi
 printf '%s\\n' "${COMPREPLY[@]}" | sort"""
 # what zsh is told of the words of a line: the beginning and the end of some of the descriptions
 DESCRIBED = [
@@ -43,11 +49,13 @@ DESCRIBED = [
     (["config_check", "-"], "*--settings=[", "]:file:_files"),
     (["config-check", "-"], "--format=[", "]:FORMAT:(text json github sarif)"),
     (["config_check", ""], "*:file:_files", ""),
-    (["config_value", "get", "-"], "--type=[", "]:TYPE:(suffix integer amount boolean name attribute color bool int "
-     "bool-or-int bool-or-str path expiry-date)"),
-    (["config_value", "get", ""], "*:key:(my.key my.other-key)", ""),
-    (["config_value", ""], "*:key:(my.key my.other-key get list set unset rename-section remove-section)", ""),
+    (["git-settings", "get", "-"], "--type=[", "]:TYPE:(bool int bool-or-int bool-or-str path expiry-date color suffix "
+     "integer amount boolean name attribute)"),
+    (["git-settings", "get", ""], "*:key:(my.key my.other-key)", ""),
+    (["settings", ""], "*:key:(my.key my.other-key get list set unset rename-section remove-section)", ""),
 ]
+# what zsh is told of a word of Git is in the file of the program
+ZSH = {"settings": "git-settings", "config-check": "git-config-check"}
 # prints what zsh is told: the file of completions, and the words
 DESCRIBE = """setopt extended_glob
 _call_program() { shift; eval "$@" }
@@ -66,7 +74,7 @@ cd /mnt
 export PATH=/usr/bin:/usr/sbin:/bin:/sbin HOME=/mnt
 dpkg --install *.deb > log 2>&1 || { cat log; exit 1; }
 git config-check --version
-config_value --file config a.b --type color
+echo "color $(git settings get --file config a.b)" | config_value
 if [ -e libraries ]; then
     cc -o theme theme.c $(pkg-config --cflags --libs gix_config_value)
     ./theme 'bold red' 'ul #fff' | head -n 1
@@ -75,7 +83,7 @@ if [ -e libraries ]; then
 fi
 dpkg --purge $(ls *.deb | sed 's/_.*//') > log 2>&1 || { cat log; exit 1; }
 find /usr/bin /usr/lib /usr/include /usr/share -name '*gix?config?value*' -o -name 'config_value*' \
-    -o -name '*config?check*'"""
+    -o -name '*config?check*' -o -name '*git-settings*'"""
 counts = {True: 0, False: 0}
 
 
@@ -105,12 +113,12 @@ def completions(prefix):
     settings.write_text('[my]\n\tkey = 1\n\tother-key = 2\n[my "sub section"]\n\tkey = 3\n', encoding="utf-8")
     path = f"{prefix / 'bin'}:{os.environ['PATH']}"
     for words, offered in COMPLETED:
-        file = prefix / "share/bash-completion/completions" / words[0]
+        file = prefix / "share/bash-completion/completions" / "-".join(words[:1 + (words[0] == "git")])
         said = run("bash", "-c", COMPLETE, "-", file, *words, cwd=prefix, PATH=path, GIT_CONFIG_GLOBAL=settings,
                    GIT_CONFIG_NOSYSTEM=1)
         holds(f"completions of {words}", sorted(said.split()), sorted(offered.split()))
     for words, begin, end in DESCRIBED if shutil.which("zsh") else ():
-        file = prefix / "share/zsh/site-functions" / f"_{words[0].replace('config-', 'git-config-')}"
+        file = prefix / "share/zsh/site-functions" / f"_{ZSH.get(words[0], words[0])}"
         said = run("zsh", "-f", "-c", DESCRIBE, "-", file, *words, cwd=prefix, PATH=path, GIT_CONFIG_GLOBAL=settings,
                    GIT_CONFIG_NOSYSTEM=1).splitlines()
         holds(f"{words} in zsh, {said}", any(it.startswith(begin) and it.endswith(end) for it in said), True)
@@ -121,17 +129,18 @@ def completions(prefix):
 
 def programs(prefix, given, said):
     for name, program in given.items():
-        holds(f"{name} is the program given", (prefix / "bin" / name).read_bytes(), program.read_bytes())
+        holds(f"{name} is the program given", (prefix / "bin" / NAMES[name]).read_bytes(), program.read_bytes())
     path = f"{prefix / 'bin'}:{os.environ['PATH']}"
     holds("git config-check", run("git", "config-check", "--version", PATH=path), f"config_check {VERSION}\n")
+    holds("git settings", run("git", "settings", "--version", PATH=path), f"git-settings {VERSION}\n")
     pages = sorted(it.name for it in prefix.rglob("man1/*"))
     if not shutil.which("help2man"):
-        holds("the pages that are left out", (said.count("without help2man"), pages), (2, []))
+        holds("the pages that are left out", (said.count("without help2man"), pages), (3, []))
         print("skipped: man pages, without help2man")
         return
-    wanted = ["config_check.1", "config_value-get.1", "config_value-list.1", "config_value-set.1", "config_value.1",
-              "git-config-check.1"]
-    holds("the man pages", pages, wanted)
+    words = [f"-{word}" for word in ("get", "list", "remove-section", "rename-section", "set", "unset")]
+    wanted = ["config_check", "config_value", "git-config-check", *(f"git-settings{word}" for word in [*words, ""])]
+    holds("the man pages", pages, [f"{name}.1" for name in wanted])
     for page in pages:
         file = prefix / "share/man/man1" / page
         text = run("man", "--warnings", "--local-file", file, MANWIDTH=100, LC_ALL="C.UTF-8")
@@ -219,17 +228,17 @@ def packages(work, archive):
         (work / "packages" / name).touch()
     (work / "packages/config").write_text("[a]\n\tb = bold red\n", encoding="utf-8")
     said = run("unshare", "-m", "sh", "-c", COPY, "-", work / "copy", work / "packages", INSTALLED)
-    wanted = [f"config_check {VERSION}", "red bold"] + ["#ffffff bold ul", "10485760", "1"] * archive.exists()
+    wanted = [f"config_check {VERSION}", "ok red bold"] + ["#ffffff bold ul", "10485760", "1"] * archive.exists()
     holds("packages are installed, run, and leave nothing", said.splitlines(), wanted)
 
 
 def main():
     arguments = argparse.ArgumentParser()
-    arguments.add_argument("config_value", type=pathlib.Path)
-    arguments.add_argument("config_check", type=pathlib.Path)
+    for name in NAMES:
+        arguments.add_argument(name, type=pathlib.Path)
     arguments.add_argument("--archive", type=pathlib.Path, default="none")
     arguments = arguments.parse_args()
-    given = {name: getattr(arguments, name).resolve() for name in ("config_value", "config_check")}
+    given = {name: getattr(arguments, name).resolve() for name in NAMES}
     with tempfile.TemporaryDirectory() as name:
         work = pathlib.Path(name)
         (work / "programs").mkdir()

@@ -1,4 +1,5 @@
-/* Lists a file and what it includes, for compare/config_file.py: listed FILE. Conditions are about the repository here. */
+/* Lists a file and what it includes as Git does, for compare/config_file.py: listed FILE. Conditions are about this
+ * repository. */
 #define _DEFAULT_SOURCE
 #include <gix_config_value.h>
 #include <stdio.h>
@@ -29,11 +30,11 @@ int main(int count, char **arguments)
     gcv_status status = gcv_read_files(&settings, names, 1, &known, gcv_open_file, NULL);
     for (size_t at = 0; at < settings.count; at++) {
         const gcv_setting *setting = &settings.list[at];
-        printf("%s:%zu%c%s%s%s%c", setting->file, setting->line, 0, setting->key, setting->value ? "\n" : "",
+        printf("file:%s%c%s%s%s%c", setting->file, 0, setting->key, setting->value ? "\n" : "",
                setting->value ? setting->value : "", 0);
     }
     if (status != GCV_OK) {
-        fprintf(stderr, "%s:%zu: %s\n", settings.file, settings.line,
+        fprintf(stderr, "fatal: bad config line %zu in file %s: %s\n", settings.line, settings.file,
                 status == GCV_TOO_DEEP ? "too deep" : gcv_status_text(status));
     }
     gcv_free_settings(&settings);
