@@ -2,6 +2,7 @@
 
 use config_checks::check::CheckError;
 use config_checks::finding::push_shown;
+use config_host::options::Misuse;
 use config_host::{ArgumentError, HostError, ReadError};
 use std::alloc::{AllocError, Global};
 use std::io::{self, ErrorKind, Write};
@@ -14,6 +15,10 @@ use thiserror::Error;
 pub(crate) enum Failure<'m> {
     #[error("cannot read the arguments: {0}")]
     Arguments(ArgumentError),
+    #[error("{0}")]
+    Misuse(Misuse<'m>),
+    #[error("option `{0}' is given twice")]
+    Twice(&'static str),
     #[error("cannot read {file}: {error}")]
     File {
         file: &'m str,

@@ -1,12 +1,13 @@
 //! What to write in place of a value that the reader of a boolean, an integer or a color refuses, and which
 //! slots there are in place of an unknown one.
 
-use crate::text::{push, push_number};
+use crate::text::{put, put_number, put_shown};
 use config_checks::code::Code;
-use config_checks::finding::{Finding, push_shown};
+use config_checks::finding::Finding;
 use config_checks::reason::nearest_word;
 use config_checks::row::Row;
 use config_file::key::Key;
+use config_host::text::Text;
 use gix_config_value::canonical::TryRead;
 use gix_config_value::integer::Amount;
 use gix_config_value::{Color, Fault};
@@ -99,8 +100,13 @@ fn nearest<'w>(
 }
 
 /// Whether one of the words is this text, ignoring ASCII case.
-fn has(words: &[&[u8]], text: &[u8]) -> bool {
-    words.iter().any(|word| word.eq_ignore_ascii_case(text))
+pub(crate) fn has(words: &[&[u8]], text: &[u8]) -> bool {
+    for word in words {
+        if word.eq_ignore_ascii_case(text) {
+            return true;
+        }
+    }
+    false
 }
 
 /// The boolean that is meant by a text.
@@ -285,33 +291,39 @@ fn slots<'r>(
     Ok(names)
 }
 
+/// The key of a finding about a slot that no row has, if it has a subsection and no other key is suggested.
+fn unknown_slot<'f>(finding: &Finding<'f>) -> Option<Key<'f>> {
+    if !matches!(finding.code, Code::UnknownKey) || finding.suggested_key.is_some() {
+        return None;
+    }
+    let key = Key::split(finding.key?)?;
+    key.subsection()?;
+    Some(key)
+}
+
 /// Appends which slots the rows have, if a finding is about an unknown slot and suggests none.
-pub(crate) fn push_slots(
-    reason: &mut Vec<u8>,
+pub(crate) fn put_slots(
+    alloc: Global,
+    reason: &mut Text,
     rows: &[Row<'_>],
     finding: &Finding<'_>,
 ) -> Result<(), AllocError> {
-    if finding.code != Code::UnknownKey || finding.suggested_key.is_some() {
-        return Ok(());
-    }
-    let Some(key) = finding.key.and_then(|key| Key::split(key)) else {
+    let Some(subsection) = unknown_slot(finding).and_then(|key| key.subsection()) else {
         return Ok(());
     };
-    let Some(subsection) = key.subsection() else {
-        return Ok(());
-    };
-    push(reason, "; color.")?;
-    push_shown(reason, subsection)?;
-    push(reason, " has: ")?;
-    let names = slots(*reason.allocator(), rows, subsection)?;
-    for (place, name) in names.iter().take(MOST_SLOTS).enumerate() {
-        push(reason, if place > 0 { ", " } else { "" })?;
-        push_shown(reason, name)?;
+    put(reason, "; color.");
+    put_shown(reason, subsection);
+    let names = slots(alloc, rows, subsection)?;
+    let mut front = " has: ";
+    for name in names.iter().take(MOST_SLOTS) {
+        put(reason, front);
+        put_shown(reason, name);
+        front = ", ";
     }
     if names.len() > MOST_SLOTS {
-        push(reason, " and ")?;
-        push_number(reason, names.len().saturating_sub(MOST_SLOTS))?;
-        push(reason, " more")?;
+        put(reason, " and ");
+        put_number(reason, names.len().saturating_sub(MOST_SLOTS));
+        put(reason, " more");
     }
     Ok(())
 }

@@ -32,7 +32,7 @@ pub(crate) struct Spot<'t> {
 }
 
 /// The first bytes of a text.
-fn front(text: &[u8], count: usize) -> &[u8] {
+pub(crate) fn front(text: &[u8], count: usize) -> &[u8] {
     if count < text.len() {
         &text[..count]
     } else {
