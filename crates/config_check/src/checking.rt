@@ -79,6 +79,13 @@ const MISSING: Wrong<'static> = Wrong {
 /// read once.
 const FEW_FILES: usize = 8;
 
+const UNNAMED: &str = "--fix changes only files that are named: name one";
+
+const UNCHANGEABLE: &str = "--fix cannot change standard input: try --diff";
+
+const TERMINAL: &str =
+    "standard input is a terminal: name a file, or redirect one: config_check - < FILE";
+
 /// The file name that means standard input.
 const STDIN: &[u8] = b"-";
 
@@ -357,14 +364,16 @@ impl<'c, 't> Checking<'c, 't> {
         let Some(rows) = rows_for(alloc, self.asked.git, text)? else {
             return Ok(None);
         };
-        let counts = failed(check_file(alloc, &rows, &self.options, file, text, &mut Counting))?;
-        if counts.unknown > 0 {
-            return Ok(None);
+        let options = self.options;
+        match check_file(alloc, &rows, &options, file, text, &mut Counting) {
+            Ok(counts) if counts.unknown == 0 => {
+                if counts.findings > 0 {
+                    let _ = self.look(&rows, file, text, false)?;
+                }
+                Ok(Some(counts))
+            }
+            _ => Ok(None),
         }
-        if counts.findings > 0 {
-            let _ = self.look(&rows, file, text, false)?;
-        }
-        Ok(Some(counts))
     }
 
     /// Checks the text of a file, and writes its findings.
@@ -633,7 +642,7 @@ impl<'c, 't> Checking<'c, 't> {
     fn first_files(&mut self) -> Result<Vec<&'t [u8]>, Failure<'static>> {
         let alloc = self.rt.alloc();
         let found = match (self.asked.files, self.asked.output) {
-            ([], Output::Fixed) => return Err(Failure::NoneNamed),
+            ([], Output::Fixed) => return Err(Failure::Whole(UNNAMED)),
             ([], _) => files_here(&self.disk)?,
             (names, _) => named(alloc, &self.disk, names)?,
         };
@@ -714,14 +723,14 @@ impl<'c, 't> Checking<'c, 't> {
     fn all(&mut self) -> Result<u8, Failure<'static>> {
         let files = self.first_files()?;
         if files.is_empty() {
-            return Err(Failure::NoFile);
+            return Err(Failure::Whole("Git reads no file here: name one"));
         }
         let has_stdin = files.contains(&STDIN);
         if has_stdin && matches!(self.asked.output, Output::Fixed) {
-            return Err(Failure::Unchangeable);
+            return Err(Failure::Whole(UNCHANGEABLE));
         }
         if has_stdin && self.rt.stdin().is_terminal() {
-            return Err(Failure::Terminal);
+            return Err(Failure::Whole(TERMINAL));
         }
         self.begin()?;
         for file in &files {

@@ -43,7 +43,7 @@ pub(crate) fn explain<'m>(rt: &HostRuntime, name: &'m str) -> Result<u8, Failure
         }
     }
     if text.len() == 0 {
-        return Err(Failure::NoCode(name));
+        return Err(Failure::Argument("no such code: ", name, "; --explain all lists them"));
     }
     written(rt.stdout().write_all(text.so_far()?))?;
     Ok(0)

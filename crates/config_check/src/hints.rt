@@ -130,12 +130,13 @@ fn boolean(alloc: Global, text: &[u8]) -> Result<Option<Meant>, AllocError> {
 /// The number without what Git does not read in it: blanks, `_` and `,`, and the bytes of a unit, as in
 /// `500MB`.
 fn number(alloc: Global, text: &[u8]) -> Result<Option<Meant>, AllocError> {
-    let mut plain = Vec::new(alloc);
+    let mut plain = Text::new(alloc);
     for byte in text {
         if !matches!(*byte, b' ' | b'\t' | b'_' | b',') {
-            plain.push(byte.to_ascii_lowercase())?;
+            plain.put_byte(byte.to_ascii_lowercase());
         }
     }
+    let mut plain = plain.end()?;
     for unit in [b"ib".as_slice(), b"b".as_slice()] {
         if let Some(front) = plain.strip_suffix(unit) {
             let end = front.len();
@@ -161,51 +162,41 @@ fn wrong_word(text: &[u8]) -> Option<&[u8]> {
         .find(|word| Color::try_read(word).is_err())
 }
 
-/// A color in which `-`, `_`, `,`, `+` and `/` separate words, if that makes it right.
-fn separated(alloc: Global, text: &[u8]) -> Result<Option<Vec<u8>>, AllocError> {
-    let mut words = Vec::new(alloc);
-    for byte in text {
-        match *byte {
-            b'-' | b'_' | b',' | b'+' | b'/' => words.push(b' ')?,
-            byte => words.push(byte.to_ascii_lowercase())?,
-        }
-    }
-    let words = words.trim_ascii();
-    if Color::try_read(words).is_err() {
-        return Ok(None);
-    }
-    let mut single: Vec<u8> = Vec::new(alloc);
-    for word in words.split(|byte| byte.is_ascii_whitespace()) {
-        if word.is_empty() {
-            continue;
-        }
-        if !single.is_empty() {
-            single.push(b' ')?;
-        }
-        single.extend_from_slice(word)?;
-    }
-    Ok(Some(single))
-}
-
-/// The color with another word in place of the first one that is none.
+/// The words of a text, with one space between them, and with another word in place of the first that is wrong.
 fn replaced(alloc: Global, text: &[u8], wrong: &[u8], word: &[u8]) -> Result<Vec<u8>, AllocError> {
-    let mut color: Vec<u8> = Vec::new(alloc);
+    let mut color = Text::new(alloc);
     let mut is_done = false;
     for part in text.split(|byte| byte.is_ascii_whitespace()) {
         if part.is_empty() {
             continue;
         }
-        if !color.is_empty() {
-            color.push(b' ')?;
+        if color.len() > 0 {
+            color.put_byte(b' ');
         }
         if !is_done && part == wrong {
-            color.extend_from_slice(word)?;
+            color.put(word);
             is_done = true;
         } else {
-            color.extend_from_slice(part)?;
+            color.put(part);
         }
     }
-    Ok(color)
+    color.end()
+}
+
+/// A color in which `-`, `_`, `,`, `+` and `/` separate words, if that makes it right.
+fn separated(alloc: Global, text: &[u8]) -> Result<Option<Vec<u8>>, AllocError> {
+    let mut words = Text::new(alloc);
+    for byte in text {
+        words.put_byte(match *byte {
+            b'-' | b'_' | b',' | b'+' | b'/' => b' ',
+            byte => byte.to_ascii_lowercase(),
+        });
+    }
+    let color = replaced(alloc, words.so_far()?, b"", b"")?;
+    if Color::try_read(&color).is_err() {
+        return Ok(None);
+    }
+    Ok(Some(color))
 }
 
 /// The color that is meant by a text in which this word is none.

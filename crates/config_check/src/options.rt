@@ -206,7 +206,7 @@ pub(crate) fn check_once(given: &[Given<'_>]) -> Result<(), Failure<'static>> {
     for (at, one) in given.iter().enumerate() {
         for before in given.iter().take(at) {
             if before.name == one.name && !is_several(one) {
-                return Err(Failure::Twice(one.name));
+                return Err(Failure::Argument("option `", one.name, "' is given twice"));
             }
         }
     }
@@ -245,7 +245,10 @@ fn fails_on(options: &Options<'_>) -> Severity {
 /// The version of `--git`.
 fn git_of<'m>(options: &Options<'m>) -> Result<Version, Failure<'m>> {
     match options.last("git") {
-        Some(text) => Version::read(text.as_bytes()).ok_or(Failure::Version(text)),
+        Some(text) => match Version::read(text.as_bytes()) {
+            Some(version) => Ok(version),
+            None => Err(Failure::Argument("not a version of Git, as 2.39 is: ", text, "")),
+        },
         None => Ok(NEWEST),
     }
 }
@@ -289,7 +292,7 @@ pub(crate) fn ignored_by<'m>(
         let one = match (code_of(name), Key::split(name.as_bytes())) {
             (Some(code), _) => Ignored::Code(code),
             (None, Some(key)) => Ignored::Key(key),
-            (None, None) => return Err(Failure::Ignored(name)),
+            (None, None) => return Err(Failure::Argument("neither a code nor a key: ", name, "")),
         };
         if all.push(one).is_err() {
             return Err(Failure::Memory(AllocError));
@@ -310,7 +313,7 @@ fn output_of(options: &Options<'_>) -> Result<Output, Failure<'static>> {
         (true, false, false) => Ok(Output::Fixed),
         (false, true, false) => Ok(Output::Diff),
         (false, false, true) => Ok(Output::Statistics),
-        _ => Err(Failure::Apart),
+        _ => Err(Failure::Whole("only one of --fix, --diff and --statistics")),
     }
 }
 
