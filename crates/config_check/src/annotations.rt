@@ -1,10 +1,11 @@
 //! A finding as a command for GitHub's runners, which show it as an annotation of its line.
 
 use crate::source::Spot;
-use crate::text::{push, push_message, push_number};
+use crate::text::{put, put_message, put_number};
 use config_checks::finding::Finding;
 use config_checks::reason::Severity;
-use std::alloc::AllocError;
+use config_host::text::Text;
+use std::alloc::{AllocError, Global};
 
 /// The command of a severity.
 fn command_of(severity: Severity) -> &'static str {
@@ -15,50 +16,41 @@ fn command_of(severity: Severity) -> &'static str {
     }
 }
 
-/// Appends a text as the message of a command.
-fn push_escaped(line: &mut Vec<u8>, text: &[u8]) -> Result<(), AllocError> {
+/// Appends a text as the message of a command, or as a property, in which a colon or a comma would end it.
+fn put_escaped(line: &mut Text, text: &[u8], is_property: bool) {
     for byte in text {
         match *byte {
-            b'%' => push(line, "%25")?,
-            b'\r' => push(line, "%0D")?,
-            b'\n' => push(line, "%0A")?,
-            byte => line.push(byte)?,
+            b'%' => put(line, "%25"),
+            b'\r' => put(line, "%0D"),
+            b'\n' => put(line, "%0A"),
+            b':' if is_property => put(line, "%3A"),
+            b',' if is_property => put(line, "%2C"),
+            byte => line.put_byte(byte),
         }
     }
-    Ok(())
-}
-
-/// Appends a text as a property of a command, in which a colon or a comma would end it.
-fn push_property(line: &mut Vec<u8>, text: &[u8]) -> Result<(), AllocError> {
-    for byte in text {
-        match *byte {
-            b':' => push(line, "%3A")?,
-            b',' => push(line, "%2C")?,
-            byte => push_escaped(line, &[byte])?,
-        }
-    }
-    Ok(())
 }
 
 /// Appends the command for a finding.
-pub(crate) fn push_annotation(
-    line: &mut Vec<u8>,
+pub(crate) fn put_annotation(
+    alloc: Global,
+    line: &mut Text,
     finding: &Finding<'_>,
     spot: &Spot<'_>,
 ) -> Result<(), AllocError> {
-    push(line, "::")?;
-    push(line, command_of(finding.severity))?;
-    push(line, " file=")?;
-    push_property(line, finding.file.as_bytes())?;
-    push(line, ",line=")?;
-    push_number(line, finding.line)?;
-    push(line, ",col=")?;
-    push_number(line, spot.column)?;
-    push(line, ",title=")?;
-    push_property(line, finding.code.name().as_bytes())?;
-    push(line, "::")?;
-    let mut message = Vec::new(*line.allocator());
-    push_message(&mut message, finding)?;
-    push_escaped(line, &message)?;
-    push(line, "\n")
+    put(line, "::");
+    put(line, command_of(finding.severity));
+    put(line, " file=");
+    put_escaped(line, finding.file.as_bytes(), true);
+    put(line, ",line=");
+    put_number(line, finding.line);
+    put(line, ",col=");
+    put_number(line, spot.column);
+    put(line, ",title=");
+    put_escaped(line, finding.code.name().as_bytes(), true);
+    put(line, "::");
+    let mut message = Text::new(alloc);
+    put_message(alloc, &mut message, finding)?;
+    put_escaped(line, message.so_far()?, false);
+    put(line, "\n");
+    Ok(())
 }

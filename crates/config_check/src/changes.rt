@@ -1,100 +1,83 @@
 //! Changes the entries of a file that have findings with one suggestion.
 
+use crate::diff::Span;
 use config_checks::finding::Finding;
 use config_checks::fix::{Fix, Judge, mend};
 use config_checks::options::Options;
+use config_checks::row::Row;
 use config_checks::setting::Setting;
 use config_edit::{Change, EditError, change_entries};
-use config_file::{Entries, FileError};
+use config_file::FileError;
 use config_host::{Disk, LockError, Locked};
 use std::alloc::{AllocError, Global};
 use thiserror::Error;
 
-/// A change of the entry that this many entries precede.
+/// A change of the entry that this many entries precede, on these lines.
 #[derive(Drop)]
 pub(crate) struct Mended {
     pub(crate) entry: usize,
+    pub(crate) span: Span,
     pub(crate) name: Option<Vec<u8>>,
     pub(crate) value: Option<Vec<u8>>,
 }
 
 /// Looks for the changes that mend the findings of one file.
 #[derive(Drop)]
-pub(crate) struct Mender<'c, 't> {
-    pub(crate) judge: &'c Judge<'c, 'c>,
-    pub(crate) options: Options<'t>,
-    pub(crate) file: &'t str,
-    entries: Entries<'t>,
-    passed: u64,
-    /// The changes so far, in the order of the entries.
+pub(crate) struct Mender<'r> {
+    judge: Judge<'r, 'r>,
+    options: Options<'r>,
+    /// The changes so far, in the order of the entries. None mends a file that Git does not read to its end.
     pub(crate) changes: Vec<Mended>,
 }
 
-impl<'c, 't> Mender<'c, 't> {
-    /// Begins with a file of this name and text.
+impl<'r> Mender<'r> {
+    /// Judges changes by these rows.
     pub(crate) fn new(
         alloc: Global,
-        judge: &'c Judge<'c, 'c>,
-        options: Options<'t>,
-        file: &'t str,
-        text: &'t [u8],
-    ) -> Mender<'c, 't> {
-        Mender {
-            judge,
+        rows: &'r [Row<'r>],
+        options: Options<'r>,
+    ) -> Result<Mender<'r>, AllocError> {
+        Ok(Mender {
+            judge: Judge::new(alloc, rows)?,
             options,
-            file,
-            entries: Entries::new(text),
-            passed: 0,
             changes: Vec::new(alloc),
-        }
+        })
     }
 
-    /// The setting that this many entries precede. Each call has to ask for a later one.
-    fn setting(&mut self, before: u64) -> Result<Option<Setting<'t>>, AllocError> {
-        let alloc = *self.changes.allocator();
-        for _ in 0..u64::MAX {
-            let Some(Ok(entry)) = self.entries.next() else {
-                break;
-            };
-            let at = self.passed;
-            self.passed = at.saturating_add(1);
-            if at == before {
-                return Ok(Some(Setting::of_entry(alloc, self.file, &entry)?));
-            }
-        }
-        Ok(None)
-    }
-
-    /// The change that mends a finding, if there is one.
-    fn change_for(&mut self, finding: &Finding<'_>) -> Result<Option<Mended>, AllocError> {
+    /// The change that mends a finding about a setting, if there is one.
+    fn change_for(
+        &self,
+        setting: &Setting<'_>,
+        finding: &Finding<'_>,
+    ) -> Result<Option<Mended>, AllocError> {
         let alloc = *self.changes.allocator();
         let Some(before) = finding.entry else {
             return Ok(None);
         };
-        let Some(setting) = self.setting(before)? else {
-            return Ok(None);
-        };
-        let entry = before as usize;
-        Ok(
-            match mend(alloc, self.judge, &self.options, &setting, finding)? {
-                Some(Fix::Name(name)) => Some(Mended {
-                    entry,
-                    name: Some(name.to_vec(alloc)?),
-                    value: None,
-                }),
-                Some(Fix::Value(value)) => Some(Mended {
-                    entry,
-                    name: None,
-                    value: Some(value.to_vec(alloc)?),
-                }),
-                None => None,
+        let mut mended = Mended {
+            entry: before as usize,
+            span: Span {
+                first: setting.line,
+                last: setting.last,
             },
-        )
+            name: None,
+            value: None,
+        };
+        match mend(alloc, &self.judge, &self.options, setting, finding)? {
+            Some(Fix::Name(name)) => mended.name = Some(name.to_vec(alloc)?),
+            Some(Fix::Value(value)) => mended.value = Some(value.to_vec(alloc)?),
+            None => return Ok(None),
+        }
+        Ok(Some(mended))
     }
 
-    /// Takes note of the change that mends a finding, if there is one.
-    pub(crate) fn mend(&mut self, finding: &Finding<'_>) -> Result<(), AllocError> {
-        let Some(change) = self.change_for(finding)? else {
+    /// Takes note of the change that mends a finding about a setting, if there is one.
+    pub(crate) fn mend(
+        &mut self,
+        setting: &Setting<'_>,
+        finding: &Finding<'_>,
+    ) -> Result<(), AllocError> {
+        let Some(change) = self.change_for(setting, finding)? else {
             return Ok(());
         };
         match self.changes.push(change) {
@@ -102,16 +85,6 @@ impl<'c, 't> Mender<'c, 't> {
             Err(_) => Err(AllocError),
         }
     }
-}
-
-/// Whether Git reads a text to its end.
-pub(crate) fn is_readable(text: &[u8]) -> bool {
-    for entry in Entries::new(text) {
-        if entry.is_err() {
-            return false;
-        }
-    }
-    true
 }
 
 /// Why a file is not changed. It then has its old text.

@@ -1,12 +1,12 @@
 //! A run over files, each of which is checked once, and over the files that they include.
 
 use crate::baseline::fingerprints;
-use crate::changes::{Mender, change_file, changed, is_readable};
+use crate::changes::{Mended, Mender, change_file, changed};
 use crate::diff::diff_of;
 use crate::failure::{Failure, failed, tell, written};
 use crate::options::{Asked, Format, Output};
-use crate::report::{Lines, Report};
-use crate::rows::{Must, Rows};
+use crate::report::{Counting, Lines, Report};
+use crate::rows::{AllRows, Must, built_in_rows, rows_for};
 use crate::sarif;
 use crate::source::Source;
 use bstr::BStr;
@@ -14,7 +14,6 @@ use bumpalo::Bump;
 use config_checks::check::{Counts, Receiver, check_file};
 use config_checks::code::Code;
 use config_checks::finding::{Finding, key_text};
-use config_checks::fix::Judge;
 use config_checks::key::covers;
 use config_checks::options::Options;
 use config_checks::outcome::Outcome;
@@ -23,8 +22,8 @@ use config_checks::reason::Severity;
 use config_checks::row::Row;
 use config_checks::setting::Setting;
 use config_file::key::Key;
-use config_file::{Condition, Content, Entries, Entry, FilePlace, Files, Include, Step, Walk};
-use config_host::surroundings::Followed;
+use config_file::{Condition, Content, Entry, FilePlace, Files, Include, Step, Walk};
+use config_host::surroundings::{Followed, has_includes};
 use config_host::{Disk, Surroundings, Users, files_here};
 use gix_config_value::path::parts::joint_of;
 use std::alloc::{AllocError, Global};
@@ -64,11 +63,28 @@ const UNKNOWN_CONDITION: Wrong<'static> = Wrong {
     why: "not a condition of Git: not one of: gitdir, gitdir/i, onbranch, hasconfig:remote.*.url",
 };
 
+const MISSING_SETTING: Wrong<'static> = Wrong {
+    code: Code::MissingSetting,
+    severity: Severity::Error,
+    why: "no file has this setting, which the row asks for",
+};
+
 const MISSING: Wrong<'static> = Wrong {
     code: Code::MissingFile,
     severity: Severity::Note,
     why: "no such file",
 };
+
+/// For how many files no more is read than the rows of their own sections. Later ones are worth that all rows are
+/// read once.
+const FEW_FILES: usize = 8;
+
+const UNNAMED: &str = "--fix changes only files that are named: name one";
+
+const UNCHANGEABLE: &str = "--fix cannot change standard input: try --diff";
+
+const TERMINAL: &str =
+    "standard input is a terminal: name a file, or redirect one: config_check - < FILE";
 
 /// The file name that means standard input.
 const STDIN: &[u8] = b"-";
@@ -98,11 +114,13 @@ fn named<'t>(
 #[derive(Drop)]
 struct Checking<'c, 't> {
     rt: &'t HostRuntime,
-    rows: &'c [Row<'c>],
-    judge: &'c Judge<'c, 'c>,
+    /// All rows, as soon as they are read.
+    rows: Option<Vec<Row<'c>>>,
+    /// How many files are checked by the rows of their own sections before all rows are read.
+    by_sections: usize,
     /// The settings that rows ask for.
     musts: Vec<Must<'c, 'c>>,
-    asked: &'c Asked<'c, 'c>,
+    asked: Asked<'c, 'c>,
     options: Options<'t>,
     report: Report<'c>,
     disk: Disk<'t, HostRuntime>,
@@ -116,66 +134,55 @@ struct Checking<'c, 't> {
     fixed: usize,
 }
 
-/// Writes a finding about what an entry of a file that is open includes.
-fn write_include<'f>(
+/// Writes a finding about a setting that no row judges by its value.
+fn write_wrong<'f>(
     rt: &HostRuntime,
     report: &mut Report<'_>,
     source: &mut Source<'_>,
     setting: &'f Setting<'f>,
+    row: Option<Key<'f>>,
     wrong: Wrong<'f>,
 ) -> Result<(), Failure<'static>> {
     let mut lines = Lines {
         alloc: rt.alloc(),
+        rows: &[],
         report,
         source,
         mender: None,
         writer: rt.stdout(),
     };
-    failed(lines.receive(&Finding {
+    let finding = Finding {
         file: setting.file,
         line: setting.line,
         entry: None,
         code: wrong.code,
         severity: wrong.severity,
         key: Some(&setting.key),
-        row: None,
+        row,
         value: setting.value.as_deref(),
         reason: wrong.why.as_bytes(),
         fault: None,
         suggested_key: None,
         suggested_value: None,
-    }))
+    };
+    failed(lines.receive(Some(setting), &finding))
 }
 
-/// Writes that no file has a setting that a row asks for, whose key has this text.
-fn write_missing<'f>(
-    rt: &HostRuntime,
-    report: &mut Report<'_>,
-    source: &mut Source<'_>,
-    must: &'f Must<'f, 'f>,
-    key: &'f [u8],
-) -> Result<(), Failure<'static>> {
-    let mut lines = Lines {
-        alloc: rt.alloc(),
-        report,
-        source,
-        mender: None,
-        writer: rt.stdout(),
-    };
-    failed(lines.receive(&Finding {
-        file: must.file,
-        line: must.line,
-        entry: None,
-        code: Code::MissingSetting,
-        severity: Severity::Error,
-        key: Some(key),
-        row: Some(must.key),
-        value: None,
-        reason: b"no file has this setting, which the row asks for",
-        fault: None,
-        suggested_key: None,
-        suggested_value: None,
-    }))
+/// The counts of one finding of this severity, about no entry.
+fn counts_of(severity: Severity) -> Counts {
+    Counts {
+        findings: 1,
+        errors: u64::from(matches!(severity, Severity::Error)),
+        warnings: u64::from(matches!(severity, Severity::Warning)),
+        ..Counts::default()
+    }
+}
+
+/// What a check of a text gives: its counts, and the changes that are looked for.
+#[derive(Drop)]
+struct Looked {
+    counts: Counts,
+    changes: Vec<Mended>,
 }
 
 /// Whether a path that an entry includes begins at the root or in a home directory, and not in the folder of
@@ -233,41 +240,29 @@ impl<'c, 't> Checking<'c, 't> {
         let Ok(file) = str::from_utf8(name) else {
             return Ok(text);
         };
-        let text = match self.asked.output {
-            Output::Fixed if is_named => self.mended(file, text)?,
-            _ => text,
-        };
-        let counts = if is_named && self.asked.output == Output::Diff {
-            self.show_changes(file, text)?
-        } else {
-            self.check_text(file, text, None)?.0
+        let (text, counts) = match self.asked.output {
+            Output::Fixed if is_named => self.mend(file, text)?,
+            Output::Diff if is_named => (text, self.show_changes(file, text)?),
+            _ => (text, self.judge(file, text)?),
         };
         self.outcome.add(counts);
-        self.meet(text)?;
         match self.open.push(Source::new(name, text)) {
             Ok(()) => Ok(text),
             Err(_) => Err(Failure::Memory(AllocError)),
         }
     }
 
-    /// Takes note of the settings of a file that rows ask for.
-    fn meet(&mut self, text: &[u8]) -> Result<(), AllocError> {
+    /// Takes note that a file has a setting, if rows ask for it.
+    fn meet(&mut self, entry: &Entry<'_>) -> Result<(), AllocError> {
         if self.musts.is_empty() {
             return Ok(());
         }
-        for entry in Entries::new(text) {
-            let Ok(entry) = entry else {
-                break;
-            };
-            let key = entry.key_text(self.rt.alloc())?;
-            let Some(key) = Key::split(&key) else {
-                continue;
-            };
-            for must in self.musts.iter_mut() {
-                if covers(&must.key, &key) {
-                    must.is_met = true;
-                }
-            }
+        let key = entry.key_text(self.rt.alloc())?;
+        let Some(key) = Key::split(&key) else {
+            return Ok(());
+        };
+        for must in self.musts.iter_mut() {
+            must.is_met |= covers(&must.key, &key);
         }
         Ok(())
     }
@@ -278,66 +273,148 @@ impl<'c, 't> Checking<'c, 't> {
             if must.is_met {
                 continue;
             }
-            let key = key_text(self.rt.alloc(), &must.key)?;
+            let setting = Setting {
+                file: must.file,
+                line: must.line,
+                last: must.line,
+                key: key_text(self.rt.alloc(), &must.key)?,
+                value: None,
+            };
             let mut source = Source::new(must.file.as_bytes(), must.text);
-            write_missing(self.rt, &mut self.report, &mut source, must, &key)?;
-            self.outcome.add(Counts {
-                findings: 1,
-                errors: 1,
-                ..Counts::default()
-            });
+            write_wrong(
+                self.rt,
+                &mut self.report,
+                &mut source,
+                &setting,
+                Some(must.key),
+                MISSING_SETTING,
+            )?;
+            self.outcome.add(counts_of(Severity::Error));
         }
         Ok(())
     }
 
-    /// Checks the text of a file. Changes are looked for if there is something to look for them, which is
-    /// given back.
-    fn check_text(
+    /// Checks the text of a file by these rows, and writes its findings. Looks for changes if they are asked for.
+    fn look(
         &mut self,
+        rows: &[Row<'_>],
         file: &'t str,
         text: &'t [u8],
-        mender: Option<Mender<'c, 't>>,
-    ) -> Result<(Counts, Option<Mender<'c, 't>>), Failure<'static>> {
+        mends: bool,
+    ) -> Result<Looked, Failure<'static>> {
         let alloc = self.rt.alloc();
-        let options = self.options;
+        let mender = if mends {
+            Some(Mender::new(alloc, rows, self.options)?)
+        } else {
+            None
+        };
         let writer = written(BufWriter::new(alloc, self.rt.stdout()))?;
         let mut source = Source::new(file.as_bytes(), text);
         let mut lines = Lines {
             alloc,
+            rows,
             report: &mut self.report,
             source: &mut source,
             mender,
             writer,
         };
-        let checked = check_file(alloc, self.rows, &options, file, text, &mut lines);
+        let checked = check_file(alloc, rows, &self.options, file, text, &mut lines);
         written(lines.flush())?;
-        let mender = lines.mender.take();
-        Ok((failed(checked)?, mender))
-    }
-
-    /// What looks for the changes of a file.
-    fn mender(&self, file: &'t str, text: &'t [u8]) -> Mender<'c, 't> {
-        Mender::new(self.rt.alloc(), self.judge, self.options, file, text)
-    }
-
-    /// Makes the changes in a file, and returns its text, which is the old one if it has none or is not
-    /// changed.
-    fn mended(&mut self, file: &'t str, text: &'t [u8]) -> Result<&'t [u8], Failure<'static>> {
-        if !is_readable(text) {
-            return Ok(text);
-        }
-        let mender = self.mender(file, text);
-        let (_, looked) = self.check_text(file, text, Some(mender))?;
-        let Some(mender) = looked else {
-            return Ok(text);
+        let counts = failed(checked)?;
+        let changes = match lines.mender.take() {
+            Some(mender) => mender.changes,
+            None => Vec::new(alloc),
         };
-        if mender.changes.is_empty() {
+        Ok(Looked { counts, changes })
+    }
+
+    /// Does the same as [`Checking::look`] by all rows, which are read if they are not yet.
+    fn look_by_all(
+        &mut self,
+        file: &'t str,
+        text: &'t [u8],
+        mends: bool,
+    ) -> Result<Looked, Failure<'static>> {
+        let rows = match self.rows.take() {
+            Some(rows) => rows,
+            None => built_in_rows(self.rt.alloc(), self.asked.git)?,
+        };
+        let looked = self.look(&rows, file, text, mends);
+        self.rows = Some(rows);
+        looked
+    }
+
+    /// Whether a text may be checked by the rows of its own sections.
+    fn is_by_sections(&mut self, text: &[u8]) -> bool {
+        if self.rows.is_some() || self.by_sections == 0 || has_includes(text) {
+            return false;
+        }
+        self.by_sections = self.by_sections.saturating_sub(1);
+        true
+    }
+
+    /// Checks the text of a file by the rows of its own sections, and writes its findings. `None` if a key is
+    /// unknown to them, of which other rows may know more.
+    fn judge_by_sections(
+        &mut self,
+        file: &'t str,
+        text: &'t [u8],
+    ) -> Result<Option<Counts>, Failure<'static>> {
+        let alloc = self.rt.alloc();
+        let Some(rows) = rows_for(alloc, self.asked.git, text)? else {
+            return Ok(None);
+        };
+        let options = self.options;
+        match check_file(alloc, &rows, &options, file, text, &mut Counting) {
+            Ok(counts) if counts.unknown == 0 => {
+                if counts.findings > 0 {
+                    let _ = self.look(&rows, file, text, false)?;
+                }
+                Ok(Some(counts))
+            }
+            _ => Ok(None),
+        }
+    }
+
+    /// Checks the text of a file, and writes its findings.
+    fn judge(&mut self, file: &'t str, text: &'t [u8]) -> Result<Counts, Failure<'static>> {
+        if self.is_by_sections(text) {
+            if let Some(counts) = self.judge_by_sections(file, text)? {
+                return Ok(counts);
+            }
+        }
+        Ok(self.look_by_all(file, text, false)?.counts)
+    }
+
+    /// Makes the changes in a file, and writes the findings that are left. Returns its text, which is the old one
+    /// if it has no changes or is not changed, with its counts.
+    fn mend(
+        &mut self,
+        file: &'t str,
+        text: &'t [u8],
+    ) -> Result<(&'t [u8], Counts), Failure<'static>> {
+        let Looked { counts, changes } = self.look_by_all(file, text, true)?;
+        if counts.findings == 0 {
+            return Ok((text, counts));
+        }
+        let text = self.changed_by(file, text, &changes)?;
+        Ok((text, self.judge(file, text)?))
+    }
+
+    /// Makes these changes in a file, and returns its text, which is the old one if there are none or it is not
+    /// changed.
+    fn changed_by(
+        &mut self,
+        file: &'t str,
+        text: &'t [u8],
+        changes: &[Mended],
+    ) -> Result<&'t [u8], Failure<'static>> {
+        if changes.is_empty() {
             return Ok(text);
         }
-        let name = file.as_bytes();
-        match change_file(self.rt.alloc(), &self.disk, name, text, &mender.changes) {
+        match change_file(self.rt.alloc(), &self.disk, file.as_bytes(), text, changes) {
             Ok(new) => {
-                self.fixed = self.fixed.saturating_add(mender.changes.len());
+                self.fixed = self.fixed.saturating_add(changes.len());
                 Ok(self.disk.kept(&new)?)
             }
             Err(error) => {
@@ -349,21 +426,14 @@ impl<'c, 't> Checking<'c, 't> {
 
     /// Checks the text of a file, and shows what would be changed in it.
     fn show_changes(&mut self, file: &'t str, text: &'t [u8]) -> Result<Counts, Failure<'static>> {
-        if !is_readable(text) {
-            return Ok(self.check_text(file, text, None)?.0);
-        }
         let alloc = self.rt.alloc();
-        let mender = self.mender(file, text);
-        let (counts, looked) = self.check_text(file, text, Some(mender))?;
-        let Some(mender) = looked else {
-            return Ok(counts);
-        };
-        if mender.changes.is_empty() {
+        let Looked { counts, changes } = self.look_by_all(file, text, true)?;
+        if changes.is_empty() {
             return Ok(counts);
         }
-        match changed(alloc, text, &mender.changes) {
+        match changed(alloc, text, &changes) {
             Ok(new) => {
-                let diff = diff_of(alloc, file, text, &new, &mender.changes)?;
+                let diff = diff_of(alloc, file, text, &new, &changes)?;
                 written(self.rt.stdout().write_all(&diff))?;
             }
             Err(error) => self.refuse(format_args!("{file}: {error}")),
@@ -398,14 +468,9 @@ impl<'c, 't> Checking<'c, 't> {
         let setting = Setting::of_entry(alloc, file, entry)?;
         self.close_after(place.name);
         if let Some(source) = self.open.last_mut() {
-            write_include(self.rt, &mut self.report, source, &setting, wrong)?;
+            write_wrong(self.rt, &mut self.report, source, &setting, None, wrong)?;
         }
-        self.outcome.add(Counts {
-            findings: 1,
-            errors: u64::from(matches!(wrong.severity, Severity::Error)),
-            warnings: u64::from(matches!(wrong.severity, Severity::Warning)),
-            ..Counts::default()
-        });
+        self.outcome.add(counts_of(wrong.severity));
         Ok(())
     }
 
@@ -543,22 +608,31 @@ impl<'c, 't> Checking<'c, 't> {
         };
         self.open.clear();
         let text = self.check(place.name, text, true)?;
-        if !self.asked.follows {
+        if self.musts.is_empty() && (!self.asked.follows || !has_includes(text)) {
             return Ok(());
         }
-        let mut walk = Walk::new(place, text);
+        self.walk(Walk::new(place, text))
+    }
+
+    /// Takes note of the settings that a walk comes to, and checks the files that they include.
+    fn walk(&mut self, mut walk: Walk<'t>) -> Result<(), Failure<'static>> {
         for _ in 0..u64::MAX {
-            match walk.next(self.rt.alloc(), &self.surroundings.known())? {
-                Step::Entry(place, entry, Include::Named(name)) => {
-                    self.judge_condition(place, &entry)?;
-                    self.include(&mut walk, place, &entry, name)?;
-                }
-                Step::Entry(place, entry, Include::UnknownDirectory) => {
-                    self.judge_condition(place, &entry)?;
-                    self.include_unknown(&mut walk, place, &entry)?;
-                }
+            let step = walk.next(self.rt.alloc(), &self.surroundings.known())?;
+            let (place, entry, include) = match step {
+                Step::Entry(place, entry, include) => (place, entry, include),
+                Step::Line(..) => continue,
                 Step::Ends => break,
-                _ => {}
+            };
+            self.meet(&entry)?;
+            if !self.asked.follows
+                || matches!(include, Include::NotFollowed | Include::MissingValue)
+            {
+                continue;
+            }
+            self.judge_condition(place, &entry)?;
+            match include {
+                Include::Named(name) => self.include(&mut walk, place, &entry, name)?,
+                _ => self.include_unknown(&mut walk, place, &entry)?,
             }
         }
         Ok(())
@@ -567,10 +641,10 @@ impl<'c, 't> Checking<'c, 't> {
     /// The files that are named, or those that Git reads in the current folder, each once.
     fn first_files(&mut self) -> Result<Vec<&'t [u8]>, Failure<'static>> {
         let alloc = self.rt.alloc();
-        let found = match self.asked.files {
-            Some(names) => named(alloc, &self.disk, names)?,
-            None if self.asked.output == Output::Fixed => return Err(Failure::NoneNamed),
-            None => files_here(&self.disk)?,
+        let found = match (self.asked.files, self.asked.output) {
+            ([], Output::Fixed) => return Err(Failure::Whole(UNNAMED)),
+            ([], _) => files_here(&self.disk)?,
+            (names, _) => named(alloc, &self.disk, names)?,
         };
         let mut files = Vec::new(alloc);
         for name in found {
@@ -615,26 +689,26 @@ impl<'c, 't> Checking<'c, 't> {
 
     /// Writes what precedes the findings.
     fn begin(&self) -> Result<(), Failure<'static>> {
-        if self.shows_findings(Format::Sarif) {
+        if self.is_sarif() {
             let text = sarif::beginning(self.rt.alloc())?;
             written(self.rt.stdout().write_all(&text))?;
         }
         Ok(())
     }
 
-    /// Whether findings are written in this format.
-    fn shows_findings(&self, format: Format) -> bool {
-        self.asked.style.format == format
+    /// Whether the findings are a SARIF document.
+    fn is_sarif(&self) -> bool {
+        matches!(self.asked.style.format, Format::Sarif)
             && matches!(self.asked.output, Output::Findings | Output::Fixed)
     }
 
     /// Writes what follows the findings.
     fn end(&mut self) -> Result<(), Failure<'static>> {
         let alloc = self.rt.alloc();
-        if self.shows_findings(Format::Sarif) {
+        if self.is_sarif() {
             written(self.rt.stdout().write_all(sarif::END.as_bytes()))?;
         }
-        if self.asked.output == Output::Statistics {
+        if matches!(self.asked.output, Output::Statistics) {
             let text = self.report.statistics(alloc)?;
             written(self.rt.stdout().write_all(&text))?;
         }
@@ -649,14 +723,14 @@ impl<'c, 't> Checking<'c, 't> {
     fn all(&mut self) -> Result<u8, Failure<'static>> {
         let files = self.first_files()?;
         if files.is_empty() {
-            return Err(Failure::NoFile);
+            return Err(Failure::Whole("Git reads no file here: name one"));
         }
-        let has_stdin = files.iter().any(|name| *name == STDIN);
-        if has_stdin && self.asked.output == Output::Fixed {
-            return Err(Failure::Unchangeable);
+        let has_stdin = files.contains(&STDIN);
+        if has_stdin && matches!(self.asked.output, Output::Fixed) {
+            return Err(Failure::Whole(UNCHANGEABLE));
         }
         if has_stdin && self.rt.stdin().is_terminal() {
-            return Err(Failure::Terminal);
+            return Err(Failure::Whole(TERMINAL));
         }
         self.begin()?;
         for file in &files {
@@ -690,30 +764,25 @@ fn options_of<'t>(
 pub(crate) fn check<'m, 't>(
     rt: &'t HostRuntime,
     texts: &'t Bump,
-    all: Rows<'m, '_>,
+    all: AllRows<'m, '_>,
     asked: &Asked<'_, 'm>,
 ) -> Result<u8, Failure<'m>> {
     let alloc = rt.alloc();
-    let Rows { rows, musts } = all;
     let baseline = match asked.baseline {
         Some(file) => Some(fingerprints(rt, file)?),
         None => None,
     };
     let disk = Disk::new(rt, texts);
-    let options = options_of(&disk, asked)?;
-    let surroundings = Surroundings::new(&disk, Followed::Everything)?;
-    let judge = Judge::new(alloc, &rows)?;
-    let report = Report::new(alloc, asked, &rows, baseline)?;
     let mut checking = Checking {
         rt,
-        rows: &rows,
-        judge: &judge,
-        musts,
-        asked,
-        options,
-        report,
+        rows: all.rows,
+        by_sections: FEW_FILES,
+        musts: all.musts,
+        asked: *asked,
+        options: options_of(&disk, asked)?,
+        report: Report::new(alloc, asked, baseline)?,
+        surroundings: Surroundings::new(&disk, Followed::Everything)?,
         disk,
-        surroundings,
         seen: BTreeSet::new(alloc),
         open: Vec::new(alloc),
         outcome: Outcome::default(),

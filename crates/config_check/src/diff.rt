@@ -1,8 +1,10 @@
 //! What changes turn a text into, as a unified diff.
 
 use crate::changes::Mended;
-use crate::text::{push, push_number};
+use crate::text::{put, put_number};
+use config_checks::setting::first_line;
 use config_file::Entries;
+use config_host::text::Text;
 use std::alloc::{AllocError, Global};
 
 /// How many lines around a change are shown.
@@ -10,9 +12,9 @@ const CONTEXT: usize = 3;
 
 /// The first and the last line of something, from 1.
 #[derive(Clone, Copy)]
-struct Span {
-    first: usize,
-    last: usize,
+pub(crate) struct Span {
+    pub(crate) first: usize,
+    pub(crate) last: usize,
 }
 
 /// Lines that change: in the old text and in the new one.
@@ -22,7 +24,7 @@ struct Region {
     new: Span,
 }
 
-/// The lines of the entries that change.
+/// The lines of the entries that change, in the text after the change.
 fn spans(alloc: Global, text: &[u8], mended: &[Mended]) -> Result<Vec<Span>, AllocError> {
     let mut all = Vec::new(alloc);
     let mut left = mended;
@@ -32,10 +34,8 @@ fn spans(alloc: Global, text: &[u8], mended: &[Mended]) -> Result<Vec<Span>, All
             break;
         };
         if next.entry == at {
-            let raw = entry.value.map_or(b"".as_slice(), |value| value.raw);
-            let feeds = raw.iter().filter(|byte| **byte == b'\n').count();
             all.push(Span {
-                first: entry.line.saturating_sub(feeds),
+                first: first_line(&entry),
                 last: entry.line,
             })?;
             left = others;
@@ -65,19 +65,13 @@ fn joined(last: &Region, next: &Region) -> Region {
 }
 
 /// The lines of the entries that change, in both texts. Entries that follow each other are one region.
-fn regions(
-    alloc: Global,
-    old: &[u8],
-    new: &[u8],
-    mended: &[Mended],
-) -> Result<Vec<Region>, AllocError> {
+fn regions(alloc: Global, new: &[u8], mended: &[Mended]) -> Result<Vec<Region>, AllocError> {
     let mut all = Vec::new(alloc);
     let mut held: Option<Region> = None;
-    let olds = spans(alloc, old, mended)?;
     let news = spans(alloc, new, mended)?;
-    for (old, new) in olds.iter().zip(news.iter()) {
+    for (change, new) in mended.iter().zip(news.iter()) {
         let next = Region {
-            old: *old,
+            old: change.span,
             new: *new,
         };
         held = Some(match held {
@@ -104,42 +98,32 @@ fn lines_of(alloc: Global, text: &[u8]) -> Result<Vec<&[u8]>, AllocError> {
     Ok(lines)
 }
 
-/// The two texts, as lines.
-#[derive(Drop)]
-struct Texts<'t> {
-    old: Vec<&'t [u8]>,
-    new: Vec<&'t [u8]>,
+/// How many lines there are from the first to the last one.
+fn count_of(span: Span) -> usize {
+    span.last.saturating_add(1).saturating_sub(span.first)
 }
 
 /// Appends lines behind a sign.
-fn push_lines(
-    out: &mut Vec<u8>,
-    sign: &str,
-    lines: &[&[u8]],
-    span: Span,
-) -> Result<(), AllocError> {
-    let count = span.last.saturating_add(1).saturating_sub(span.first);
+fn put_lines(out: &mut Text, sign: u8, lines: &[&[u8]], span: Span) {
     let passed = span.first.saturating_sub(1);
-    for line in lines.iter().skip(passed).take(count) {
-        push(out, sign)?;
-        out.extend_from_slice(line)?;
+    for line in lines.iter().skip(passed).take(count_of(span)) {
+        out.put_byte(sign);
+        out.put(line);
         if !line.ends_with(b"\n") {
-            push(out, "\n\\ No newline at end of file\n")?;
+            put(out, "\n\\ No newline at end of file\n");
         }
     }
-    Ok(())
 }
 
 /// Appends a place of a hunk.
-fn push_range(out: &mut Vec<u8>, sign: &str, span: Span) -> Result<(), AllocError> {
-    let count = span.last.saturating_add(1).saturating_sub(span.first);
-    push(out, sign)?;
-    push_number(out, span.first)?;
+fn put_range(out: &mut Text, sign: &str, span: Span) {
+    let count = count_of(span);
+    put(out, sign);
+    put_number(out, span.first);
     if count != 1 {
-        push(out, ",")?;
-        push_number(out, count)?;
+        put(out, ",");
+        put_number(out, count);
     }
-    Ok(())
 }
 
 /// The lines of a text that a hunk shows, of which these change.
@@ -151,30 +135,30 @@ fn shown(lines: &[&[u8]], first: Span, last: Span) -> Span {
 }
 
 /// Appends a hunk, which shows these regions.
-fn push_hunk(out: &mut Vec<u8>, texts: &Texts<'_>, regions: &[Region]) -> Result<(), AllocError> {
+fn put_hunk(out: &mut Text, old: &[&[u8]], new: &[&[u8]], regions: &[Region]) {
     let (Some(first), Some(last)) = (regions.first(), regions.last()) else {
-        return Ok(());
+        return;
     };
-    let old = shown(&texts.old, first.old, last.old);
-    push_range(out, "@@ -", old)?;
-    push_range(out, " +", shown(&texts.new, first.new, last.new))?;
-    push(out, " @@\n")?;
-    let mut next = old.first;
+    let whole = shown(old, first.old, last.old);
+    put_range(out, "@@ -", whole);
+    put_range(out, " +", shown(new, first.new, last.new));
+    put(out, " @@\n");
+    let mut next = whole.first;
     for region in regions {
         let before = Span {
             first: next,
             last: region.old.first.saturating_sub(1),
         };
-        push_lines(out, " ", &texts.old, before)?;
-        push_lines(out, "-", &texts.old, region.old)?;
-        push_lines(out, "+", &texts.new, region.new)?;
+        put_lines(out, b' ', old, before);
+        put_lines(out, b'-', old, region.old);
+        put_lines(out, b'+', new, region.new);
         next = region.old.last.saturating_add(1);
     }
     let behind = Span {
         first: next,
-        last: old.last,
+        last: whole.last,
     };
-    push_lines(out, " ", &texts.old, behind)
+    put_lines(out, b' ', old, behind);
 }
 
 /// How many of the regions one hunk shows.
@@ -194,40 +178,57 @@ fn together(regions: &[Region]) -> usize {
     count
 }
 
+/// Whether a byte of a name is escaped, and the name stands in quotes.
+fn is_escaped(byte: u8) -> bool {
+    byte.is_ascii_control() || byte == b'"' || byte == b'\\'
+}
+
 /// Whether a name is written in quotes.
 fn is_quoted(name: &[u8]) -> bool {
-    name.iter().any(|byte| byte.is_ascii_control() || *byte == b'"' || *byte == b'\\')
+    for byte in name {
+        if is_escaped(*byte) {
+            return true;
+        }
+    }
+    false
 }
 
 /// Appends a byte of a name in quotes.
-fn push_quoted(out: &mut Vec<u8>, byte: u8) -> Result<(), AllocError> {
-    match byte {
-        b'"' => push(out, "\\\""),
-        b'\\' => push(out, "\\\\"),
-        byte if byte.is_ascii_control() => {
-            let digits = [b'0' + byte / 64, b'0' + byte / 8 % 8, b'0' + byte % 8];
-            push(out, "\\")?;
-            out.extend_from_slice(&digits)
-        }
-        byte => out.extend_from_slice(&[byte]),
+fn put_quoted(out: &mut Text, byte: u8) {
+    if !is_escaped(byte) {
+        out.put_byte(byte);
+    } else if byte.is_ascii_control() {
+        out.put(&[
+            b'\\',
+            b'0' + byte / 64,
+            b'0' + byte / 8 % 8,
+            b'0' + byte % 8,
+        ]);
+    } else {
+        out.put(&[b'\\', byte]);
     }
 }
 
 /// Appends a line with the name of the file, behind `a/` or `b/`, as Git does.
-fn push_name(out: &mut Vec<u8>, front: &str, file: &str) -> Result<(), AllocError> {
+fn put_name(out: &mut Text, sign: &str, front: &str, file: &str) {
     let name = file.as_bytes();
     let name = name.strip_prefix(b"/").unwrap_or(name);
-    push(out, front)?;
-    if is_quoted(name) {
+    let is_quoted = is_quoted(name);
+    put(out, sign);
+    if is_quoted {
+        put(out, "\"");
+    }
+    put(out, front);
+    if is_quoted {
         for byte in name {
-            push_quoted(out, *byte)?;
+            put_quoted(out, *byte);
         }
-        push(out, "\"")?;
+        put(out, "\"");
     } else {
-        out.extend_from_slice(name)?;
+        out.put(name);
     }
     // a TAB ends a name with blanks
-    push(out, if name.contains(&b' ') { "\t\n" } else { "\n" })
+    put(out, if name.contains(&b' ') { "\t\n" } else { "\n" });
 }
 
 /// The diff of a file whose text these changes turn into the new text.
@@ -238,20 +239,17 @@ pub(crate) fn diff_of(
     new: &[u8],
     mended: &[Mended],
 ) -> Result<Vec<u8>, AllocError> {
-    let mut out = Vec::new(alloc);
-    let quote = is_quoted(file.as_bytes());
-    push_name(&mut out, if quote { "--- \"a/" } else { "--- a/" }, file)?;
-    push_name(&mut out, if quote { "+++ \"b/" } else { "+++ b/" }, file)?;
-    let texts = Texts {
-        old: lines_of(alloc, old)?,
-        new: lines_of(alloc, new)?,
-    };
-    let all = regions(alloc, old, new, mended)?;
+    let mut out = Text::new(alloc);
+    put_name(&mut out, "--- ", "a/", file);
+    put_name(&mut out, "+++ ", "b/", file);
+    let all = regions(alloc, new, mended)?;
+    let old = lines_of(alloc, old)?;
+    let new = lines_of(alloc, new)?;
     let mut left = all.as_slice();
     for _ in 0..all.len() {
         let (hunk, others) = left.split_at(together(left).min(left.len()));
-        push_hunk(&mut out, &texts, hunk)?;
+        put_hunk(&mut out, &old, &new, hunk);
         left = others;
     }
-    Ok(out)
+    out.end()
 }

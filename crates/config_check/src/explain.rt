@@ -1,54 +1,50 @@
 //! What the codes of findings mean.
 
 use crate::failure::{Failure, written};
-use crate::options::code_of;
-use config_checks::code::Code;
-use std::alloc::{AllocError, Global};
+use crate::text::put;
+use config_checks::code::{EXPLAINED, Explained};
+use config_host::text::Text;
 use std::io::Write;
 
 /// Appends lines, each behind four spaces.
-fn push_indented(out: &mut String, lines: &str) -> Result<(), AllocError> {
+fn put_indented(out: &mut Text, lines: &str) {
     for line in lines.lines() {
-        out.push_str("    ")?;
-        out.push_str(line)?;
-        out.push_str("\n")?;
+        put(out, "    ");
+        put(out, line);
+        put(out, "\n");
     }
-    Ok(())
 }
 
-/// A code, with what it means.
-fn line_of(alloc: Global, code: Code) -> Result<String, AllocError> {
-    let (name, meaning) = (code.name(), code.meaning());
-    format!(in alloc; "{name}: {meaning}\n")
+/// Appends a code, with what it means.
+fn put_meaning(out: &mut Text, row: &Explained) {
+    put(out, row.code.name());
+    put(out, ": ");
+    put(out, row.meaning);
+    put(out, "\n");
 }
 
-/// What `--explain` writes about a code.
-fn text_of(alloc: Global, code: Code) -> Result<String, AllocError> {
-    let (wrong, right) = code.example();
-    let mut text = line_of(alloc, code)?;
-    text.push_str("\nwrong:\n")?;
-    push_indented(&mut text, wrong)?;
-    text.push_str("right:\n")?;
-    push_indented(&mut text, right)?;
-    Ok(text)
-}
-
-/// All codes, each with what it means.
-fn list(alloc: Global) -> Result<String, AllocError> {
-    let mut text = String::new(alloc);
-    for code in Code::ALL {
-        text.push_str(&line_of(alloc, *code)?)?;
-    }
-    Ok(text)
+/// Appends an example of a code.
+fn put_example(out: &mut Text, row: &Explained) {
+    put(out, "\nwrong:\n");
+    put_indented(out, row.wrong);
+    put(out, "right:\n");
+    put_indented(out, row.right);
 }
 
 /// Writes what the code of this name means, with an example, or lists all codes. Returns the exit status.
 pub(crate) fn explain<'m>(rt: &HostRuntime, name: &'m str) -> Result<u8, Failure<'m>> {
-    let text = match code_of(name) {
-        Some(code) => text_of(rt.alloc(), code)?,
-        None if name == "all" => list(rt.alloc())?,
-        None => return Err(Failure::NoCode(name)),
-    };
-    written(rt.stdout().write_all(text.as_bytes()))?;
+    let mut text = Text::new(rt.alloc());
+    for row in EXPLAINED {
+        if name == "all" {
+            put_meaning(&mut text, row);
+        } else if row.code.name() == name {
+            put_meaning(&mut text, row);
+            put_example(&mut text, row);
+        }
+    }
+    if text.len() == 0 {
+        return Err(Failure::Argument("no such code: ", name, "; --explain all lists them"));
+    }
+    written(rt.stdout().write_all(text.so_far()?))?;
     Ok(0)
 }

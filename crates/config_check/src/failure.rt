@@ -2,6 +2,7 @@
 
 use config_checks::check::CheckError;
 use config_checks::finding::push_shown;
+use config_host::options::Misuse;
 use config_host::{ArgumentError, HostError, ReadError};
 use std::alloc::{AllocError, Global};
 use std::io::{self, ErrorKind, Write};
@@ -14,6 +15,14 @@ use thiserror::Error;
 pub(crate) enum Failure<'m> {
     #[error("cannot read the arguments: {0}")]
     Arguments(ArgumentError),
+    #[error("{0}")]
+    Misuse(Misuse<'m>),
+    /// An argument is wrong, for this reason: what is said before it and behind it.
+    #[error("{0}{1}{2}")]
+    Argument(&'static str, &'m str, &'static str),
+    /// The arguments are wrong together, or name no files, for this reason.
+    #[error("{0}")]
+    Whole(&'static str),
     #[error("cannot read {file}: {error}")]
     File {
         file: &'m str,
@@ -25,35 +34,19 @@ pub(crate) enum Failure<'m> {
         line: usize,
         why: String,
     },
-    #[error("cannot read .gitconfig-check: {0}")]
-    Shared(ReadError),
     #[error("{file}:{line}: not a finding of --format json")]
     Baseline {
         file: &'m str,
         line: usize,
     },
-    #[error("not a version of Git, as 2.39 is: {0}")]
-    Version(&'m str),
-    #[error("neither a code nor a key: {0}")]
-    Ignored(&'m str),
-    #[error("no such code: {0}; --explain all lists them")]
-    NoCode(&'m str),
-    #[error("only one of --fix, --diff and --statistics")]
-    Apart,
-    #[error("--fix changes only files that are named: name one")]
-    NoneNamed,
-    #[error("--fix cannot change standard input: try --diff")]
-    Unchangeable,
+    #[error("cannot read .gitconfig-check: {0}")]
+    Shared(ReadError),
     #[error("cannot find the files that Git reads here: {0}")]
     Here(#[from] HostError),
     #[error("cannot write: {0}")]
     Write(io::Error),
     #[error("no memory")]
     Memory(#[from] AllocError),
-    #[error("Git reads no file here: name one")]
-    NoFile,
-    #[error("standard input is a terminal: name a file, or redirect one: config_check - < FILE")]
-    Terminal,
 }
 
 impl Failure<'_> {

@@ -1,12 +1,13 @@
 //! What to write in place of a value that the reader of a boolean, an integer or a color refuses, and which
 //! slots there are in place of an unknown one.
 
-use crate::text::{push, push_number};
+use crate::text::{put, put_number, put_shown};
 use config_checks::code::Code;
-use config_checks::finding::{Finding, push_shown};
+use config_checks::finding::Finding;
 use config_checks::reason::nearest_word;
 use config_checks::row::Row;
 use config_file::key::Key;
+use config_host::text::Text;
 use gix_config_value::canonical::TryRead;
 use gix_config_value::integer::Amount;
 use gix_config_value::{Color, Fault};
@@ -99,8 +100,13 @@ fn nearest<'w>(
 }
 
 /// Whether one of the words is this text, ignoring ASCII case.
-fn has(words: &[&[u8]], text: &[u8]) -> bool {
-    words.iter().any(|word| word.eq_ignore_ascii_case(text))
+pub(crate) fn has(words: &[&[u8]], text: &[u8]) -> bool {
+    for word in words {
+        if word.eq_ignore_ascii_case(text) {
+            return true;
+        }
+    }
+    false
 }
 
 /// The boolean that is meant by a text.
@@ -124,12 +130,13 @@ fn boolean(alloc: Global, text: &[u8]) -> Result<Option<Meant>, AllocError> {
 /// The number without what Git does not read in it: blanks, `_` and `,`, and the bytes of a unit, as in
 /// `500MB`.
 fn number(alloc: Global, text: &[u8]) -> Result<Option<Meant>, AllocError> {
-    let mut plain = Vec::new(alloc);
+    let mut plain = Text::new(alloc);
     for byte in text {
         if !matches!(*byte, b' ' | b'\t' | b'_' | b',') {
-            plain.push(byte.to_ascii_lowercase())?;
+            plain.put_byte(byte.to_ascii_lowercase());
         }
     }
+    let mut plain = plain.end()?;
     for unit in [b"ib".as_slice(), b"b".as_slice()] {
         if let Some(front) = plain.strip_suffix(unit) {
             let end = front.len();
@@ -155,51 +162,41 @@ fn wrong_word(text: &[u8]) -> Option<&[u8]> {
         .find(|word| Color::try_read(word).is_err())
 }
 
-/// A color in which `-`, `_`, `,`, `+` and `/` separate words, if that makes it right.
-fn separated(alloc: Global, text: &[u8]) -> Result<Option<Vec<u8>>, AllocError> {
-    let mut words = Vec::new(alloc);
-    for byte in text {
-        match *byte {
-            b'-' | b'_' | b',' | b'+' | b'/' => words.push(b' ')?,
-            byte => words.push(byte.to_ascii_lowercase())?,
-        }
-    }
-    let words = words.trim_ascii();
-    if Color::try_read(words).is_err() {
-        return Ok(None);
-    }
-    let mut single: Vec<u8> = Vec::new(alloc);
-    for word in words.split(|byte| byte.is_ascii_whitespace()) {
-        if word.is_empty() {
-            continue;
-        }
-        if !single.is_empty() {
-            single.push(b' ')?;
-        }
-        single.extend_from_slice(word)?;
-    }
-    Ok(Some(single))
-}
-
-/// The color with another word in place of the first one that is none.
+/// The words of a text, with one space between them, and with another word in place of the first that is wrong.
 fn replaced(alloc: Global, text: &[u8], wrong: &[u8], word: &[u8]) -> Result<Vec<u8>, AllocError> {
-    let mut color: Vec<u8> = Vec::new(alloc);
+    let mut color = Text::new(alloc);
     let mut is_done = false;
     for part in text.split(|byte| byte.is_ascii_whitespace()) {
         if part.is_empty() {
             continue;
         }
-        if !color.is_empty() {
-            color.push(b' ')?;
+        if color.len() > 0 {
+            color.put_byte(b' ');
         }
         if !is_done && part == wrong {
-            color.extend_from_slice(word)?;
+            color.put(word);
             is_done = true;
         } else {
-            color.extend_from_slice(part)?;
+            color.put(part);
         }
     }
-    Ok(color)
+    color.end()
+}
+
+/// A color in which `-`, `_`, `,`, `+` and `/` separate words, if that makes it right.
+fn separated(alloc: Global, text: &[u8]) -> Result<Option<Vec<u8>>, AllocError> {
+    let mut words = Text::new(alloc);
+    for byte in text {
+        words.put_byte(match *byte {
+            b'-' | b'_' | b',' | b'+' | b'/' => b' ',
+            byte => byte.to_ascii_lowercase(),
+        });
+    }
+    let color = replaced(alloc, words.so_far()?, b"", b"")?;
+    if Color::try_read(&color).is_err() {
+        return Ok(None);
+    }
+    Ok(Some(color))
 }
 
 /// The color that is meant by a text in which this word is none.
@@ -285,33 +282,39 @@ fn slots<'r>(
     Ok(names)
 }
 
+/// The key of a finding about a slot that no row has, if it has a subsection and no other key is suggested.
+fn unknown_slot<'f>(finding: &Finding<'f>) -> Option<Key<'f>> {
+    if !matches!(finding.code, Code::UnknownKey) || finding.suggested_key.is_some() {
+        return None;
+    }
+    let key = Key::split(finding.key?)?;
+    key.subsection()?;
+    Some(key)
+}
+
 /// Appends which slots the rows have, if a finding is about an unknown slot and suggests none.
-pub(crate) fn push_slots(
-    reason: &mut Vec<u8>,
+pub(crate) fn put_slots(
+    alloc: Global,
+    reason: &mut Text,
     rows: &[Row<'_>],
     finding: &Finding<'_>,
 ) -> Result<(), AllocError> {
-    if finding.code != Code::UnknownKey || finding.suggested_key.is_some() {
-        return Ok(());
-    }
-    let Some(key) = finding.key.and_then(|key| Key::split(key)) else {
+    let Some(subsection) = unknown_slot(finding).and_then(|key| key.subsection()) else {
         return Ok(());
     };
-    let Some(subsection) = key.subsection() else {
-        return Ok(());
-    };
-    push(reason, "; color.")?;
-    push_shown(reason, subsection)?;
-    push(reason, " has: ")?;
-    let names = slots(*reason.allocator(), rows, subsection)?;
-    for (place, name) in names.iter().take(MOST_SLOTS).enumerate() {
-        push(reason, if place > 0 { ", " } else { "" })?;
-        push_shown(reason, name)?;
+    put(reason, "; color.");
+    put_shown(reason, subsection);
+    let names = slots(alloc, rows, subsection)?;
+    let mut front = " has: ";
+    for name in names.iter().take(MOST_SLOTS) {
+        put(reason, front);
+        put_shown(reason, name);
+        front = ", ";
     }
     if names.len() > MOST_SLOTS {
-        push(reason, " and ")?;
-        push_number(reason, names.len().saturating_sub(MOST_SLOTS))?;
-        push(reason, " more")?;
+        put(reason, " and ");
+        put_number(reason, names.len().saturating_sub(MOST_SLOTS));
+        put(reason, " more");
     }
     Ok(())
 }

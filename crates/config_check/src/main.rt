@@ -19,59 +19,65 @@ mod text;
 
 use crate::checking::check;
 use crate::explain::explain;
-use crate::failure::{Failure, status};
-use crate::options::{Asked, command, ignored_by};
-use crate::rows::all_rows;
+use crate::failure::{Failure, status, written};
+use crate::options::{ABOUT, Asked, TABLES, VERSION, check_once, ignored_by, values_of};
+use crate::rows::rows_of;
 use bumpalo::Bump;
-use clap::ArgMatches;
 use config_host::arguments;
+use config_host::options::{Ends, Options, help, read};
+use std::alloc::{AllocError, Global};
+use std::io::Write;
 use std::process::ExitCode;
 
-/// Does what the arguments ask for, and keeps what it reads in `texts`. Returns the exit status.
-fn run_in<'m, 't>(
-    rt: &'t HostRuntime,
-    texts: &'t Bump,
-    matches: &ArgMatches<'m>,
-) -> Result<u8, Failure<'m>> {
-    if let Some(name) = matches.get_str("explain") {
-        return explain(rt, name);
-    }
-    let ignored = ignored_by(rt.alloc(), matches.get_strs("ignore").unwrap_or(&[]))?;
-    let asked = Asked::of(rt, matches, &ignored)?;
-    let rows = all_rows(
-        rt,
-        texts,
-        asked.git,
-        matches.get_strs("settings").unwrap_or(&[]),
-    )?;
-    check(rt, texts, rows, &asked)
-}
-
-/// Does what the arguments ask for, with memory for what is read.
-fn run<'m>(rt: &HostRuntime, matches: &ArgMatches<'m>) -> Result<u8, Failure<'m>> {
+/// Checks what the options ask for, and returns the exit status.
+fn run_check<'m>(rt: &HostRuntime, options: &Options<'m>) -> Result<u8, Failure<'m>> {
     let texts = Bump::new(rt.alloc());
-    run_in(rt, &texts, matches)
+    let ignored = ignored_by(rt.alloc(), &values_of(rt.alloc(), options, "ignore")?)?;
+    let asked = Asked::of(rt, options, &ignored)?;
+    let files = values_of(rt.alloc(), options, "settings")?;
+    let rows = rows_of(rt, &texts, asked.git, &files)?;
+    check(rt, &texts, rows, &asked)
 }
 
-/// Prints the usage, the version, or what is wrong with the arguments.
-fn print_usage(rt: &HostRuntime, error: &clap::Error) -> Result<u8, Failure<'static>> {
-    match error.print(rt) {
-        Ok(()) => Ok(error.exit_code() as u8),
-        Err(error) => Err(Failure::Write(error)),
+/// Does what the options ask for, and returns the exit status.
+fn run<'m>(rt: &HostRuntime, options: &Options<'m>) -> Result<u8, Failure<'m>> {
+    if options.has("help") {
+        let text = help(rt.alloc(), &ABOUT, TABLES)?;
+        written(rt.stdout().write_all(&text))?;
+        return Ok(0);
+    }
+    if options.has("version") {
+        written(println!(rt; "config_check {VERSION}"))?;
+        return Ok(0);
+    }
+    check_once(&options.given)?;
+    match options.last("explain") {
+        Some(name) => explain(rt, name),
+        None => run_check(rt, options),
+    }
+}
+
+/// The arguments as words, without the name of the program.
+fn words_of(alloc: Global, arguments: &[String]) -> Result<Vec<&str>, AllocError> {
+    let mut words = Vec::new(alloc);
+    for argument in arguments.iter().skip(1) {
+        words.push(argument.as_str())?;
+    }
+    Ok(words)
+}
+
+/// Does what the arguments ask for, and returns the exit status.
+fn run_arguments<'m>(rt: &HostRuntime, arguments: &'m [String]) -> Result<u8, Failure<'m>> {
+    let words = words_of(rt.alloc(), arguments)?;
+    match read(rt.alloc(), TABLES, &words, Ends::Nowhere)? {
+        Ok(options) => run(rt, &options),
+        Err(misuse) => Err(Failure::Misuse(misuse)),
     }
 }
 
 fn main(rt: HostRuntime) -> ExitCode {
-    let arguments = match arguments(&rt) {
-        Ok(arguments) => arguments,
-        Err(error) => return status(&rt, Err(Failure::Arguments(error))),
-    };
-    let command = match command(rt.alloc()) {
-        Ok(command) => command,
-        Err(error) => return status(&rt, Err(Failure::Memory(error))),
-    };
-    match command.try_get_matches_from(arguments.as_slice()) {
-        Ok(matches) => status(&rt, run(&rt, &matches)),
-        Err(error) => status(&rt, print_usage(&rt, &error)),
+    match arguments(&rt) {
+        Ok(arguments) => status(&rt, run_arguments(&rt, &arguments)),
+        Err(error) => status(&rt, Err(Failure::Arguments(error))),
     }
 }

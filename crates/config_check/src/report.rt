@@ -1,23 +1,25 @@
 //! Decides about each finding whether it is reported, mended or hidden, and writes it.
 ghost use Rattle.std.specs.Prelude.{None};
 
-use crate::annotations::push_annotation;
+use crate::annotations::put_annotation;
 use crate::causes::Cause;
 use crate::changes::Mender;
-use crate::hints::{Hint, hint_for, push_slots};
+use crate::hints::{Hint, hint_for, put_slots};
 use crate::options::{Asked, Format, Ignored, Output, Style};
-use crate::sarif::push_result;
+use crate::sarif::result_of;
 use crate::source::{Source, Spot};
-use crate::text::{push, push_hint, push_number, push_text};
+use crate::text::{put, put_hint, put_number, put_text};
 use config_checks::check::{CheckError, Counts, Receiver};
-use config_checks::code::Code;
+use config_checks::code::{Code, EXPLAINED};
 use config_checks::finding::Finding;
 use config_checks::fingerprint::{fingerprint, is_known};
 use config_checks::json_line::json_text;
 use config_checks::key::covers;
 use config_checks::reason::Severity;
 use config_checks::row::Row;
+use config_checks::setting::Setting;
 use config_file::key::Key;
+use config_host::text::Text;
 use std::alloc::{AllocError, Global};
 use std::collections::{BTreeMap, BTreeSet};
 use std::io::{self, Write};
@@ -52,8 +54,6 @@ impl Hidden {
 /// What a run reports of its findings.
 #[derive(Drop)]
 pub(crate) struct Report<'c> {
-    /// The rows of the run.
-    rows: &'c [Row<'c>],
     pub(crate) style: Style,
     pub(crate) output: Output,
     pub(crate) ignored: &'c [Ignored<'c>],
@@ -76,33 +76,18 @@ struct Counted {
     count: u64,
 }
 
-/// What is told of a finding beyond what the check says: its line, its reason and a value.
-#[derive(Drop)]
-struct Told {
-    line: usize,
-    reason: Vec<u8>,
-    meant: Option<Vec<u8>>,
-    /// Whether nothing else is as near as the value.
-    is_sure: bool,
-}
-
-/// What is told of a finding about an entry: what is known of its value, and the slots that rows have.
-fn told_of_entry(
+/// The reason of a finding about an entry, with what is known of its value, and the slots that rows have.
+fn reason_of_entry(
     alloc: Global,
     rows: &[Row<'_>],
     finding: &Finding<'_>,
-    hint: Hint<'_>,
-    line: usize,
-) -> Result<Told, AllocError> {
-    let mut reason = finding.reason.to_vec(alloc)?;
-    push_hint(&mut reason, &hint)?;
-    push_slots(&mut reason, rows, finding)?;
-    Ok(Told {
-        line,
-        reason,
-        is_sure: hint.is_sure,
-        meant: hint.meant,
-    })
+    hint: &Hint<'_>,
+) -> Result<Vec<u8>, AllocError> {
+    let mut reason = Text::new(alloc);
+    reason.put(finding.reason);
+    put_hint(&mut reason, hint);
+    put_slots(alloc, &mut reason, rows, finding)?;
+    reason.end()
 }
 
 /// What is told of a line that Git cannot read: the reason and the cause.
@@ -111,22 +96,29 @@ fn reason_of_line(
     finding: &Finding<'_>,
     cause: &Cause,
 ) -> Result<Vec<u8>, AllocError> {
-    let mut reason = finding.reason.to_vec(alloc)?;
+    let mut reason = Text::new(alloc);
+    reason.put(finding.reason);
     if let Some(why) = cause.why {
-        push(&mut reason, ": ")?;
-        push(&mut reason, why)?;
+        put(&mut reason, ": ");
+        put(&mut reason, why);
     }
-    Ok(reason)
+    reason.end()
 }
 
 /// Whether the findings with this code and key are ignored.
 fn is_ignored(ignored: &[Ignored<'_>], finding: &Finding<'_>) -> bool {
     let key = finding.key.and_then(|key| Key::split(key));
-    ignored.iter().any(|one| match (one, &key) {
-        (Ignored::Code(code), _) => *code == finding.code,
-        (Ignored::Key(ignored), Some(key)) => covers(ignored, key),
-        (Ignored::Key(_), None) => false,
-    })
+    for one in ignored {
+        let is_this = match (one, &key) {
+            (Ignored::Code(code), _) => *code == finding.code,
+            (Ignored::Key(ignored), Some(key)) => covers(ignored, key),
+            (Ignored::Key(_), None) => false,
+        };
+        if is_this {
+            return true;
+        }
+    }
+    false
 }
 
 /// How many findings before this one have the same file, code, key and value, by what was seen so far.
@@ -150,14 +142,12 @@ impl<'c> Report<'c> {
     /// A report without a finding so far.
     pub(crate) fn new(
         alloc: Global,
-        asked: &'c Asked<'_, 'c>,
-        rows: &'c [Row<'c>],
+        asked: &Asked<'c, 'c>,
         baseline: Option<BTreeSet<String>>,
     ) -> Result<Report<'c>, AllocError> {
         let mut counts = Vec::new(alloc);
-        counts.resize(Code::ALL.len(), 0)?;
+        counts.resize(EXPLAINED.len(), 0)?;
         Ok(Report {
-            rows,
             style: asked.style,
             output: asked.output,
             ignored: asked.ignored,
@@ -177,34 +167,33 @@ impl<'c> Report<'c> {
 
     /// Counts a finding of this code that is reported.
     fn count(&mut self, code: Code) {
-        let Some(place) = Code::ALL.iter().position(|other| *other == code) else {
-            return;
-        };
-        if let Some(count) = self.counts.get_mut(place) {
-            *count = count.saturating_add(1);
+        for (row, count) in EXPLAINED.iter().zip(self.counts.iter_mut()) {
+            if row.code == code {
+                *count = count.saturating_add(1);
+            }
         }
     }
 
     /// The lines of `--statistics`: how many findings each code has that has one, the most first.
     pub(crate) fn statistics(&self, alloc: Global) -> Result<Vec<u8>, AllocError> {
         let mut all = Vec::new(alloc);
-        for (code, count) in Code::ALL.iter().zip(self.counts.iter()) {
+        for (row, count) in EXPLAINED.iter().zip(self.counts.iter()) {
             all.push(Counted {
-                code: *code,
+                code: row.code,
                 count: *count,
             })?;
         }
         all.sort_by_key(|one| u64::MAX - one.count)?;
-        let mut text = Vec::new(alloc);
+        let mut text = Text::new(alloc);
         for one in &all {
             if one.count > 0 {
-                push_number(&mut text, one.count as usize)?;
-                push(&mut text, "\t")?;
-                push(&mut text, one.code.name())?;
-                push(&mut text, "\n")?;
+                put_number(&mut text, one.count as usize);
+                put(&mut text, "\t");
+                put(&mut text, one.code.name());
+                put(&mut text, "\n");
             }
         }
-        Ok(text)
+        text.end()
     }
 }
 
@@ -212,30 +201,16 @@ impl<'c> Report<'c> {
 #[derive(Drop)]
 pub(crate) struct Lines<'l, 's, 'r, 'c, W: Write> {
     pub(crate) alloc: Global,
-    pub(crate) report: &'r mut Report<'c>,
+    /// The rows by which the file is checked.
+    pub(crate) rows: &'r [Row<'r>],
+    pub(crate) report: &'s mut Report<'c>,
     pub(crate) source: &'s mut Source<'l>,
     /// What looks for changes, if the file may be changed.
-    pub(crate) mender: Option<Mender<'c, 'l>>,
+    pub(crate) mender: Option<Mender<'r>>,
     pub(crate) writer: W,
 }
 
 impl<W: Write> Lines<'_, '_, '_, '_, W> {
-    /// Whether a finding is in the baseline.
-    fn is_hidden(&self, finding: &Finding<'_>, equal: u64) -> Result<bool, AllocError> {
-        let Some(baseline) = &self.report.baseline else {
-            return Ok(false);
-        };
-        is_known(self.alloc, baseline, equal, finding)
-    }
-
-    /// Takes note of the change that mends a finding, if changes are looked for.
-    fn mend(&mut self, finding: &Finding<'_>) -> Result<(), AllocError> {
-        match &mut self.mender {
-            Some(mender) => mender.mend(finding),
-            None => Ok(()),
-        }
-    }
-
     /// How many findings before this one have the same file, code, key and value, if that is asked for.
     fn equal(&mut self, finding: &Finding<'_>) -> Result<u64, AllocError> {
         if !self.report.needs_fingerprints() {
@@ -254,52 +229,57 @@ impl<W: Write> Lines<'_, '_, '_, '_, W> {
         spot: &Spot<'_>,
         equal: u64,
     ) -> Result<Vec<u8>, AllocError> {
-        let mut out = Vec::new(self.alloc);
+        let mut out = Text::new(self.alloc);
         match self.report.style.format {
-            Format::Text => push_text(&mut out, self.report.style, finding, spot)?,
+            Format::Text => put_text(self.alloc, &mut out, self.report.style, finding, spot)?,
             Format::Json => {
-                out.extend_from_slice(&json_text(self.alloc, spot.column, equal, finding)?)?;
-                push(&mut out, "\n")?;
+                out.put(&json_text(self.alloc, spot.column, equal, finding)?);
+                put(&mut out, "\n");
             }
-            Format::Github => push_annotation(&mut out, finding, spot)?,
+            Format::Github => put_annotation(self.alloc, &mut out, finding, spot)?,
             Format::Sarif => {
                 let print = fingerprint(self.alloc, equal, finding)?;
-                push_result(&mut out, finding, spot, &print, self.report.is_first)?;
+                put(&mut out, if self.report.is_first { "\n" } else { ",\n" });
+                out.put(&result_of(self.alloc, finding, spot, &print)?);
                 self.report.is_first = false;
             }
         }
-        Ok(out)
+        out.end()
     }
 
     /// Whether changes are only collected, and nothing is counted or written.
     fn collects(&self) -> bool {
-        self.mender.is_some() && self.report.output == Output::Fixed
+        self.mender.is_some() && matches!(self.report.output, Output::Fixed)
     }
 
-    /// Whether a finding is left out, as one that is ignored or in the baseline.
+    /// Whether a finding is left out, since it is ignored or in the baseline. It is counted as such.
     fn is_left_out(&mut self, finding: &Finding<'_>, equal: u64) -> Result<bool, AllocError> {
-        let is_known = self.is_hidden(finding, equal)?;
         let is_ignored = is_ignored(self.report.ignored, finding);
-        if (is_ignored || is_known) && !self.collects() {
+        let is_left_out = match &self.report.baseline {
+            Some(baseline) if !is_ignored => is_known(self.alloc, baseline, equal, finding)?,
+            _ => is_ignored,
+        };
+        if is_left_out && !self.collects() {
             self.report.hidden.add(finding.severity, is_ignored);
         }
-        Ok(is_ignored || is_known)
+        Ok(is_left_out)
     }
 
     /// What is written about a finding, with all that is told of it: nothing if it is left out, or if changes
-    /// are collected. `is_sure` says whether nothing else is as near as the value that is suggested.
+    /// are collected. `mended` is its setting if its change is sure: nothing else is as near as the value that is
+    /// suggested.
     fn text_for(
         &mut self,
         finding: &Finding<'_>,
         spot: &Spot<'_>,
-        is_sure: bool,
+        mended: Option<&Setting<'_>>,
     ) -> Result<Vec<u8>, AllocError> {
         let equal = self.equal(finding)?;
         if self.is_left_out(finding, equal)? {
             return Ok(Vec::new(self.alloc));
         }
-        if is_sure {
-            self.mend(finding)?;
+        if let (Some(mender), Some(setting)) = (&mut self.mender, mended) {
+            mender.mend(setting, finding)?;
         }
         if self.collects() {
             return Ok(Vec::new(self.alloc));
@@ -312,32 +292,25 @@ impl<W: Write> Lines<'_, '_, '_, '_, W> {
     }
 
     /// What is written about a finding of an entry.
-    fn text_for_entry(&mut self, finding: &Finding<'_>) -> Result<Vec<u8>, AllocError> {
+    fn text_for_entry(
+        &mut self,
+        setting: &Setting<'_>,
+        finding: &Finding<'_>,
+    ) -> Result<Vec<u8>, AllocError> {
         let hint = hint_for(self.alloc, finding)?;
         let spot = self.source.spot(finding, hint.wrong);
-        let told = told_of_entry(self.alloc, self.report.rows, finding, hint, spot.number)?;
-        match &told.meant {
-            Some(meant) => {
-                let whole = Finding {
-                    line: told.line,
-                    reason: &told.reason,
-                    suggested_value: Some(meant),
-                    ..*finding
-                };
-                self.text_for(&whole, &spot, told.is_sure)
-            }
-            None => {
-                let whole = Finding {
-                    line: told.line,
-                    reason: &told.reason,
-                    ..*finding
-                };
-                self.text_for(&whole, &spot, told.is_sure)
-            }
-        }
+        let reason = reason_of_entry(self.alloc, self.rows, finding, &hint)?;
+        let mended = if hint.is_sure { Some(setting) } else { None };
+        let whole = Finding {
+            line: spot.number,
+            reason: &reason,
+            suggested_value: hint.meant.as_deref().or(finding.suggested_value),
+            ..*finding
+        };
+        self.text_for(&whole, &spot, mended)
     }
 
-    /// What is written about a line that Git cannot read.
+    /// What is written about a line that Git cannot read. Nothing of its file is changed.
     fn text_for_line(&mut self, finding: &Finding<'_>) -> Result<Vec<u8>, AllocError> {
         let cause = Cause::of(self.source.text);
         let spot = self.source.spot_of_cause(finding.line, &cause);
@@ -346,7 +319,10 @@ impl<W: Write> Lines<'_, '_, '_, '_, W> {
             reason: &reason,
             ..*finding
         };
-        self.text_for(&whole, &spot, true)
+        if let Some(mender) = &mut self.mender {
+            mender.changes.clear();
+        }
+        self.text_for(&whole, &spot, None)
     }
 
     /// Writes what is still held.
@@ -359,14 +335,37 @@ impl<W: Write> Receiver for Lines<'_, '_, '_, '_, W> {
     ghost received = { λ _. None };
 
     /// Writes what is to be written about a finding.
-    fn receive(&mut self, finding: &Finding<'_>) -> Result<(), CheckError> {
-        let text = match finding.key {
-            Some(_) => self.text_for_entry(finding),
+    fn receive(
+        &mut self,
+        setting: Option<&Setting<'_>>,
+        finding: &Finding<'_>,
+    ) -> Result<(), CheckError> {
+        let text = match setting {
+            Some(setting) => self.text_for_entry(setting, finding),
             None => self.text_for_line(finding),
         };
         match text {
             Ok(text) => self.writer.write_all(&text).map_err(CheckError::Write),
             Err(error) => Err(CheckError::Memory(error)),
+        }
+    }
+}
+
+/// Receives the findings of a check of which the counts alone are wanted. It stops at an unknown key.
+#[derive(Drop)]
+pub(crate) struct Counting;
+
+impl Receiver for Counting {
+    ghost received = { λ _. None };
+
+    fn receive(
+        &mut self,
+        _: Option<&Setting<'_>>,
+        finding: &Finding<'_>,
+    ) -> Result<(), CheckError> {
+        match finding.code {
+            Code::UnknownKey => Err(CheckError::Memory(AllocError)),
+            _ => Ok(()),
         }
     }
 }

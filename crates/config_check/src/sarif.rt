@@ -2,9 +2,10 @@
 
 use crate::options::VERSION;
 use crate::source::Spot;
-use crate::text::{push, push_message, severity_name};
-use config_checks::code::Code;
+use crate::text::{put, put_message, severity_name};
+use config_checks::code::{EXPLAINED, Explained};
 use config_checks::finding::Finding;
+use config_host::text::Text;
 use percent_encoding::{AsciiSet, NON_ALPHANUMERIC, percent_encode};
 use serde_json::{Value, json};
 use std::alloc::{AllocError, Global};
@@ -30,57 +31,56 @@ fn uri_of(alloc: Global, file: &str) -> Result<String, AllocError> {
 }
 
 /// The rule of a code.
-fn rule_of(alloc: Global, code: Code) -> Result<Value, AllocError> {
-    json!(in alloc; { "id": code.name(), "shortDescription": { "text": code.meaning() } })
+fn rule_of(alloc: Global, row: &Explained) -> Result<Vec<u8>, AllocError> {
+    let rule: Value =
+        json!(in alloc; { "id": row.code.name(), "shortDescription": { "text": row.meaning } })?;
+    rule.to_vec(alloc)
 }
 
 /// What the document begins with, up to the results.
 pub(crate) fn beginning(alloc: Global) -> Result<Vec<u8>, AllocError> {
-    let mut text = Vec::new(alloc);
-    push(
+    let mut text = Text::new(alloc);
+    put(
         &mut text,
         "{\"$schema\":\"https://json.schemastore.org/sarif-2.1.0.json\",\"version\":\"2.1.0\",\
          \"runs\":[{\"tool\":{\"driver\":{\"name\":\"config_check\",\"version\":\"",
-    )?;
-    push(&mut text, VERSION)?;
-    push(&mut text, "\",\"rules\":[")?;
-    let mut is_first = true;
-    for code in Code::ALL {
-        push(&mut text, if is_first { "\n" } else { ",\n" })?;
-        is_first = false;
-        text.extend_from_slice(&rule_of(alloc, *code)?.to_vec(alloc)?)?;
+    );
+    put(&mut text, VERSION);
+    put(&mut text, "\",\"rules\":[");
+    let mut front = "\n";
+    for row in EXPLAINED {
+        put(&mut text, front);
+        front = ",\n";
+        text.put(&rule_of(alloc, row)?);
     }
-    push(
+    put(
         &mut text,
         "]}},\"columnKind\":\"unicodeCodePoints\",\"results\":[",
-    )?;
-    Ok(text)
+    );
+    text.end()
 }
 
 /// What the document ends with.
 pub(crate) const END: &str = "\n]}]}\n";
 
-/// Appends the result of a finding with this fingerprint.
-pub(crate) fn push_result(
-    out: &mut Vec<u8>,
+/// The result of a finding with this fingerprint.
+pub(crate) fn result_of(
+    alloc: Global,
     finding: &Finding<'_>,
     spot: &Spot<'_>,
     fingerprint: &str,
-    is_first: bool,
-) -> Result<(), AllocError> {
-    let alloc = *out.allocator();
-    let mut message = Vec::new(alloc);
-    push_message(&mut message, finding)?;
+) -> Result<Vec<u8>, AllocError> {
+    let mut message = Text::new(alloc);
+    put_message(alloc, &mut message, finding)?;
     let result = json!(in alloc; {
         "ruleId": finding.code.name(),
         "level": severity_name(finding.severity),
-        "message": { "text": String::from_utf8_lossy(alloc, &message)? },
+        "message": { "text": String::from_utf8_lossy(alloc, message.so_far()?)? },
         "locations": [{ "physicalLocation": {
             "artifactLocation": { "uri": uri_of(alloc, finding.file)? },
             "region": { "startLine": finding.line, "startColumn": spot.character() }
         } }],
         "partialFingerprints": { "gitConfigCheck/v1": fingerprint }
     })?;
-    push(out, if is_first { "\n" } else { ",\n" })?;
-    out.extend_from_slice(&result.to_vec(alloc)?)
+    result.to_vec(alloc)
 }

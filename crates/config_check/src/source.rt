@@ -2,6 +2,7 @@
 
 use crate::causes::Cause;
 use crate::text::width;
+use bstr::ByteSlice;
 use config_checks::finding::Finding;
 use config_file::key::Key;
 
@@ -32,7 +33,7 @@ pub(crate) struct Spot<'t> {
 }
 
 /// The first bytes of a text.
-fn front(text: &[u8], count: usize) -> &[u8] {
+pub(crate) fn front(text: &[u8], count: usize) -> &[u8] {
     if count < text.len() {
         &text[..count]
     } else {
@@ -66,17 +67,12 @@ impl Spot<'_> {
 
 /// What follows the first line of a text, if it has several.
 fn after_line(text: &[u8]) -> Option<&[u8]> {
-    let end = text.iter().position(|byte| *byte == b'\n')?;
-    Some(&text[end + 1..])
+    Some(behind(text, text.find_byte(b'\n')?.saturating_add(1)))
 }
 
 /// The first line of a text, without its end.
 fn line_of(text: &[u8]) -> &[u8] {
-    let end = text
-        .iter()
-        .position(|byte| *byte == b'\n')
-        .unwrap_or(text.len());
-    let line = &text[..end];
+    let line = front(text, text.find_byte(b'\n').unwrap_or(text.len()));
     line.strip_suffix(b"\r").unwrap_or(line)
 }
 
@@ -110,11 +106,6 @@ fn key_at(line: &[u8]) -> usize {
     at
 }
 
-/// How many bytes of a text precede this part of it, if it has the part.
-fn place_of(text: &[u8], part: &[u8]) -> Option<usize> {
-    (0..text.len()).find(|at| behind(text, *at).starts_with(part))
-}
-
 /// How many bytes of a line precede the value, if it follows a key with a `=`.
 fn value_at(line: &[u8], key_end: usize) -> Option<usize> {
     let rest = behind(line, key_end);
@@ -126,7 +117,10 @@ fn value_at(line: &[u8], key_end: usize) -> Option<usize> {
 /// The last part of a key.
 fn name_of(key: Option<&[u8]>) -> &[u8] {
     match key {
-        Some(key) => Key::split(key).map_or(key, |key| key.name()),
+        Some(key) => match Key::split(key) {
+            Some(parts) => parts.name(),
+            None => key,
+        },
         None => b"",
     }
 }
@@ -183,7 +177,7 @@ impl<'t> Source<'t> {
             let part = wrong.unwrap_or(value);
             spot.from = from;
             spot.length = rest.len();
-            if let Some(place) = place_of(rest, part) {
+            if let Some(place) = rest.find(part) {
                 spot.from = from.saturating_add(place);
                 spot.length = part.len();
             }

@@ -3,12 +3,13 @@
 use crate::hints::Hint;
 use crate::options::Style;
 use crate::source::{LONGEST_EXCERPT, Spot};
-use config_checks::finding::{Finding, push_shown};
+use config_checks::finding::{Finding, key_text, push_shown};
 use config_checks::reason::Severity;
 use config_checks::suggestion::filled_key;
 use config_file::key::Key;
+use config_host::text::Text;
 use itoa::Buffer;
-use std::alloc::AllocError;
+use std::alloc::{AllocError, Global};
 
 /// A key or a value of more bytes than this is cut, and its length follows.
 const MOST_BYTES: usize = 80;
@@ -35,13 +36,20 @@ fn color_of(severity: Severity) -> &'static str {
 const PLAIN: &str = "\x1b[m";
 
 /// Appends a text.
-pub(crate) fn push(line: &mut Vec<u8>, text: &str) -> Result<(), AllocError> {
-    line.extend_from_slice(text.as_bytes())
+#[inline]
+pub(crate) fn put(line: &mut Text, text: &str) {
+    line.put(text.as_bytes());
+}
+
+/// Appends a text as it is shown.
+pub(crate) fn put_shown(line: &mut Text, text: &[u8]) {
+    let appended = push_shown(line.bytes(), text);
+    line.heed(appended);
 }
 
 /// Appends a number.
-pub(crate) fn push_number(line: &mut Vec<u8>, number: usize) -> Result<(), AllocError> {
-    push(line, Buffer::new().format(number))
+pub(crate) fn put_number(line: &mut Text, number: usize) {
+    put(line, Buffer::new().format(number));
 }
 
 /// The beginning of a text that is too long, up to the end of a character.
@@ -55,179 +63,158 @@ fn beginning(text: &[u8]) -> &[u8] {
     if end < text.len() { &text[..end] } else { text }
 }
 
-/// Appends a text as it is shown. Only the beginning of a long one is, and `..`; returns its length then.
-fn push_cut(line: &mut Vec<u8>, text: &[u8]) -> Result<Option<usize>, AllocError> {
+/// Appends a text as it is shown. Only the beginning of a long one is, and `..`.
+fn put_cut(line: &mut Text, text: &[u8]) {
     if text.len() <= MOST_BYTES {
-        push_shown(line, text)?;
-        return Ok(None);
+        put_shown(line, text);
+        return;
     }
-    push_shown(line, beginning(text))?;
-    push(line, "..")?;
-    Ok(Some(text.len()))
+    put_shown(line, beginning(text));
+    put(line, "..");
 }
 
-/// Appends a length, if there is one.
-fn push_length(line: &mut Vec<u8>, length: Option<usize>) -> Result<(), AllocError> {
-    if let Some(length) = length {
-        push(line, " (")?;
-        push_number(line, length)?;
-        push(line, " bytes)")?;
+/// Appends the length of a text if only its beginning is shown, and a colon.
+fn put_length(line: &mut Text, text: &[u8]) {
+    if text.len() > MOST_BYTES {
+        put(line, " (");
+        put_number(line, text.len());
+        put(line, " bytes)");
     }
-    push(line, ": ")
-}
-
-/// Appends the parts of a key, with dots between them.
-fn push_parts(out: &mut Vec<u8>, key: &Key<'_>) -> Result<(), AllocError> {
-    out.extend_from_slice(key.section())?;
-    push(out, ".")?;
-    if let Some(subsection) = key.subsection() {
-        out.extend_from_slice(subsection)?;
-        push(out, ".")?;
-    }
-    out.extend_from_slice(key.name())
+    put(line, ": ");
 }
 
 /// Appends the key of a finding, as its row writes it, or as Git lists it if no row covers it.
-fn push_key(line: &mut Vec<u8>, finding: &Finding<'_>) -> Result<(), AllocError> {
+fn put_key(alloc: Global, line: &mut Text, finding: &Finding<'_>) -> Result<(), AllocError> {
     let Some(text) = finding.key else {
         return Ok(());
     };
     if let (Some(row), Some(key)) = (finding.row, Key::split(text)) {
-        let key = filled_key(&row, &key);
-        let mut named = Vec::new(*line.allocator());
-        push_parts(&mut named, &key)?;
-        let length = push_cut(line, &named)?;
-        return push_length(line, length);
+        let named = key_text(alloc, &filled_key(&row, &key))?;
+        put_cut(line, &named);
+        put_length(line, &named);
+        return Ok(());
     }
-    let length = push_cut(line, text)?;
-    push_length(line, length)
+    put_cut(line, text);
+    put_length(line, text);
+    Ok(())
 }
 
 /// Appends the value of a finding in quotes, if it has one.
-fn push_value(line: &mut Vec<u8>, value: Option<&[u8]>) -> Result<(), AllocError> {
-    let Some(value) = value else {
-        return Ok(());
-    };
-    push(line, "'")?;
-    let length = push_cut(line, value)?;
-    push(line, "'")?;
-    push_length(line, length)
+fn put_value(line: &mut Text, value: Option<&[u8]>) {
+    if let Some(value) = value {
+        put(line, "'");
+        put_cut(line, value);
+        put(line, "'");
+        put_length(line, value);
+    }
 }
 
 /// Appends the severity of a finding, in its color if colors are wanted.
-fn push_severity(line: &mut Vec<u8>, color: bool, severity: Severity) -> Result<(), AllocError> {
+fn put_severity(line: &mut Text, color: bool, severity: Severity) {
     if color {
-        push(line, color_of(severity))?;
+        put(line, color_of(severity));
     }
-    push(line, severity_name(severity))?;
-    push(line, ": ")?;
+    put(line, severity_name(severity));
+    put(line, ": ");
     if color {
-        push(line, PLAIN)?;
+        put(line, PLAIN);
     }
-    Ok(())
 }
 
 /// Appends what is known about a value that a reader refuses, beyond the reason.
-pub(crate) fn push_hint(text: &mut Vec<u8>, hint: &Hint<'_>) -> Result<(), AllocError> {
+pub(crate) fn put_hint(text: &mut Text, hint: &Hint<'_>) {
     if let Some(wrong) = hint.wrong {
-        push(text, "; '")?;
-        let _ = push_cut(text, wrong)?;
-        push(text, "' is none")?;
+        put(text, "; '");
+        put_cut(text, wrong);
+        put(text, "' is none");
     }
     if let Some(meant) = &hint.meant {
-        push(text, "; did you mean ")?;
-        push_shown(text, meant)?;
-        push(text, "?")?;
+        put(text, "; did you mean ");
+        put_shown(text, meant);
+        put(text, "?");
     }
-    Ok(())
 }
 
 /// Appends the place of a finding: its file, its line and its column.
-fn push_place(line: &mut Vec<u8>, finding: &Finding<'_>, column: usize) -> Result<(), AllocError> {
-    push_shown(line, finding.file.as_bytes())?;
-    push(line, ":")?;
-    push_number(line, finding.line)?;
-    push(line, ":")?;
-    push_number(line, column)?;
-    push(line, ": ")
+fn put_place(line: &mut Text, finding: &Finding<'_>, column: usize) {
+    put_shown(line, finding.file.as_bytes());
+    put(line, ":");
+    put_number(line, finding.line);
+    put(line, ":");
+    put_number(line, column);
+    put(line, ": ");
 }
 
 /// Appends a byte of this line for each byte: a space in place of a tab.
-fn push_untabbed(out: &mut Vec<u8>, text: &[u8]) -> Result<(), AllocError> {
+fn put_untabbed(out: &mut Text, text: &[u8]) {
     for byte in text {
-        let shown: &[u8] = match *byte {
-            b'\t' => b" ",
-            byte if byte < b' ' || byte == 0x7f => b"?",
-            _ => slice_of(byte),
-        };
-        out.extend_from_slice(shown)?;
+        out.put_byte(match *byte {
+            b'\t' => b' ',
+            byte if byte < b' ' || byte == 0x7f => b'?',
+            byte => byte,
+        });
     }
-    Ok(())
-}
-
-/// A byte as a text.
-fn slice_of(byte: &u8) -> &[u8] {
-    std::slice::from_ref(byte)
 }
 
 /// How many characters a text has: bytes that begin one.
 pub(crate) fn width(text: &[u8]) -> usize {
-    text.iter()
-        .filter(|byte| **byte < 0x80 || **byte >= 0xc0)
-        .count()
+    let mut count: usize = 0;
+    for byte in text {
+        if *byte < 0x80 || *byte >= 0xc0 {
+            count = count.saturating_add(1);
+        }
+    }
+    count
 }
 
 /// Appends the line that a finding is about, and below it a mark under what is wrong.
-fn push_excerpt(
-    out: &mut Vec<u8>,
-    style: Style,
-    finding: &Finding<'_>,
-    spot: &Spot<'_>,
-) -> Result<(), AllocError> {
+fn put_excerpt(out: &mut Text, style: Style, severity: Severity, spot: &Spot<'_>) {
     if spot.line.len() > LONGEST_EXCERPT || str::from_utf8(spot.line).is_err() {
-        return Ok(());
+        return;
     }
-    push(out, "    ")?;
-    push_untabbed(out, spot.line)?;
-    push(out, "\n    ")?;
+    put(out, "    ");
+    put_untabbed(out, spot.line);
+    put(out, "\n    ");
     let (before, marked) = spot.marked();
-    for _ in 0..width(before) {
-        push(out, " ")?;
-    }
+    out.put_repeated(b' ', width(before));
     if style.color {
-        push(out, color_of(finding.severity))?;
+        put(out, color_of(severity));
     }
-    for _ in 0..width(marked).max(1) {
-        push(out, "^")?;
-    }
+    out.put_repeated(b'^', width(marked).max(1));
     if style.color {
-        push(out, PLAIN)?;
+        put(out, PLAIN);
     }
-    push(out, "\n")
+    put(out, "\n");
 }
 
 /// Appends a finding as a line of text, and what it is about.
-pub(crate) fn push_text(
-    line: &mut Vec<u8>,
+pub(crate) fn put_text(
+    alloc: Global,
+    line: &mut Text,
     style: Style,
     finding: &Finding<'_>,
     spot: &Spot<'_>,
 ) -> Result<(), AllocError> {
-    push_place(line, finding, spot.column)?;
-    push_severity(line, style.color, finding.severity)?;
-    push_message(line, finding)?;
-    push(line, " [")?;
-    push(line, finding.code.name())?;
-    push(line, "]\n")?;
+    put_place(line, finding, spot.column);
+    put_severity(line, style.color, finding.severity);
+    put_message(alloc, line, finding)?;
+    put(line, " [");
+    put(line, finding.code.name());
+    put(line, "]\n");
     if style.excerpts {
-        push_excerpt(line, style, finding, spot)?;
+        put_excerpt(line, style, finding.severity, spot);
     }
     Ok(())
 }
 
 /// Appends what a finding says: its key, its value and its reason.
-pub(crate) fn push_message(line: &mut Vec<u8>, finding: &Finding<'_>) -> Result<(), AllocError> {
-    push_key(line, finding)?;
-    push_value(line, finding.value)?;
-    line.extend_from_slice(finding.reason)
+pub(crate) fn put_message(
+    alloc: Global,
+    line: &mut Text,
+    finding: &Finding<'_>,
+) -> Result<(), AllocError> {
+    put_key(alloc, line, finding)?;
+    put_value(line, finding.value);
+    line.put(finding.reason);
+    Ok(())
 }

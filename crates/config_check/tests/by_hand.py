@@ -18,7 +18,6 @@ BUILT_IN = plain_reader.rows_of(re.sub(rb"\\\n *", b"", TABLE.read_bytes().split
 # the members of rows.JSON, and what stands there for the byte \xff
 MEMBERS = ("line", "severity", "key", "value", "reason", "code", "suggested_key", "suggested_value")
 REPLACED = "\ufffd".encode()
-WRONG_USE = re.compile(rb"[Uu]sage|error|--fix|no such code|neither a code")
 
 
 def listed(key):
@@ -253,10 +252,11 @@ def musts(group, program):
 
 
 def wrong_and_other_arguments(group, program):
-    for more in rows.WRONG_ARGUMENTS:
-        came = program.run(more, b"")
-        is_said = WRONG_USE.search(came.errors) is not None
-        group.expect((more, came.errors), (2, b"", True), (came.status, came.output, is_said))
+    for more, message in rows.WRONG_ARGUMENTS:
+        group.expect(more, Ended(2, b"", f"config_check: {message}\n".encode()), program.run(more, b""))
+    for more, same in rows.SAME_ARGUMENTS:
+        data = b"[core]\nbare = ture\nfileMode = yes\n[pull] autoStash = true\n"
+        group.expect((more, same), program.run(same, data), program.run(more, data))
     for text in rows.WRONG_VERSIONS:
         told = f"config_check: not a version of Git, as 2.39 is: {text}\n".encode()
         group.expect(["--git", text], Ended(2, b"", told), program.run(["--git", text, "-"], b"[a]b\n"))

@@ -557,11 +557,28 @@ FAIL_ON = [
 ]
 
 # arguments that are wrong
-WRONG_ARGUMENTS = [["--no-such-argument"], ["-x"], ["--settings"], ["--show-scope"], ["--show-origin"], ["--canonical=maybe"],
-                   ["--canonical", "--canonical"], ["--fail-on"], ["--fail-on", "fatal"], ["--fail-on", "note", "--fail-on", "note"],
-                   ["--format"], ["--format", "xml"], ["--format", "json", "--format", "json"], ["--fix", "--diff", "x"], ["--explain", "no-code"], ["--fix"],
-                   ["--fix", "-"], ["--ignore", "no-code", "-"], ["--git"],
-                   ["--git", "2.39", "--git", "2.39"], ["--color"], ["--color", "red"]]
+WRONG_ARGUMENTS = [
+    (["--no-such-argument"], "unknown option `no-such-argument'"), (["-x"], "unknown switch `x'"),
+    (["--settings"], "option `settings' requires a value"), (["--show-scope"], "unknown option `show-scope'"),
+    (["--show-origin"], "unknown option `show-origin'"), (["--canonical=maybe"], "option `canonical' takes no value"),
+    (["--canonical", "--canonical"], "option `canonical' is given twice"), (["--fail-on"], "option `fail-on' requires a value"),
+    (["--fail-on", "fatal"], "no value of --fail-on: fatal"),
+    (["--fail-on", "note", "--fail-on", "note"], "option `fail-on' is given twice"),
+    (["--format"], "option `format' requires a value"), (["--format", "xml"], "no value of --format: xml"),
+    (["--format", "json", "--format", "json"], "option `format' is given twice"),
+    (["--fix", "--diff", "x"], "only one of --fix, --diff and --statistics"),
+    (["--explain", "no-code"], "no such code: no-code; --explain all lists them"),
+    (["--fix"], "--fix changes only files that are named: name one"),
+    (["--fix", "-"], "--fix cannot change standard input: try --diff"),
+    (["--ignore", "no-code", "-"], "neither a code nor a key: no-code"), (["--git"], "option `git' requires a value"),
+    (["--git", "2.39", "--git", "2.39"], "option `git' is given twice"), (["--color"], "option `color' requires a value"),
+    (["--color", "red"], "no value of --color: red"), (["-fix"], "did you mean `--fix` (with two dashes)?"),
+    (["--no-canonical"], "unknown option `no-canonical'")]
+
+# arguments, and the same in another form
+SAME_ARGUMENTS = [
+    (["--can", "-"], ["--canonical", "-"]), (["-", "--canonical"], ["--canonical", "-"]), (["--git=2.39", "-"], ["--git", "2.39", "-"]),
+    (["--ignore", "bad-boolean", "--no-ignore", "-"], ["-"]), (["--format", "json", "--", "-"], ["--format=json", "-"])]
 
 # texts that are no versions of Git, and versions, each with the severity of `pull.autostash = true` by it
 WRONG_VERSIONS = ["two", "2", "", "2.", ".39", "2.39.5.1", "v2.39", "2,39"]

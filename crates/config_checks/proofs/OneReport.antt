@@ -28,7 +28,8 @@ use Rattle.config_checks.specs.declared.reason.Severity.{Severity}
 use Rattle.config_checks.specs.declared.reason.Severity.TheVariants.{Note, Warning}
 use Rattle.config_checks.specs.declared.check.Counts.{Counts}
 use Rattle.config_checks.specs.Rows.{Decides, IsUnknown}
-use Rattle.config_checks.specs.Settings.{IsSettingOf, IsValueOf, value_of}
+use Rattle.config_file.specs.Settings.{IsValueOf}
+use Rattle.config_checks.specs.Settings.{IsSettingOf, value_of}
 use Rattle.config_checks.specs.Suggestions.{IsPassed, IsUnknownKey, suggestion_text, unknown_text}
 use Rattle.config_checks.specs.Reasons.{HasFinding, IsSameFinding, severity_of}
 use Rattle.config_checks.specs.Codes.{code_of}

@@ -1,6 +1,6 @@
 -- Texts shown piece by piece.
 use Rattle.std.proofs.Common.{◌≡◌, ◌-◌, ◌<◌, ◌≤◌, ℕ, zero, suc, List, [], ◌∷◌, ◌++◌, length, take, drop, refl}
-use Rattle.std.proofs.Common.{ap, ◌∙◌, arith, length-drop, false, ◌==◌}
+use Rattle.std.proofs.Common.{ap, ◌∙◌, arith}
 use Rattle.bstr.specs.Utf8.{decoded}
 use Rattle.bstr.proofs.lemmas.PieceLemmas.{piece-bounds}
 use Rattle.config_checks.specs.Findings.{piece_shown, shown_past, shown}
@@ -25,15 +25,6 @@ shown_front (b ∷ bs) some =
     let size = (decoded (b ∷ bs)).size in
     ap (λ rest. piece_shown (decoded (b ∷ bs)).char (take size (b ∷ bs)) ++ rest)
     (shown_past_drop (size - 1) bs ∙ ap shown (drop_one_less size b bs (piece-bounds (b ∷ bs) some).0))
-
--- the rest after the first piece is shorter than the text
-pub shorter_rest : (t : List ℕ) → 0 < length t → length (drop (decoded t).size t) < length t
-shorter_rest t some =
-    let bounds = piece-bounds t some in omega (arith, length-drop {A = ℕ}, bounds.0, bounds.2)
-
-pub not_empty : (t : List ℕ) → false ≡ (length t == 0) → 0 < length t
-not_empty [] none = absurd (cc)
-not_empty (b ∷ bs) none = omega arith
 
 -- an empty text is shown as an empty text
 pub none_shown : (t : List ℕ) → t ≡ [] → shown t ≡ []

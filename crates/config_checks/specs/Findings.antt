@@ -1,16 +1,17 @@
 -- A finding, and the texts of its parts.
-use Rattle.std.specs.Prelude.{ℕ, zero, suc, ◌-◌, ◌/◌, ◌%◌, ◌==◌, ◌&&◌, ◌||◌, nat_lt, List, [], ◌∷◌, ◌++◌}
+use Rattle.std.specs.Prelude.{ℕ, zero, suc, ◌-◌, ◌==◌, List, [], ◌∷◌, ◌++◌}
 use Rattle.std.specs.Prelude.{take, length, flat_map}
 use Rattle.std.specs.Prelude.{option_copied, option_map}
 use Rattle.std.specs.Fmt.{decimal, signed_decimal}
-use Rattle.std.specs.Prelude.{codes, Bool, Option, None, Some, if◌then◌else◌}
-use Rattle.std.specs.Char.{digit_char}
+use Rattle.std.specs.Prelude.{codes, Option, None, Some, if◌then◌else◌}
 use denote.Ref.{Bor}
 use Rattle.bstr.specs.Utf8.{decoded}
 use Rattle.config_text.specs.Faults.{fault_text}
 use Rattle.config_text.specs.declared.errors.Fault.{Fault}
+use Rattle.config_file.specs.Bytes.{backslash}
 use Rattle.config_file.specs.Key.{Key}
 use Rattle.config_file.specs.KeyView.{key_of}
+use Rattle.config_file.specs.Shown.{hex, is_control}
 use Rattle.config_integer.specs.declared.amount.Amount.{Amount}
 use Rattle.config_checks.specs.declared.code.Code.{Code}
 use Rattle.config_checks.specs.declared.finding.Finding as findings
@@ -24,17 +25,6 @@ use Rattle.config_checks.specs.declared.version.Version.{Version}
 use Rattle.config_checks.specs.declared.reason.Severity.{Severity}
 
 -- ---- texts shown safely
-
-abbrev pub backslash : ℕ
-backslash = 0x5C
-
--- a byte as `\x` and two hexadecimal digits
-abbrev pub hex : ℕ → List ℕ
-hex b = backslash ∷ 0x78 ∷ digit_char (b / 16) ∷ digit_char (b % 16) ∷ []
-
--- U+0000 to U+001F, and U+007F to U+009F
-abbrev pub is_control : ℕ → Bool
-is_control c = nat_lt c 0x20 || (nat_lt 0x7E c && nat_lt c 0xA0)
 
 -- how bytes are shown: in hexadecimal if they are a control character or are not a character, twice if they
 -- are a backslash, and otherwise as they are

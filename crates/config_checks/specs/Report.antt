@@ -188,6 +188,11 @@ counts_shown s =
 
 -- ---- what a receiver receives
 
+-- the finding is about this setting, or about a line that is none
+abbrev pub IsAbout : Option Setting → Finding → Type 0
+IsAbout None f = f.key ≡ None
+IsAbout (Some setting) f = (f.file ≡ setting.file.now) × (f.line ≡ setting.line) × (f.key ≡ Some setting.key.items)
+
 -- known findings grow by these
 abbrev pub Receives : Option (List Finding) → Option (List Finding) → List Finding → Type 0
 Receives None after more = ⊤

@@ -2,18 +2,13 @@
 use Rattle.std.specs.Prelude.{◌≡◌, ℕ, ◌-◌, List, Option, None, Some, option_map}
 use Rattle.config_file.specs.File.{Entry}
 use Rattle.config_file.specs.Listing.{IsListed}
-use Rattle.config_file.specs.Value.{Ending, SpellsValue, line_feeds}
+use Rattle.config_file.specs.Settings.{IsValueOf}
+use Rattle.config_file.specs.Value.{line_feeds}
 use Rattle.config_checks.specs.declared.setting.Setting.{Setting}
 
 -- the value of a setting, if it has one
 abbrev pub value_of : Setting → Option (List ℕ)
 value_of setting = option_map (λ value. value.items) setting.value
-
--- the value is the text that these bytes spell, and a key alone has no value
-abbrev pub IsValueOf : Option (List ℕ) → Option (List ℕ) → Type 0
-IsValueOf None value = value ≡ None
-IsValueOf (Some raw) value =
-    (text : List ℕ) (ending : Ending) → SpellsValue raw text ending → value ≡ Some text
 
 -- how many line feeds a value has
 abbrev pub feeds_of : Option (List ℕ) → ℕ
@@ -28,5 +23,6 @@ first_line entry = entry.line - feeds_of entry.value
 pub record IsSettingOf (name : List ℕ) (entry : Entry) (setting : Setting) : Type 0 where
   pub file : setting.file.now ≡ name
   pub line : setting.line ≡ first_line entry
+  pub last : setting.last ≡ entry.line
   pub key : (listed : List ℕ) → IsListed entry.section entry.key listed → setting.key.items ≡ listed
   pub value : IsValueOf entry.value (value_of setting)

@@ -1,10 +1,11 @@
 //! Checks the settings of a file, and hands on each finding.
 ghost use Rattle.std.specs.Prelude.{◌≡◌, ◌==◌, ◌∷◌, [], List, Option, if◌then◌else◌, OnOk, OnErr, IfOk, IfSome, Some};
+ghost use Rattle.std.specs.Prelude.{option_copied};
 ghost use Rattle.config_file.specs.Key.{IsCut};
 ghost use Rattle.config_file.specs.KeyView.{key_of};
 ghost use Rattle.config_checks.specs.Findings.{Finding, finding_of};
 ghost use Rattle.config_checks.specs.Report.{counted, counts_shown, reason_finding};
-ghost use Rattle.config_checks.specs.Report.{Receives, Completes, Fails};
+ghost use Rattle.config_checks.specs.Report.{IsAbout, Receives, Completes, Fails};
 ghost use Rattle.config_checks.specs.Rows.{rows_of, IsUnknown};
 ghost use Rattle.config_checks.specs.Reading.Steps.{HasRoom, HasRoomForFinding, Reports};
 ghost use Rattle.config_checks.specs.Reading.Steps.{IsKept, IsSection, said_findings, is_reported};
@@ -52,6 +53,7 @@ pub enum CheckError {
 /// ```rust
 /// use config_checks::check::{CheckError, Receiver};
 /// use config_checks::finding::Finding;
+/// use config_checks::setting::Setting;
 ///
 /// /// Counts findings.
 /// #[derive(Drop)]
@@ -60,7 +62,7 @@ pub enum CheckError {
 /// impl Receiver for Count {
 ///     ghost received = { λ _. None };
 ///
-///     fn receive(&mut self, _: &Finding<'_>) -> Result<(), CheckError> {
+///     fn receive(&mut self, _: Option<&Setting<'_>>, _: &Finding<'_>) -> Result<(), CheckError> {
 ///         self.0 = self.0.saturating_add(1);
 ///         Ok(())
 ///     }
@@ -70,8 +72,14 @@ pub trait Receiver {
     /// The findings that it has received, if they are known.
     ghost received: { Self → Option (List Finding) };
 
-    /// Receives one more finding. An error ends the check, and the finding does not count as received.
-    fn receive(&mut self, finding: &Finding<'_>) -> Result<(), CheckError>
+    /// Receives one more finding, and the setting that it is about if it is about one. An error ends the check,
+    /// and the finding does not count as received.
+    fn receive(
+        &mut self,
+        setting: Option<&Setting<'_>>,
+        finding: &Finding<'_>,
+    ) -> Result<(), CheckError>
+        requires { IsAbout (option_copied setting.entry) (finding_of finding.now) }
         ensures ok { OnOk result
             (Receives (received self.old) (received self.new) (finding_of finding.now ∷ [])) }
         ensures err { OnErr result (Receives (received self.old) (received self.new) []) };
@@ -166,7 +174,7 @@ fn give_reason<R: Receiver>(
 {
     let mut text = Vec::new(alloc);
     push_reason(&mut text, reason).map_err(CheckError::Memory)?;
-    receiver.receive(&Finding {
+    let finding = Finding {
         file: setting.file,
         line: setting.line,
         entry: Some(before),
@@ -179,7 +187,8 @@ fn give_reason<R: Receiver>(
         fault: fault_of(reason),
         suggested_key: instead_of(reason),
         suggested_value: value_meant(reason),
-    })
+    };
+    receiver.receive(Some(setting), &finding)
 }
 
 /// What is said of a key that no row covers. The last one is kept, since many settings may have one key, or
@@ -289,7 +298,7 @@ fn give_said<'f, R: Receiver>(
         return Ok(false);
     };
     let suggested_key = bytes_of(&said.meant);
-    receiver.receive(&Finding {
+    let finding = Finding {
         file: setting.file,
         line: setting.line,
         entry: Some(before),
@@ -302,7 +311,8 @@ fn give_said<'f, R: Receiver>(
         fault: None,
         suggested_key,
         suggested_value: None,
-    })?;
+    };
+    receiver.receive(Some(setting), &finding)?;
     Ok(true)
 }
 
@@ -410,7 +420,7 @@ fn tell<R: Receiver>(
     let Some(error) = refused else {
         return Ok(counts);
     };
-    receiver.receive(&Finding {
+    let finding = Finding {
         file,
         line: error.line,
         entry: None,
@@ -423,7 +433,8 @@ fn tell<R: Receiver>(
         fault: None,
         suggested_key: None,
         suggested_value: None,
-    })?;
+    };
+    receiver.receive(None, &finding)?;
     Ok(counts.with(Severity::Error))
 }
 
@@ -443,6 +454,7 @@ fn tell<R: Receiver>(
 /// use config_checks::check::{CheckError, Receiver, check_file};
 /// use config_checks::finding::Finding;
 /// use config_checks::options::Options;
+/// use config_checks::setting::Setting;
 /// use config_checks::table::read_rows;
 /// use config_checks::version::Version;
 ///
@@ -453,7 +465,7 @@ fn tell<R: Receiver>(
 /// impl Receiver for Reasons {
 ///     ghost received = { λ _. None };
 ///
-///     fn receive(&mut self, finding: &Finding<'_>) -> Result<(), CheckError> {
+///     fn receive(&mut self, _: Option<&Setting<'_>>, finding: &Finding<'_>) -> Result<(), CheckError> {
 ///         self.0.extend_from_slice(finding.reason).map_err(CheckError::Memory)
 ///     }
 /// }

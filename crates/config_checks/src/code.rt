@@ -57,30 +57,6 @@ pub enum Code {
 }
 
 impl Code {
-    /// Every code, in the order in which `--explain all` lists them.
-    pub const ALL: &'static [Code] = &[
-        Code::BadBoolean,
-        Code::BadInteger,
-        Code::BadColor,
-        Code::OutOfRange,
-        Code::NotAWord,
-        Code::NoHome,
-        Code::OtherValue,
-        Code::NoValue,
-        Code::MissingSetting,
-        Code::UnknownKey,
-        Code::TooNew,
-        Code::Gone,
-        Code::Deprecated,
-        Code::NotCanonical,
-        Code::InvalidLine,
-        Code::IncludeLoop,
-        Code::IncludeDepth,
-        Code::IncludePath,
-        Code::MissingFile,
-        Code::UnknownCondition,
-    ];
-
     /// The name, by which `--ignore` and `--explain` take it.
     pub fn name(self) -> &'static str
         ensures { result.now ≡ code_name self }
@@ -108,105 +84,150 @@ impl Code {
             Code::UnknownCondition => "unknown-condition",
         }
     }
-
-    /// What it means, in a few words.
-    pub fn meaning(self) -> &'static str {
-        match self {
-            Code::BadBoolean => "the value is no boolean",
-            Code::BadInteger => "the value is no integer",
-            Code::BadColor => "the value is no color",
-            Code::OutOfRange => "the value is a number that the setting does not take",
-            Code::NotAWord => "the value is none of the words that the setting takes",
-            Code::NoHome =>
-                "the value is a path that begins with a home directory which is not there",
-            Code::OtherValue => "the value means something other than the row asks for",
-            Code::NoValue => "the setting has no value, and needs one",
-            Code::MissingSetting => "no file has a setting that a row asks for",
-            Code::UnknownKey => "no setting has the key",
-            Code::TooNew => "only a newer Git reads the setting",
-            Code::Gone => "Git no longer reads the setting",
-            Code::Deprecated => "Git calls the setting deprecated",
-            Code::NotCanonical => "the value is right, and has a canonical spelling",
-            Code::InvalidLine => "Git cannot read the line, and so nothing of the file",
-            Code::IncludeLoop => "the file includes itself",
-            Code::IncludeDepth => "more than ten files include each other",
-            Code::IncludePath => "Git cannot read what the path of an include names",
-            Code::MissingFile => "the included file is not there",
-            Code::UnknownCondition => "Git does not know the condition of the include",
-        }
-    }
-
-    /// Lines of a file with such a finding, and the lines as they should be.
-    pub fn example(self) -> (&'static str, &'static str) {
-        match self {
-            Code::BadBoolean => ("[core]\n\tbare = ture\n", "[core]\n\tbare = true\n"),
-            Code::BadInteger => ("[gc]\n\tauto = many\n", "[gc]\n\tauto = 6700\n"),
-            Code::BadColor => (
-                "[color \"diff\"]\n\tmeta = yelow bold\n",
-                "[color \"diff\"]\n\tmeta = yellow bold\n",
-            ),
-            Code::OutOfRange => (
-                "[core]\n\tcompression = 10\n",
-                "[core]\n\tcompression = 9\n",
-            ),
-            Code::NotAWord => (
-                "[push]\n\tdefault = simplest\n",
-                "[push]\n\tdefault = simple\n",
-            ),
-            Code::NoHome => (
-                "[core]\n\texcludesFile = ~nobody-here/ignore\n",
-                "[core]\n\texcludesFile = ~/ignore\n",
-            ),
-            Code::OtherValue => (
-                "# with a row `transfer.fsckObjects is=true bool`\n[transfer]\n\tfsckObjects = no\n",
-                "[transfer]\n\tfsckObjects = yes\n",
-            ),
-            Code::NoValue => ("[core]\n\teditor\n", "[core]\n\teditor = vi\n"),
-            Code::MissingSetting => (
-                "# with a row `user.email must text`\n[user]\n\tname = A\n",
-                "[user]\n\tname = A\n\temail = a@example.org\n",
-            ),
-            Code::UnknownKey => ("[pull]\n\trebas = true\n", "[pull]\n\trebase = true\n"),
-            Code::TooNew => (
-                "# with --git 2.39\n[pull]\n\tautoStash = true\n",
-                "[rebase]\n\tautoStash = true\n",
-            ),
-            Code::Gone => (
-                "[add.interactive]\n\tuseBuiltin = false\n",
-                "# nothing: Git behaves so\n",
-            ),
-            Code::Deprecated => (
-                "[core]\n\tfsyncObjectFiles = true\n",
-                "[core]\n\tfsync = loose-object\n",
-            ),
-            Code::NotCanonical => (
-                "# with --canonical\n[core]\n\tbare = yes\n",
-                "[core]\n\tbare = true\n",
-            ),
-            Code::InvalidLine => ("[core]\n\teditor = \"vi\n", "[core]\n\teditor = \"vi\"\n"),
-            Code::IncludeLoop => (
-                "# in the file a\n[include]\n\tpath = a\n",
-                "[include]\n\tpath = b\n",
-            ),
-            Code::IncludeDepth => (
-                "# in f1, and so on up to f11\n[include]\n\tpath = f2\n",
-                "# in f1\n[include]\n\tpath = f2\n\tpath = f3\n",
-            ),
-            Code::IncludePath => (
-                "[include]\n\tpath = ~nobody-here/x\n",
-                "[include]\n\tpath = ~/x\n",
-            ),
-            Code::MissingFile => (
-                "[include]\n\tpath = no-such-file\n",
-                "[include]\n\tpath = a-file-that-is-there\n",
-            ),
-            Code::UnknownCondition => (
-                "[includeIf \"gitdr:~/work/\"]\n\tpath = work\n",
-                "[includeIf \"gitdir:~/work/\"]\n\tpath = work\n",
-            ),
-        }
-    }
 }
+
+/// What a code means.
+///
+/// ```rust
+/// use config_checks::code::EXPLAINED;
+///
+/// assert_eq!(rt; EXPLAINED[0].meaning, "the value is no boolean");
+/// ```
+#[derive(Clone, Copy)]
+pub struct Explained {
+    /// The code.
+    pub code: Code,
+    /// What it means, in a few words.
+    pub meaning: &'static str,
+    /// Lines of a file with such a finding.
+    pub wrong: &'static str,
+    /// These lines as they should be.
+    pub right: &'static str,
+}
+
+/// What each code means, in the order in which `--explain all` lists them.
+pub const EXPLAINED: &[Explained] = &[
+    Explained {
+        code: Code::BadBoolean,
+        meaning: "the value is no boolean",
+        wrong: "[core]\n\tbare = ture\n",
+        right: "[core]\n\tbare = true\n",
+    },
+    Explained {
+        code: Code::BadInteger,
+        meaning: "the value is no integer",
+        wrong: "[gc]\n\tauto = many\n",
+        right: "[gc]\n\tauto = 6700\n",
+    },
+    Explained {
+        code: Code::BadColor,
+        meaning: "the value is no color",
+        wrong: "[color \"diff\"]\n\tmeta = yelow bold\n",
+        right: "[color \"diff\"]\n\tmeta = yellow bold\n",
+    },
+    Explained {
+        code: Code::OutOfRange,
+        meaning: "the value is a number that the setting does not take",
+        wrong: "[core]\n\tcompression = 10\n",
+        right: "[core]\n\tcompression = 9\n",
+    },
+    Explained {
+        code: Code::NotAWord,
+        meaning: "the value is none of the words that the setting takes",
+        wrong: "[push]\n\tdefault = simplest\n",
+        right: "[push]\n\tdefault = simple\n",
+    },
+    Explained {
+        code: Code::NoHome,
+        meaning: "the value is a path that begins with a home directory which is not there",
+        wrong: "[core]\n\texcludesFile = ~nobody-here/ignore\n",
+        right: "[core]\n\texcludesFile = ~/ignore\n",
+    },
+    Explained {
+        code: Code::OtherValue,
+        meaning: "the value means something other than the row asks for",
+        wrong: "# with a row `transfer.fsckObjects is=true bool`\n[transfer]\n\tfsckObjects = no\n",
+        right: "[transfer]\n\tfsckObjects = yes\n",
+    },
+    Explained {
+        code: Code::NoValue,
+        meaning: "the setting has no value, and needs one",
+        wrong: "[core]\n\teditor\n",
+        right: "[core]\n\teditor = vi\n",
+    },
+    Explained {
+        code: Code::MissingSetting,
+        meaning: "no file has a setting that a row asks for",
+        wrong: "# with a row `user.email must text`\n[user]\n\tname = A\n",
+        right: "[user]\n\tname = A\n\temail = a@example.org\n",
+    },
+    Explained {
+        code: Code::UnknownKey,
+        meaning: "no setting has the key",
+        wrong: "[pull]\n\trebas = true\n",
+        right: "[pull]\n\trebase = true\n",
+    },
+    Explained {
+        code: Code::TooNew,
+        meaning: "only a newer Git reads the setting",
+        wrong: "# with --git 2.39\n[pull]\n\tautoStash = true\n",
+        right: "[rebase]\n\tautoStash = true\n",
+    },
+    Explained {
+        code: Code::Gone,
+        meaning: "Git no longer reads the setting",
+        wrong: "[add.interactive]\n\tuseBuiltin = false\n",
+        right: "# nothing: Git behaves so\n",
+    },
+    Explained {
+        code: Code::Deprecated,
+        meaning: "Git calls the setting deprecated",
+        wrong: "[core]\n\tfsyncObjectFiles = true\n",
+        right: "[core]\n\tfsync = loose-object\n",
+    },
+    Explained {
+        code: Code::NotCanonical,
+        meaning: "the value is right, and has a canonical spelling",
+        wrong: "# with --canonical\n[core]\n\tbare = yes\n",
+        right: "[core]\n\tbare = true\n",
+    },
+    Explained {
+        code: Code::InvalidLine,
+        meaning: "Git cannot read the line, and so nothing of the file",
+        wrong: "[core]\n\teditor = \"vi\n",
+        right: "[core]\n\teditor = \"vi\"\n",
+    },
+    Explained {
+        code: Code::IncludeLoop,
+        meaning: "the file includes itself",
+        wrong: "# in the file a\n[include]\n\tpath = a\n",
+        right: "[include]\n\tpath = b\n",
+    },
+    Explained {
+        code: Code::IncludeDepth,
+        meaning: "more than ten files include each other",
+        wrong: "# in f1, and so on up to f11\n[include]\n\tpath = f2\n",
+        right: "# in f1\n[include]\n\tpath = f2\n\tpath = f3\n",
+    },
+    Explained {
+        code: Code::IncludePath,
+        meaning: "Git cannot read what the path of an include names",
+        wrong: "[include]\n\tpath = ~nobody-here/x\n",
+        right: "[include]\n\tpath = ~/x\n",
+    },
+    Explained {
+        code: Code::MissingFile,
+        meaning: "the included file is not there",
+        wrong: "[include]\n\tpath = no-such-file\n",
+        right: "[include]\n\tpath = a-file-that-is-there\n",
+    },
+    Explained {
+        code: Code::UnknownCondition,
+        meaning: "Git does not know the condition of the include",
+        wrong: "[includeIf \"gitdr:~/work/\"]\n\tpath = work\n",
+        right: "[includeIf \"gitdir:~/work/\"]\n\tpath = work\n",
+    },
+];
 
 /// The code of a value that a reader refuses.
 fn code_of_fault(fault: Fault) -> Code

@@ -25,6 +25,8 @@ pub struct Setting<'a> {
     pub file: &'a str,
     /// The line of the key, from 1.
     pub line: usize,
+    /// The line on which its value ends.
+    pub last: usize,
     /// The key as Git lists it.
     pub key: Vec<u8>,
     /// The text of the value, or `None` for a key alone.
@@ -33,7 +35,7 @@ pub struct Setting<'a> {
 
 /// The line of the key of an entry: the value may continue over further lines, on the last of which the entry
 /// ends.
-fn first_line(entry: &Entry<'_>) -> usize
+pub fn first_line(entry: &Entry<'_>) -> usize
     ensures { result ≡ first_line (entry_of entry.now) }
 {
     match &entry.value {
@@ -57,6 +59,7 @@ impl<'a> Setting<'a> {
         Ok(Self {
             file,
             line: first_line(entry),
+            last: entry.line,
             key: entry.key_text(alloc)?,
             value,
         })

@@ -41,6 +41,20 @@ impl Text {
         }
     }
 
+    /// The bytes so far, to which others append. What they answer is for [`Text::heed`].
+    #[inline]
+    pub fn bytes(&mut self) -> &mut Vec<u8> {
+        &mut self.bytes
+    }
+
+    /// Remembers that memory was refused for what others appended, if it was.
+    #[inline]
+    pub fn heed(&mut self, appended: Result<(), AllocError>) {
+        if appended.is_err() {
+            self.has_failed = true;
+        }
+    }
+
     /// What is there so far, or that memory was refused for a part of it.
     pub fn so_far(&self) -> Result<&[u8], AllocError> {
         if self.has_failed {

@@ -1,6 +1,7 @@
 use Rattle.std.proofs.Common.{◌<◌, length}
 use Rattle.bstr.proofs.lemmas.PieceLemmas.{size-within}
-use Rattle.config_checks.proofs.ShownLemmas.{not_empty, shown_front, shorter_rest}
+use Rattle.config_file.proofs.ShownTexts.{not_empty, shorter_rest}
+use Rattle.config_checks.proofs.ShownLemmas.{shown_front}
 use Rattle.config_checks.proofs.finding.first_piece.Goals as goal
 
 pub split_at-requires : goal.split_at-requires

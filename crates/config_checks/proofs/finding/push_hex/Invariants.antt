@@ -1,5 +1,5 @@
 use Rattle.std.proofs.Common.{◌≡◌, ◌++◌, take, flat_map}
-use Rattle.config_checks.specs.Findings.{hex}
+use Rattle.config_file.specs.Shown.{hex}
 use Rattle.config_checks.proofs.finding.push_hex.Given as goal
 
 abbrev pub invariant-loop-byte : goal.invariant-loop-byte
