@@ -2,7 +2,7 @@
 """The words of the command line, and files, names and repositories that are unusual: python3 run.py PROGRAM [--git
 COMMAND].
 
-PROGRAM is git_settings. Which entries are right is asked of a Git: the installed one, or that of --git. Git keeps names
+PROGRAM is config_value. Which entries are right is asked of a Git: the installed one, or that of --git. Git keeps names
 as bytes; the program refuses names that are not UTF-8 where it has to open them. What the words answer is in words.tsv,
 and of types a Git 2.55 is asked if the folder NEWER_GITS has it. The last line is 'N passed, M failed'.
 """
@@ -124,53 +124,46 @@ class Tests:
         if wanted != came:
             print(f"{what}: wanted {wanted!r}, got {came!r}")
 
-    def entries(self, words, file, folder=b"", more=None):
-        """The entries that the program or Git lists, with those of included files."""
-        run = self.run(*words, "-l", "--null", "--includes", "--file", file, folder=folder, more=more)
-        return run.stdout.split(b"\0")[:-1]
+    def entries(self, file, folder=b"", more=None, words=("--includes",)):
+        """The entries that the program lists."""
+        run = self.run(self.program, "--null", "--file", file, *words, folder=folder, more=more)
+        return run.stdout.split(b"\0")[1::2]
 
-    def by_git(self, file, folder=b"", more=None):
-        return self.entries([self.git, "config"], file, folder, more)
+    def by_git(self, file, folder=b"", more=None, words=("--includes",)):
+        run = self.run(self.git, "config", "--null", "--file", file, *words, "--list", folder=folder, more=more)
+        return run.stdout.split(b"\0")[:-1]
 
     def compare(self, what, file, folder=b"", more=None, holds=None):
         """Expects Git's entries, and that one is included on a condition if this is said."""
         wanted = self.by_git(file, folder, more)
-        self.expect(what, wanted, self.entries([self.program], file, folder, more))
+        self.expect(what, wanted, self.entries(file, folder, more))
         if holds is not None:
             self.expect(f"{what}, in Git", holds, b"hit.k\n1" in wanted)
 
     def refuse(self, what, words, told, status=128, more=None, folder=b""):
-        """Expects these words of error, and this status."""
+        """Expects one line of error, and its status."""
         run = self.run(self.program, *words, folder=folder, more=more)
         self.expect(what, (status, told + b"\n"), (run.returncode, run.stderr))
-
-    def same(self, what, words, newer=None, **options):
-        """Expects Git's status, output and words of error, from newer words too that an older Git does not know."""
-        git = self.run(self.git, "config", *words, **options)
-        for asked in (words, newer) if newer else (words,):
-            run = self.run(self.program, *asked, **options)
-            self.expect(what, (git.returncode, git.stdout, git.stderr), (run.returncode, run.stdout, run.stderr))
 
 
 def endless(tests):
     """Files without an end, and what is no file. Git stops on the same line of a device."""
-    told = b"fatal: bad config line 1 in file /dev/zero: a NUL byte outside a comment"
-    tests.refuse("a device", ["-l", "--file", "/dev/zero"], told)
+    told = b"/dev/zero:1: a NUL byte outside a comment"
+    tests.refuse("a device", ["--file", "/dev/zero"], told)
     file = tests.write(b"device", b"[a]\n\tb = 1\n[include]\n\tpath = /dev/zero\n")
-    tests.refuse("an included device", ["-l", "--file", file, "--includes"], told)
+    tests.refuse("an included device", ["--file", file, "--includes"], told)
     git = tests.run(tests.git, "config", "--file", file, "--includes", "--list").stderr
     tests.expect("a device, in Git", b"fatal: bad config line 1 in file /dev/zero\n", git)
     tests.compare("no device", tests.write(b"null", b"[include]\n\tpath = /dev/null\n[a]\n\tb\n"))
     os.mkfifo(tests.path(b"pipe"))
     for name in (b"pipe", b"."):
         tests.write(b"includer", b"[include]\n\tpath = " + name)
-        told = b"fatal: includer:2: cannot read " + name + b": it is no regular file"
-        tests.refuse(f"an included {name}", ["-l", "--file", "includer", "--includes"], told)
+        told = b"includer:2: cannot read " + name + b": it is no regular file"
+        tests.refuse(f"an included {name}", ["--file", "includer", "--includes"], told)
     with open(tests.path(b"long"), "wb") as file:
         file.truncate((1 << 30) + 1)
-    told = b"fatal: unable to read config file 'long': it is longer than 1 GiB"
-    tests.refuse("a long file", ["-l", "--file", "long"], told)
-    shell = ["sh", "-c", 'printf "#\\0\\n[a]b=2" | "$0" get --file /dev/stdin a.b', tests.program]
+    tests.refuse("a long file", ["--file", "long"], b"long: it is longer than 1 GiB")
+    shell = ["sh", "-c", 'printf "#\\0\\n[a]b=2" | "$0" --file /dev/stdin a.b', tests.program]
     tests.expect("a pipe with a NUL in a comment", b"2\n", tests.run(*shell).stdout)
 
 
@@ -178,13 +171,13 @@ def names(tests):
     """Names that are not UTF-8 are refused where the program has to open them."""
     plain = tests.write(b"plain", b"[a]\n\tb = 1\n")
     shown = "n\ufffd".encode()
-    told = b"fatal: " + shown + b": the argument is not UTF-8"
+    told = b"config_value: " + shown + b": the argument is not UTF-8"
     tests.write(NOT_UTF8, b"[a]\n\tb = 1\n")
-    tests.refuse("a file", ["-l", "--file", NOT_UTF8], told)
-    told = "fatal: a.\ufffd: the argument is not UTF-8".encode()
-    tests.refuse("a key", ["get", "--file", plain, b"a.\xff"], told)
+    tests.refuse("a file", ["--file", NOT_UTF8], told, status=2)
+    told = "config_value: a.\ufffd: the argument is not UTF-8".encode()
+    tests.refuse("a key", ["--file", plain, b"a.\xff"], told, status=2)
     file = tests.write(b"of name", b"[a]\n\tb = 1\n[include]\n\tpath = \"" + NOT_UTF8 + b"\"\n")
-    tests.refuse("an include", ["-l", "--file", file, "--includes"], b"fatal: of name:4: cannot read " + shown
+    tests.refuse("an include", ["--file", file, "--includes"], b"of name:4: cannot read " + shown
                  + b": its name is not UTF-8")
     bad = {b"HOME": tests.path(NOT_UTF8), b"GIT_DIR": NO_FOLDER, b"GIT_COMMON_DIR": NO_FOLDER}
     tests.compare("variables that are not asked for", plain, more=bad)
@@ -195,10 +188,10 @@ def names(tests):
     tests.git_dir(b"repository")
     for name in (b"GIT_DIR", b"GIT_COMMON_DIR"):
         more = {b"GIT_DIR": b"repository", name: NO_FOLDER}
-        tests.refuse(name, ["-l", "--file", file, "--includes"], b"fatal: " + name + b" is not UTF-8", more=more)
+        tests.refuse(name, ["--file", file, "--includes"], b"config_value: " + name + b" is not UTF-8", 2, more)
     file = tests.write(b"home", b"[include]\n\tpath = ~/hit\n")
-    told = b"fatal: home:2: cannot read " + os.path.join(tests.folder, shown, b"hit") + b": its name is not UTF-8"
-    tests.refuse("HOME", ["-l", "--file", file, "--includes"], told, more=bad)
+    told = b"home:2: cannot read " + os.path.join(tests.folder, shown, b"hit") + b": its name is not UTF-8"
+    tests.refuse("HOME", ["--file", file, "--includes"], told, more=bad)
 
 
 def folders(tests):
@@ -221,9 +214,13 @@ def shown(tests):
     name = b"a\x1b[31m\x07b"
     git = tests.run(tests.git, "config", "--file", name, "--list").stderr
     tests.expect("Git's message", True, b"a?[31m?b" in git and b"\x1b" not in git)
-    tests.same("a name", ["-l", "--file", name])
-    for key in (b"a.b\x1b", b"a.\x1b.b", b"key", b"a.", b"a.b\n"):
-        tests.same(f"a key {key}", ["--file", "plain", "--get", key], ["get", "--file", "plain", key])
+    tests.refuse("a name", ["--file", name], b"a?[31m?b: No such file or directory (os error 2)")
+    tests.refuse("a key", ["--file", "plain", b"a.b\x1b"], b"a.b?: invalid key", 1)
+    tests.refuse("a missing key", ["--file", "plain", b"a.\x1b.b"], b"a.?.b: no entry has this key", 1)
+    for key, told in ((b"key", b"key does not contain a section"), (b"a.", b"key does not contain a variable name"),
+                      (b"a.b\n", b"invalid key")):
+        tests.refuse(key, ["--file", "plain", key], key + b": " + told, 1)
+        tests.expect(f"{key} in Git", 1, tests.run(tests.git, "config", key).returncode)
 
 
 def statuses(tests):
@@ -233,12 +230,11 @@ def statuses(tests):
     for file, key, status, more in ((file, b"a.yes", 0, True), (file, b"a.no", 1, True), (file, b"a.wrong", 128, True),
                                     (file, b"a.alone", 0, False), (file, b"a.empty", 0, False), (file, b"a", 1, False),
                                     (bad, b"a.yes", 128, False)):
-        words = ["--file", file, *["--type=bool"] * more, "--get", key]
-        ours, theirs = tests.run(tests.program, *words), tests.run(tests.git, "config", *words)
+        ours = tests.run(tests.program, "--file", file, *["--type=boolean"] * more, key)
+        theirs = tests.run(tests.git, "config", "--file", file, *["--type=bool"] * more, "--get", key)
         tests.expect(f"{key} of {file}", (status, theirs.returncode, theirs.stdout),
                      (ours.returncode, status, ours.stdout))
-    tests.same("a missing file", ["--file", "nowhere", "a.b"], ["get", "--file", "nowhere", "a.b"])
-    tests.same("a list of a missing file", ["--file", "nowhere", "-l"], ["list", "--file", "nowhere"])
+    tests.refuse("a missing file", ["--file", "nowhere", "a.b"], b"nowhere: No such file or directory (os error 2)")
 
 
 def repositories(tests):
@@ -284,15 +280,19 @@ def here(tests):
     counted = {b"GIT_CONFIG_COUNT": b"1", b"GIT_CONFIG_KEY_0": b"a.size", b"GIT_CONFIG_VALUE_0": b"1k"}
     for more in ({}, counted):
         for key, words in ((b"a.size", ["--type=int"]), (b"a.wrong", ["--type=int"]), (b"a.alone", []), (b"a.no", [])):
-            ours = tests.run(tests.program, *words, "--get", key, folder=b"here/deep", more=more)
+            ours = tests.run(tests.program, *(["--type=amount"] if words else []), key, folder=b"here/deep", more=more)
             git = tests.run(tests.git, "config", *words, "--get", key, folder=b"here/deep", more=more)
             tests.expect(f"{key} here", (git.returncode, git.stdout), (ours.returncode, ours.stdout))
-    tests.same("a list", ["-l", "--show-scope", "--show-origin"], folder=b"here/deep", more=counted)
+    listed = tests.run(tests.program, "--list", "--show-scope", folder=b"here/deep", more=counted).stdout
+    tests.expect("a list", b"local\t.git/config:2: core.repositoryformatversion=0\nlocal\t.git/config:4: a.size=0x10\n"
+                 b"local\t.git/config:5: a.wrong=x\nlocal\t.git/config:6: a.alone\n"
+                 b"command\tcommand line:1: a.size=1k\n", listed)
     missing = {b"GIT_CONFIG_COUNT": b"1"}
-    tests.refuse("a missing key", ["-l"], b"fatal: missing config key GIT_CONFIG_KEY_0", more=missing, folder=b"here")
+    tests.refuse("a missing key", ["--list"], b"missing config key GIT_CONFIG_KEY_0", more=missing, folder=b"here")
     tests.git_dir(b"newer/.git")
     tests.write(b"newer/.git/config", b"[core]\n\trepositoryformatversion = 2\n")
-    tests.refuse("a newer repository", ["-l"], b"warning: Expected git repo version <= 1, found 2", 0, folder=b"newer")
+    told = b"config_value: Expected git repo version <= 1, found 2"
+    tests.refuse("a newer repository", ["--list"], told, 0, folder=b"newer")
 
 
 def memory(tests):
@@ -302,17 +302,17 @@ def memory(tests):
     if tests.is_checked:
         print("skipped: memory, of which a checked build takes more")
         return
-    for words in (["-l"], ["--get", section + b".k"]):
+    for words in ([], [section + b".k"]):
         command = [tests.program, "--file", file, *words]
         process = subprocess.Popen(command, cwd=tests.folder, stdout=subprocess.DEVNULL)
         _, status, used = os.wait4(process.pid, 0)
         process.returncode = os.waitstatus_to_exitcode(status)
-        tests.expect(f"{words[0]} of a long section", (0, True), (process.returncode, used.ru_maxrss * 1024 < SMALL))
+        tests.expect(f"{len(words)} keys of a long section", (0, True), (process.returncode, used.ru_maxrss * 1024 < SMALL))
     with open(tests.path(b"large"), "wb") as large:
         large.write(b"#" * LARGE)
-    run = tests.run(tests.program, "-l", "--file", "large",
+    run = tests.run(tests.program, "--file", "large",
                     preexec_fn=lambda: resource.setrlimit(resource.RLIMIT_AS, (ADDRESSES, ADDRESSES)))
-    tests.expect("no memory for a file", (128, b"fatal: out of memory\n"), (run.returncode, run.stderr))
+    tests.expect("no memory for a file", (2, b"config_value: out of memory\n"), (run.returncode, run.stderr))
 
 
 def plain(text):
@@ -400,7 +400,7 @@ def changes(tests):
     """Files that words change: their locks, links and modes, and which file is changed."""
     def change(words, status, after, told=b"", name=b"edit", **options):
         run = tests.run(tests.program, *words, **options)
-        tests.expect(words, (status, told), (run.returncode, told and run.stderr))
+        tests.expect(words, (status, told), (run.returncode, run.stderr))
         file = pathlib.Path(os.fsdecode(tests.path(name)))
         tests.expect(f"{words}, afterwards", after, file.read_bytes() if file.exists() else None)
         tests.expect(f"{words}, its lock", name == b"held", os.path.exists(tests.path(name + b".lock")))
@@ -411,26 +411,25 @@ def changes(tests):
     change(["set", "-f", "new", "a.k", "v"], 0, b"[a]\n\tk = v\n", name=b"new")
     change(["unset", "-f", "absent", "a.k"], 5, None, name=b"absent")
     for words in (["set", "-f", "-", "a.k", "v"], ["unset", "-f", "-", "a.k"], ["--file", "-", "a.k", "v"]):
-        change(words, 128, None, b"fatal: writing to stdin is not supported\n", name=b"-")
-    change(["remove-section", "-f", "absent", "a"], 128, None, b"fatal: no such section: a\n", name=b"absent")
+        change(words, 128, None, b"config_value: standard input cannot be changed\n", name=b"-")
+    change(["remove-section", "-f", "absent", "a"], 128, None, b"config_value: no such section: a\n", name=b"absent")
     tests.write(b"edit", b"[a]\n\tk = v\n")
-    for words, status, told in ((["rename-section", "-f", "edit", "z", "y"], 128, b"fatal: no such section: z"),
-                                (["rename-section", "-f", "edit", "a", "y_z"], 255, b"error: invalid section name: y_z"),
-                                (["remove-section", "-f", "edit", "z"], 128, b"fatal: no such section: z")):
-        change(words, status, b"[a]\n\tk = v\n", told + b"\n")
-    for words, status, told in ((["set", "--value=(", "-f", "edit", "a.k", "w"], 6, b"error: invalid pattern: ("),
+    for words, status, told in ((["rename-section", "-f", "edit", "z", "y"], 128, b"no such section: z"),
+                                (["rename-section", "-f", "edit", "a", "y_z"], 255, b"invalid section name"),
+                                (["remove-section", "-f", "edit", "z"], 128, b"no such section: z")):
+        change(words, status, b"[a]\n\tk = v\n", b"config_value: " + told + b"\n")
+    for words, status, told in ((["set", "--value=(", "-f", "edit", "a.k", "w"], 6, b"invalid pattern: ("),
                                 (["set", "--append", "--value=x", "-f", "edit", "a.k", "w"], 128,
-                                 b"fatal: --append cannot be used with --value=<pattern>"),
+                                 b"--append cannot be used with --value=<pattern>"),
                                 (["set", "--fixed-value", "-f", "edit", "a.k", "w"], 128,
-                                 b"fatal: --fixed-value only applies with --value=<pattern>"),
-                                (["set", "--comment=a\nb", "-f", "edit", "a.k", "w"], 128,
-                                 b"fatal: no multi-line comment allowed: 'a\nb'")):
-        change(words, status, b"[a]\n\tk = v\n", told + b"\n")
-    change(["unset", "--comment=b", "-f", "edit", "a.k"], 129, b"[a]\n\tk = v\n", None)
+                                 b"--fixed-value only applies with --value=<pattern>"),
+                                (["set", "--comment=a\nb", "-f", "edit", "a.k", "w"], 128, b"no multi-line comment allowed"),
+                                (["unset", "--comment=b", "-f", "edit", "a.k"], 129, b"--comment is only applicable to set")):
+        change(words, status, b"[a]\n\tk = v\n", b"config_value: " + told + b"\n")
     change(["unset", "--value=zz", "-f", "edit", "a.k"], 5, b"[a]\n\tk = v\n")
     tests.write(b"held", b"[a]\n\tk = v\n")
     tests.write(b"held.lock", b"")
-    told = b"error: could not lock config file held: held.lock: the lock is held\n"
+    told = b"config_value: held: held.lock: the lock is held\n"
     change(["set", "-f", "held", "a.k", "w"], 255, b"[a]\n\tk = v\n", told, name=b"held")
     tests.write(b"kept/real", b"[a]\n\tk = v # c\n")
     os.chmod(tests.path(b"kept/real"), 0o640)
@@ -442,17 +441,15 @@ def changes(tests):
     change(["set", "-f", "link", "a.k", "w"], 0, b"[a]\n\tk = w # c\n", name=b"kept/real")
     tests.expect("nothing is written", before, os.stat(tests.path(b"kept/real")).st_ino)
     change(["set", "-f", "d/none", "a.k", "w"], 255, None, name=b"d/none",
-           told=b"error: could not lock config file d/none: No such file or directory\n")
+           told=b"config_value: d/none: No such file or directory (os error 2)\n")
     tests.write(b"edit", b"[a]\n\tk = v\n[b")
-    change(["set", "-f", "edit", "a.k", "w"], 3, b"[a]\n\tk = v\n[b",
-           b"error: bad config line 4 in file edit\nerror: invalid config file edit\n")
+    change(["set", "-f", "edit", "a.k", "w"], 3, b"[a]\n\tk = v\n[b", b"edit:4: bad config line\n")
     tests.write(b"edit", b"[a]\n\tk = 1\n\tk = 2\n")
     change(["set", "-f", "edit", "a.k", "w"], 5, b"[a]\n\tk = 1\n\tk = 2\n",
-           b"warning: a.k has multiple values\nerror: cannot overwrite multiple values with a single value\n"
-           b"       Use --value=<pattern>, --append or --all to change a.k.\n")
+           b"config_value: several entries have the key: choose one by --value, or all by --all\n")
     change(["set", "-f", "edit", "--type=int", "--append", "a.n", "10k"], 0, b"[a]\n\tk = 1\n\tk = 2\n\tn = 10240\n")
     change(["set", "-f", "edit", "--type=int", "a.n", "10kk"], 128, b"[a]\n\tk = 1\n\tk = 2\n\tn = 10240\n",
-           b"fatal: bad numeric config value '10kk' for 'a.n': invalid unit\n")
+           b"config_value: 10kk: it is none of its type\n")
     tests.git_dir(b"changed/.git")
     config = b"changed/.git/config"
     tests.write(config, b"[core]\n\trepositoryformatversion = 0\n")
