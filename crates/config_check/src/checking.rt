@@ -6,7 +6,7 @@ use crate::diff::diff_of;
 use crate::failure::{Failure, failed, tell, written};
 use crate::options::{Asked, Format, Output};
 use crate::report::{Counting, Lines, Report};
-use crate::rows::{AllRows, Must, built_in_rows, rows_for};
+use crate::rows::{AllRows, Must, built_in, settings_for};
 use crate::sarif;
 use crate::source::Source;
 use bstr::BStr;
@@ -14,6 +14,7 @@ use bumpalo::Bump;
 use config_checks::check::{Counts, Receiver, check_file};
 use config_checks::code::Code;
 use config_checks::finding::{Finding, key_text};
+use config_checks::git::SETTINGS;
 use config_checks::key::covers;
 use config_checks::options::Options;
 use config_checks::outcome::Outcome;
@@ -337,7 +338,7 @@ impl<'c, 't> Checking<'c, 't> {
     ) -> Result<Looked, Failure<'static>> {
         let rows = match self.rows.take() {
             Some(rows) => rows,
-            None => built_in_rows(self.rt.alloc(), self.asked.git)?,
+            None => built_in(self.rt.alloc(), self.asked.git, SETTINGS.as_bytes())?,
         };
         let looked = self.look(&rows, file, text, mends);
         self.rows = Some(rows);
@@ -361,9 +362,10 @@ impl<'c, 't> Checking<'c, 't> {
         text: &'t [u8],
     ) -> Result<Option<Counts>, Failure<'static>> {
         let alloc = self.rt.alloc();
-        let Some(rows) = rows_for(alloc, self.asked.git, text)? else {
+        let Some(settings) = settings_for(alloc, text)? else {
             return Ok(None);
         };
+        let rows = built_in(alloc, self.asked.git, &settings)?;
         let options = self.options;
         match check_file(alloc, &rows, &options, file, text, &mut Counting) {
             Ok(counts) if counts.unknown == 0 => {

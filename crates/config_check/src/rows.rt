@@ -8,10 +8,11 @@ use bumpalo::Bump;
 use config_checks::git::SETTINGS;
 use config_checks::reason::{nearest_word, outside};
 use config_checks::row::Row;
-use config_checks::table::{RowFault, read_row};
+use config_checks::table::{BadRow, RowFault, read_row, read_rows};
 use config_checks::version::Version;
 use config_file::key::Key;
 use config_host::repository::find;
+use config_host::text::Text;
 use config_host::{Disk, ReadError};
 use std::alloc::{AllocError, Global};
 use std::fs;
@@ -79,14 +80,22 @@ pub(crate) struct Must<'m, 't> {
 
 /// Rows, and the version of Git by which they are judged.
 #[derive(Drop)]
-pub(crate) struct Rows<'m, 't> {
+struct Rows<'m, 't> {
     git: Version,
     /// Those that hold for this Git.
     first: Vec<Row<'t>>,
     /// Those that hold for another Git alone.
     last: Vec<Row<'t>>,
     /// The settings that rows for this Git ask for, in the order of the rows.
-    pub(crate) musts: Vec<Must<'m, 't>>,
+    musts: Vec<Must<'m, 't>>,
+}
+
+/// Adds a row to others.
+fn add<'t>(rows: &mut Vec<Row<'t>>, row: Row<'t>) -> Result<(), AllocError> {
+    match rows.push(row) {
+        Ok(()) => Ok(()),
+        Err(_) => Err(AllocError),
+    }
 }
 
 impl<'m, 't> Rows<'m, 't> {
@@ -100,16 +109,22 @@ impl<'m, 't> Rows<'m, 't> {
         }
     }
 
-    /// Adds the row on this line of a text.
-    fn add(
+    /// Adds the settings that the rows of a text ask for, if these hold for this Git.
+    fn add_musts(
         &mut self,
+        alloc: Global,
         file: &'m str,
         text: &'t [u8],
-        line: usize,
-        row: Row<'t>,
     ) -> Result<(), AllocError> {
-        let holds = outside(&row, self.git).is_none();
-        if row.must && holds {
+        let mut line: usize = 0;
+        for written in text.split(|byte| *byte == b'\n') {
+            line = line.saturating_add(1);
+            let Ok(Some(row)) = read_row(alloc, written) else {
+                continue;
+            };
+            if !row.must || outside(&row, self.git).is_some() {
+                continue;
+            }
             let must = Must {
                 file,
                 text,
@@ -121,44 +136,35 @@ impl<'m, 't> Rows<'m, 't> {
                 return Err(AllocError);
             }
         }
-        let rows = if holds {
-            &mut self.first
-        } else {
-            &mut self.last
-        };
-        match rows.push(row) {
-            Ok(()) => Ok(()),
-            Err(_) => Err(AllocError),
-        }
+        Ok(())
     }
 
-    /// Adds the rows of a text: those of these sections, if there are any.
+    /// Adds the rows of a text.
     fn add_text(
         &mut self,
         alloc: Global,
         file: &'m str,
         text: &'t [u8],
-        sections: Option<&[&[u8]]>,
     ) -> Result<(), Failure<'m>> {
-        let mut number: usize = 0;
-        for line in text.split(|byte| *byte == b'\n') {
-            number = number.saturating_add(1);
-            if !is_of(sections, line) {
-                continue;
+        let mut rows = Vec::new(alloc);
+        if let Err(BadRow { line, fault }) = read_rows(alloc, text, &mut rows) {
+            if let RowFault::Memory(error) = fault {
+                return Err(Failure::Memory(error));
             }
-            match read_row(alloc, line) {
-                Ok(Some(row)) => self.add(file, text, number, row)?,
-                Ok(None) => {}
-                Err(RowFault::Memory(error)) => return Err(Failure::Memory(error)),
-                Err(fault) => {
-                    let why = why(alloc, fault)?;
-                    return Err(Failure::Row {
-                        file,
-                        line: number,
-                        why,
-                    });
-                }
+            let why = why(alloc, fault)?;
+            return Err(Failure::Row { file, line, why });
+        }
+        let mut has_musts = false;
+        for row in rows {
+            has_musts |= row.must;
+            if outside(&row, self.git).is_none() {
+                add(&mut self.first, row)?;
+            } else {
+                add(&mut self.last, row)?;
             }
+        }
+        if has_musts {
+            self.add_musts(alloc, file, text)?;
         }
         Ok(())
     }
@@ -172,18 +178,25 @@ impl<'m, 't> Rows<'m, 't> {
     ) -> Result<(), Failure<'m>> {
         let bytes = fs::read(rt, file).map_err(|error| Failure::File { file, error })?;
         let text = Disk::new(rt, texts).kept(&bytes)?;
-        self.add_text(rt.alloc(), file, without_mark(text), None)
+        self.add_text(rt.alloc(), file, without_mark(text))
     }
 }
 
 /// Rows, and behind them others.
 fn joined<'t>(mut rows: Vec<Row<'t>>, others: Vec<Row<'t>>) -> Result<Vec<Row<'t>>, AllocError> {
     for row in others {
-        if rows.push(row).is_err() {
-            return Err(AllocError);
-        }
+        add(&mut rows, row)?;
     }
     Ok(rows)
+}
+
+/// The rows of a run.
+#[derive(Drop)]
+pub(crate) struct AllRows<'m, 't> {
+    /// All rows, those that hold for this Git first. `None` if only the built-in ones hold, which are not read yet.
+    pub(crate) rows: Option<Vec<Row<'t>>>,
+    /// The settings that rows for this Git ask for, in the order of the rows.
+    pub(crate) musts: Vec<Must<'m, 't>>,
 }
 
 /// The first bytes of a text that the name of a section may have.
@@ -196,14 +209,6 @@ fn word_of(text: &[u8]) -> &[u8] {
         count = count.saturating_add(1);
     }
     front(text, count)
-}
-
-/// Whether the row on a line is one of these sections, if there are any.
-fn is_of(sections: Option<&[&[u8]]>, line: &[u8]) -> bool {
-    match sections {
-        Some(sections) => has(sections, word_of(line)),
-        None => true,
-    }
 }
 
 /// The most sections of a text for which rows are read.
@@ -226,39 +231,33 @@ fn sections_of(alloc: Global, text: &[u8]) -> Result<Option<Vec<&[u8]>>, AllocEr
     Ok(Some(sections))
 }
 
-/// The built-in rows: those of these sections, if there are any. Those that hold for this Git come first.
-fn built_in(
+/// The built-in rows that this text has, which is part of theirs. Those that hold for this Git come first.
+pub(crate) fn built_in<'t>(
     alloc: Global,
     git: Version,
-    sections: Option<&[&[u8]]>,
-) -> Result<Vec<Row<'static>>, Failure<'static>> {
+    text: &'t [u8],
+) -> Result<Vec<Row<'t>>, Failure<'static>> {
     let mut rows = Rows::new(alloc, git);
-    rows.add_text(alloc, BUILT_IN, SETTINGS.as_bytes(), sections)?;
+    rows.add_text(alloc, BUILT_IN, text)?;
     Ok(joined(rows.first, rows.last)?)
 }
 
-/// All built-in rows. Those that hold for this Git come first.
-pub(crate) fn built_in_rows(
-    alloc: Global,
-    git: Version,
-) -> Result<Vec<Row<'static>>, Failure<'static>> {
-    built_in(alloc, git, None)
-}
-
-/// The built-in rows for the sections that a text has, in the order of all rows. `None` if it is so long, or has
-/// so many sections, that all rows are as soon read.
-pub(crate) fn rows_for(
-    alloc: Global,
-    git: Version,
-    text: &[u8],
-) -> Result<Option<Vec<Row<'static>>>, Failure<'static>> {
+/// The text of the built-in rows for the sections that a text has, in the order of all rows. `None` if it is so
+/// long, or has so many sections, that all rows are as soon read.
+pub(crate) fn settings_for(alloc: Global, text: &[u8]) -> Result<Option<Vec<u8>>, AllocError> {
     if SETTINGS.len() < text.len() {
         return Ok(None);
     }
-    match sections_of(alloc, text)? {
-        Some(sections) => Ok(Some(built_in(alloc, git, Some(&sections))?)),
-        None => Ok(None),
+    let Some(sections) = sections_of(alloc, text)? else {
+        return Ok(None);
+    };
+    let mut lines = Text::new(alloc);
+    for line in SETTINGS.as_bytes().split_inclusive(|byte| *byte == b'\n') {
+        if has(&sections, word_of(line)) {
+            lines.put(line);
+        }
     }
+    Ok(Some(lines.end()?))
 }
 
 /// The text of the file of rows at the top of the repository of the current folder, if it is there.
@@ -280,15 +279,6 @@ fn shared_text<'t>(
     }
 }
 
-/// The rows of a run.
-#[derive(Drop)]
-pub(crate) struct AllRows<'m, 't> {
-    /// All rows, those that hold for this Git first. `None` if only the built-in ones hold, which are not read yet.
-    pub(crate) rows: Option<Vec<Row<'t>>>,
-    /// The settings that rows for this Git ask for, in the order of the rows.
-    pub(crate) musts: Vec<Must<'m, 't>>,
-}
-
 /// The rows of the files of `--settings`, of that of the repository, if it is there, and the built-in ones.
 pub(crate) fn rows_of<'m, 't>(
     rt: &'t HostRuntime,
@@ -302,7 +292,7 @@ pub(crate) fn rows_of<'m, 't>(
         rows.add_file(rt, texts, file)?;
     }
     if let Some(text) = shared_text(rt, texts)? {
-        rows.add_text(alloc, SHARED, without_mark(text), None)?;
+        rows.add_text(alloc, SHARED, without_mark(text))?;
     }
     if rows.first.is_empty() && rows.last.is_empty() {
         return Ok(AllRows {
@@ -310,7 +300,7 @@ pub(crate) fn rows_of<'m, 't>(
             musts: rows.musts,
         });
     }
-    rows.add_text(alloc, BUILT_IN, SETTINGS.as_bytes(), None)?;
+    rows.add_text(alloc, BUILT_IN, SETTINGS.as_bytes())?;
     Ok(AllRows {
         rows: Some(joined(rows.first, rows.last)?),
         musts: rows.musts,

@@ -189,19 +189,26 @@ def fail_on(group, program):
             group.expect((severity, one, other), int(severity in one + other), came.status)
 
 
-def built_in(group, program):
-    """Built-in rows, and other rows that come before them."""
-    data = b"".join(made.line_of(key, value) for key, value, _ in rows.BUILT_IN)
-    count, wrong = len(rows.BUILT_IN), sum(reason is not None for *_, reason in rows.BUILT_IN)
-    told, came = ended(b"wrong", (count, count, 0, wrong)), program.run(["-"], data)
+def judged_by_built_in(group, program, entries):
+    """Entries in one file, each with its key, value and reason, by the built-in rows."""
+    data = b"".join(made.line_of(key, value) for key, value, _ in entries)
+    count, wrong = len(entries), sum(reason is not None for *_, reason in entries)
+    told, came = ended(b"wrong" * bool(wrong), (count, count, 0, wrong)), program.run(["-"], data)
     lines = {int(line.split(b":")[1]): line for line in came.output.splitlines(True)}
-    for (place, _, _), (key, value, reason) in zip(plain_reader.entries(data)[0], rows.BUILT_IN):
+    for (place, _, _), (key, value, reason) in zip(plain_reader.entries(data)[0], entries):
         wanted = b"" if reason is None else beginning(
             place, cut(named(BUILT_IN, listed(key))), None if value is None else cut(value), reason)
         code = b"" if reason is None else b" [%s]\n" % plain_reader.code_of(reason).encode()
         line = lines.get(place[0], b"")
         group.expect((key, value), (wanted, code, told.status, told.errors),
                      (line[:len(wanted)], line[-len(code):] if code else line, came.status, came.errors))
+
+
+def built_in(group, program):
+    """Built-in rows, for all sections in one file and for each in a file of its own, and other rows that come before them."""
+    judged_by_built_in(group, program, rows.BUILT_IN)
+    for section in dict.fromkeys(key_of(key)[0].lower() for key, *_ in rows.BUILT_IN):
+        judged_by_built_in(group, program, [it for it in rows.BUILT_IN if key_of(it[0])[0].lower() == section])
     how = arguments(program.settings(rows.OWN_SETTINGS))
     expect_entries(group, program, how, [
         (made.line_of(key, value), named(BUILT_IN, listed(key)), value, reason and reason + hint(reason, value))

@@ -79,7 +79,7 @@ pub trait Receiver {
         setting: Option<&Setting<'_>>,
         finding: &Finding<'_>,
     ) -> Result<(), CheckError>
-        requires { IsAbout (option_copied setting.entry) (finding_of finding.now) }
+        requires { IsAbout (option_copied setting) (finding_of finding.now) }
         ensures ok { OnOk result
             (Receives (received self.old) (received self.new) (finding_of finding.now ∷ [])) }
         ensures err { OnErr result (Receives (received self.old) (received self.new) []) };
