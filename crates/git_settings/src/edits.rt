@@ -455,6 +455,10 @@ fn tell_refusal(
             rt,
             format_args!("config_value: a value cannot have a NUL byte"),
         ),
+        EditError::Comment => tell(
+            rt,
+            format_args!("config_value: a comment cannot have a line end"),
+        ),
         EditError::File(error) => tell(rt, format_args!("{}:{error}", BStr::new(name))),
         EditError::Several => tell(
             rt,
@@ -483,7 +487,7 @@ fn status_of(change: Change<'_>, error: &EditError) -> u8 {
             Change::Rename(..) | Change::Remove(..) => DIED,
             _ => NOTHING,
         },
-        EditError::Memory(_) | EditError::Value => DIED,
+        EditError::Memory(_) | EditError::Value | EditError::Comment => DIED,
     }
 }
 

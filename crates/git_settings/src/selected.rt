@@ -86,6 +86,7 @@ pub fn without(
             entry: *place,
             name: Some(name.as_slice()),
             value: None,
+            comment: None,
         };
         if changes.push(change).is_err() {
             return Err(EditError::Memory(AllocError));
@@ -122,6 +123,7 @@ pub fn with_value(
         entry: *last,
         name: None,
         value: Some(value),
+        comment: None,
     };
     let new = edit::change_entries(alloc, text, &[change])?;
     Ok(Changed {
