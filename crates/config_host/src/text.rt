@@ -1,5 +1,6 @@
 //! A text that is built part by part, and remembers that memory was refused.
 
+use config_file::Entry;
 use std::alloc::{AllocError, Global};
 
 /// A text of bytes to which nothing that is put fails: only its end has to be asked whether all of it is there.
@@ -38,6 +39,14 @@ impl Text {
     pub fn put_repeated(&mut self, byte: u8, count: usize) {
         for _ in 0..count {
             self.put_byte(byte);
+        }
+    }
+
+    /// Appends the key of an entry, as Git lists it.
+    #[inline]
+    pub fn put_key(&mut self, entry: &Entry<'_>) {
+        if entry.push_key(&mut self.bytes).is_err() {
+            self.has_failed = true;
         }
     }
 
