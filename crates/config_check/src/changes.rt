@@ -110,6 +110,7 @@ pub(crate) fn changed(alloc: Global, text: &[u8], mended: &[Mended]) -> Result<V
             entry: one.entry,
             name: one.name.as_deref(),
             value: one.value.as_deref(),
+            comment: None,
         };
         if changes.push(change).is_err() {
             return Err(Unchanged::Memory);

@@ -32,8 +32,8 @@ use std::alloc::{AllocError, Global};
 ///
 /// let fix = Fix::Value(b"true");
 /// let change = match fix {
-///     Fix::Name(name) => Change { entry: 0, name: Some(name), value: None },
-///     Fix::Value(value) => Change { entry: 0, name: None, value: Some(value) },
+///     Fix::Name(name) => Change { entry: 0, name: Some(name), value: None, comment: None },
+///     Fix::Value(value) => Change { entry: 0, name: None, value: Some(value), comment: None },
 /// };
 /// assert!(rt; change.value == Some(b"true".as_slice()));
 /// ```

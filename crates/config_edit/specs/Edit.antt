@@ -7,9 +7,9 @@ use Rattle.config_edit.specs.declared.Change.{Change}
 use Rattle.config_edit.specs.declared.EditError.{EditError}
 use Rattle.config_edit.specs.declared.EditError.TheVariants as error
 use Rattle.config_file.specs.Bytes.{tab, line_feed, carriage_return, dot, space, equals_sign, left_bracket}
-use Rattle.config_file.specs.Bytes.{is_blank, is_comment_sign, is_comment_byte}
+use Rattle.config_file.specs.Bytes.{is_blank, is_space, is_comment_sign, is_comment_byte, hash}
 use Rattle.config_file.specs.Header.{Section, Header}
-use Rattle.config_file.specs.Value.{Ending, SpellsValue}
+use Rattle.config_file.specs.Value.{Ending, SpellsValue, outside, at_backslash}
 use Rattle.config_file.specs.Spelling.{SpellsSection, IsGitHeader, IsGitSpelling, HasNoHeader, LacksSpelling}
 use Rattle.config_file.specs.File.{Entry, TakesEntry, Begins, IsFile}
 use Rattle.config_edit.specs.Reached.{Leads}
@@ -106,19 +106,33 @@ RenamesSection old_name new_name old new = (contents : List Content) × HasConte
 abbrev pub IsOf : Key → Content → Type 0
 IsOf key x = IsIn key x.0 × (map to_ascii_lowercase x.1 ≡ map to_ascii_lowercase key.name)
 
--- the contents without those of the key
-pub data Without (key : Key) : List Content → List Content → Type 0 where
-  none : Without key [] []
+-- one of these places is this one, and those before it are smaller
+abbrev pub IsAmong : List ℕ → ℕ → Type 0
+IsAmong [] place = ⊥
+IsAmong (first ∷ later) place = (place ≡ first) ⊎ ((first < place) × IsAmong later place)
+
+-- the place is one of these, or any if none are given
+abbrev pub IsPlaceOf : Option (List ℕ) → ℕ → Type 0
+IsPlaceOf None place = ⊤
+IsPlaceOf (Some places) place = IsAmong places place
+
+-- the contents without those of the key at these places, from 0, or without all of the key
+pub data Without (key : Key) (places : Option (List ℕ)) : List Content → List Content → Type 0 where
+  none : Without key places [] []
   lost : (x : Content) {old new : List Content}
-      → Without key old new → IsOf key x
-      → Without key (old ++ x ∷ []) new
+      → Without key places old new → IsOf key x → IsPlaceOf places (length old)
+      → Without key places (old ++ x ∷ []) new
   kept : (x : Content) {old new : List Content}
-      → Without key old new → ¬ (IsOf key x)
-      → Without key (old ++ x ∷ []) (new ++ x ∷ [])
+      → Without key places old new → ¬ (IsOf key x × IsPlaceOf places (length old))
+      → Without key places (old ++ x ∷ []) (new ++ x ∷ [])
+
+-- none of the contents at these places is of the key
+abbrev pub HasNoneAt : Option (List ℕ) → Key → List Content → Type 0
+HasNoneAt places key contents = Without key places contents contents
 
 -- none of the contents is of the key
 abbrev pub HasNone : Key → List Content → Type 0
-HasNone key contents = Without key contents contents
+HasNone key contents = HasNoneAt None key contents
 
 -- at least two of the contents are of the key
 abbrev pub HasSeveral : Key → List Content → Type 0
@@ -151,7 +165,7 @@ pub record Replaces (key : Key) (value : List ℕ) (old new : List Content) : Ty
   pub old_is : old ≡ before ++ x ∷ after
   pub is_of : IsOf key x
   pub last : HasNone key after
-  pub others : Without key before left
+  pub others : Without key None before left
   pub has_value : HasValue (Some raw) value
   pub new_is : new ≡ left ++ (x.0, x.1, Some raw) ∷ after
 
@@ -201,26 +215,34 @@ LosesEntry key section gone put rest =
     (name : List ℕ) × (value : Option (List ℕ)) × (lines : ℕ) × (at blanks : List ℕ) × (is_line : Bool)
     × IsOf key (section, name, value) × AreBlank blanks × IsEntry name value lines at blanks gone rest is_line × IsEnd put
 
--- before this rest: nothing, blanks up to the end of a line, or an entry of the key in this section
-abbrev pub IsLostTail : Key → Section → List ℕ → List ℕ → Type 0
-IsLostTail key section bytes rest =
-    (bytes ≡ []) ⊎ ((is_line : Bool) × (t : IsTail bytes rest is_line) × (t.comment ≡ []))
-    ⊎ LosesEntry key (Some section) bytes [] rest
+-- behind these contents, an entry of the key that is at one of the places goes
+abbrev pub LosesEntryAt : Key → Option (List ℕ) → List Content → Option Section → List ℕ → List ℕ → List ℕ → Type 0
+LosesEntryAt key places before section gone put rest =
+    IsPlaceOf places (length before) × LosesEntry key section gone put rest
 
--- a header of a section of the key goes, alone or with what its line has left: blanks, or an entry of the key
-pub record LosesHeader (key : Key) (gone put rest : List ℕ) : Type 0 where
+-- Before this rest and behind these contents: nothing, blanks up to the end of a line, or an entry of the key in this
+-- section, at one of the places.
+abbrev pub IsLostTail : Key → Option (List ℕ) → List Content → Section → List ℕ → List ℕ → Type 0
+IsLostTail key places before section bytes rest =
+    (bytes ≡ []) ⊎ ((is_line : Bool) × (t : IsTail bytes rest is_line) × (t.comment ≡ []))
+    ⊎ LosesEntryAt key places before (Some section) bytes [] rest
+
+-- A header of a section of the key goes, alone or with what its line has left: blanks, or an entry of the key at one of
+-- the places.
+pub record LosesHeader (key : Key) (places : Option (List ℕ)) (before : List Content) (gone put rest : List ℕ) : Type 0 where
   pub blanks : List ℕ
   pub header : List ℕ
   pub tail : List ℕ
   pub joined : gone ≡ blanks ++ (header ++ tail)
   pub are_blank : AreBlank blanks
   pub is_header : IsHeaderOf key header
-  pub is_tail : IsLostTail key is_header.1 tail rest
+  pub is_tail : IsLostTail key places before is_header.1 tail rest
   pub is_end : IsEnd put
 
--- an entry of the key goes, or the header of a section that has none left
-abbrev pub MayUnset : Key → List Content → Option Section → List ℕ → List ℕ → List ℕ → Type 0
-MayUnset key before section gone put rest = LosesEntry key section gone put rest ⊎ LosesHeader key gone put rest
+-- an entry of the key at one of the places goes, or the header of a section that has none left
+abbrev pub MayUnset : Key → Option (List ℕ) → List Content → Option Section → List ℕ → List ℕ → List ℕ → Type 0
+MayUnset key places before section gone put rest =
+    LosesEntryAt key places before section gone put rest ⊎ LosesHeader key places before gone put rest
 
 -- nothing, or a space
 abbrev pub IsGap : List ℕ → Type 0
@@ -475,12 +497,20 @@ AddsOne name value old new = Edits (λ key contents new. AddsKey key value old c
 -- what `unset` makes: the one entry of the key is gone
 abbrev pub Unsets : List ℕ → List ℕ → List ℕ → Type 0
 Unsets name old new = Edits (λ key contents new. (now : List Content) × HasContents new now
-    × LosesOne key contents now × Changes (MayUnset key) old new) name old new
+    × LosesOne key contents now × Changes (MayUnset key None) old new) name old new
+
+-- the entries of the key at these places are gone, or all of the key
+abbrev pub UnsetsEach : Option (List ℕ) → List ℕ → List ℕ → List ℕ → Type 0
+UnsetsEach places name old new = Edits (λ key contents new. (now : List Content) × HasContents new now
+    × Without key places contents now × Changes (MayUnset key places) old new) name old new
 
 -- what `unset_all` makes: all entries of the key are gone
 abbrev pub UnsetsAll : List ℕ → List ℕ → List ℕ → Type 0
-UnsetsAll name old new = Edits (λ key contents new. (now : List Content) × HasContents new now
-    × Without key contents now × Changes (MayUnset key) old new) name old new
+UnsetsAll name old new = UnsetsEach None name old new
+
+-- what `unset_at` makes: the entries of the key at these places are gone
+abbrev pub UnsetsAt : List ℕ → List ℕ → List ℕ → List ℕ → Type 0
+UnsetsAt places name old new = UnsetsEach (Some places) name old new
 
 -- the last entry of the key in this file has the value
 abbrev pub Decides : List ℕ → List ℕ → List ℕ → Type 0
@@ -522,16 +552,63 @@ abbrev pub ChangesValueTo : List ℕ → Option (List ℕ) → List ℕ → Type
 ChangesValueTo value was bytes =
     (HasValue was value × (bytes ≡ value_bytes was)) ⊎ (¬ (HasValue was value) × PutsValue value was bytes)
 
--- before this rest, an entry of this key and this value gets the key and the value of the change: what is between them stays
+-- What Git writes for a comment: if spaces and TABs and `#` begin it, it stays as it is; a space comes before a `#` that
+-- begins it; and ` # ` comes before any other.
+pub data WritesComment : List ℕ → List ℕ → Type 0 where
+  spaced : {b : ℕ} {blanks more : List ℕ} → list_all is_space (b ∷ blanks) ≡ true
+      → WritesComment ((b ∷ blanks) ++ hash ∷ more) ((b ∷ blanks) ++ hash ∷ more)
+  signed : {more : List ℕ} → WritesComment (hash ∷ more) (space ∷ hash ∷ more)
+  plain : {comment : List ℕ}
+      → ((blanks more : List ℕ) → list_all is_space blanks ≡ true → comment ≢ blanks ++ hash ∷ more)
+      → WritesComment comment (space ∷ hash ∷ space ∷ comment)
+
+-- the line end of these bytes: CR LF if they have it, and nothing if none ends their line
+pub data IsEndOfLine : List ℕ → Bool → List ℕ → Type 0 where
+  unended : {bytes : List ℕ} → IsEndOfLine bytes false []
+  feed : {bytes : List ℕ} → ((front : List ℕ) → bytes ≢ front ++ carriage_return ∷ line_feed ∷ [])
+      → IsEndOfLine bytes true (line_feed ∷ [])
+  return_feed : (front : List ℕ)
+      → IsEndOfLine (front ++ carriage_return ∷ line_feed ∷ []) true (carriage_return ∷ line_feed ∷ [])
+
+-- what has to come between these bytes, which a value has now, and a comment: a line end if a backslash ends the text
+pub data FeedsComment : Option (List ℕ) → List ℕ → List ℕ → Type 0 where
+  closed : {raw bytes value : List ℕ} → SpellsValue bytes value outside → FeedsComment (Some raw) bytes []
+  open_value : {raw value : List ℕ} → SpellsValue raw value at_backslash → FeedsComment (Some raw) raw (line_feed ∷ [])
+  behind_key : {bytes : List ℕ} → FeedsComment None bytes []
+
+-- Before this rest, the bytes that a value has now and what is left of its line become the value without the blanks behind
+-- it, the comment as Git writes it, and the line end of the bytes that are gone.
+pub record PutsComment (comment : List ℕ) (was : Option (List ℕ)) (gone bytes tail rest after : List ℕ) : Type 0 where
+  pub core : List ℕ
+  pub blanks : List ℕ
+  pub feed : List ℕ
+  pub written : List ℕ
+  pub end : List ℕ
+  pub is_line : Bool
+  pub is_tail : IsTail tail rest is_line
+  pub bytes_are : bytes ≡ core ++ blanks
+  pub are_blank : AreBlank blanks
+  pub ends_core : (more : List ℕ) (b : ℕ) → core ≡ more ++ b ∷ [] → is_blank b ≡ false
+  pub feeds : FeedsComment was bytes feed
+  pub is_written : WritesComment comment written
+  pub is_end : IsEndOfLine gone is_line end
+  pub after_is : after ≡ core ++ (feed ++ (written ++ end))
+
+-- Before this rest, an entry of this key and this value gets the key and the value of the change: what is between them
+-- stays. If the change has a comment, what is left of the line of the entry goes too, and the comment comes in its place.
 pub record ChangesEntry (change : Change) (key : List ℕ) (was : Option (List ℕ)) (gone put rest : List ℕ) : Type 0 where
   pub lines : ℕ
   pub between : List ℕ
   pub bytes : List ℕ
+  pub tail : List ℕ
+  pub after : List ℕ
   pub begins : BeginsWithLetter (gone ++ rest)
-  pub takes : TakesEntry (gone ++ rest) key was lines rest
-  pub gone_is : gone ≡ key ++ (between ++ value_bytes was)
-  pub put_is : put ≡ name_after (option_copied change.name) key ++ (between ++ bytes)
+  pub takes : TakesEntry (gone ++ rest) key was lines (tail ++ rest)
+  pub gone_is : gone ≡ (key ++ (between ++ value_bytes was)) ++ tail
+  pub put_is : put ≡ name_after (option_copied change.name) key ++ (between ++ after)
   pub is_valued : MatchOption (option_copied change.value) (bytes ≡ value_bytes was) (λ value. ChangesValueTo value was bytes)
+  pub is_commented : MatchOption (option_copied change.comment) ((tail ≡ []) × (after ≡ bytes))
+      (λ comment. PutsComment comment was gone bytes tail rest after)
 
 -- an entry changes as the change of it asks
 abbrev pub MayChange : List Change → List Content → Option Section → List ℕ → List ℕ → List ℕ → Type 0
@@ -551,10 +628,17 @@ RefusesLastPart (Some []) key_error.NoName = ⊤
 RefusesLastPart (Some (b ∷ more)) key_error.BadByte = is_name (b ∷ more) ≡ false
 RefusesLastPart _ _ = ⊥
 
--- why a change is refused: by its name, or by its value
+-- why a comment is refused: it comes without a value, or has a line end
+abbrev pub RefusesComment : Option (List ℕ) → Option (List ℕ) → Type 0
+RefusesComment value None = ⊥
+RefusesComment None (Some comment) = ⊤
+RefusesComment (Some value) (Some comment) = list_all is_comment_byte comment ≡ false
+
+-- why a change is refused: by its name, by its value, or by its comment
 abbrev pub RefusesOneChange : Change → EditError → Type 0
 RefusesOneChange change (error.Key e) = RefusesLastPart (option_copied change.name) e
 RefusesOneChange change error.Value = LacksSpelling (option_copied change.value)
+RefusesOneChange change error.Comment = RefusesComment (option_copied change.value) (option_copied change.comment)
 RefusesOneChange change _ = ⊥
 
 -- why changes are refused of which one cannot be written

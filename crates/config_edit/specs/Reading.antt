@@ -1,7 +1,7 @@
 -- Pieces of a text, each of which holds the same wherever it stands.
 use Rattle.std.specs.Prelude.{◌≡◌, ◌≢◌, ℕ, ◌+◌, Bool, true, false, List, [], ◌∷◌, ◌++◌, Option, Some, None}
 use Rattle.std.specs.Prelude.{map, ◌&&◌, ◌⊎◌, ◌↔◌, ⊤, IsTrue, MatchOption, ◌≤◌, length, option_copied}
-use Rattle.std.specs.List.{AllZip}
+use Rattle.std.specs.List.{AllZip, list_all}
 use Rattle.std.specs.Char.{is_ascii_alphabetic}
 use Rattle.config_file.specs.declared.entry.EntryParts.{EntryParts}
 use Rattle.config_edit.specs.declared.Change.{Change}
@@ -20,7 +20,7 @@ use Rattle.config_edit.specs.declared.write.End.TheVariants as end
 use Rattle.config_edit.specs.declared.piece.Held.{Held}
 use Rattle.config_edit.specs.declared.piece.Held.TheVariants as held
 use Rattle.config_edit.specs.declared.piece.Piece.{Piece}
-use Rattle.config_file.specs.Bytes.{line_feed, left_bracket, is_blank, is_comment_sign}
+use Rattle.config_file.specs.Bytes.{line_feed, left_bracket, is_blank, is_comment_sign, is_comment_byte}
 use Rattle.config_edit.specs.Reached.{Leads}
 use Rattle.config_file.specs.Header.{Section, Header}
 use Rattle.config_file.specs.File.{Entry, TakesEntry, Reads, IsFile, after_mark}
@@ -31,13 +31,13 @@ use Rattle.config_file.specs.Spelling.{SpellsSection, HasNoHeader}
 use Rattle.config_file.specs.Value.{outside, SpellsValue, line_feeds}
 use Rattle.config_edit.specs.Edit.{Content, content, WithoutIn, LosesSection, MayRemove, LosesOne, IsHeaderOf, IsBody}
 use Rattle.config_edit.specs.Edit.{IsLostTail, MayUnset, AreBlank, IsTail, IsEntry, IsEnd}
-use Rattle.config_edit.specs.Edit.{LosesEntry, MayReplace, IsIn, IsOf, HasValue, Renames, Without, HasNone}
+use Rattle.config_edit.specs.Edit.{LosesEntry, MayReplace, IsIn, IsOf, HasValue, Renames, Without, HasNone, HasNoneAt, IsPlaceOf}
 use Rattle.config_edit.specs.Edit.{HasSeveral, Replaces}
 use Rattle.config_edit.specs.Edit.{RenamesHeader, SameEntry, NoneIn, IsLineEnd, AddsContent, PutsLine, entry_line}
 use Rattle.config_file.specs.Bytes.{BeginsWithLetter}
 use Rattle.config_edit.specs.Edit.{PutsValue, GivesValue, Becomes, IsApart}
 use Rattle.config_file.specs.Listing.{IsListedSection}
-use Rattle.config_edit.specs.Edit.{ChangesEach, ChangesValueTo, MayChange, AreInOrder, name_after, value_bytes}
+use Rattle.config_edit.specs.Edit.{ChangesEach, ChangesValueTo, MayChange, AreInOrder, name_after, value_bytes, ChangesEntry, WritesComment, IsEndOfLine}
 use Rattle.config_file.specs.Reading.Spellings.{is_spellable}
 use Rattle.config_file.specs.Spelling.{git_spelled}
 use Rattle.config_file.specs.Views.{section_of, value_of}
@@ -183,6 +183,7 @@ pub record IsGiven (parts : EntryParts) (piece : Piece) (value put : List ℕ) :
   pub gone : List ℕ
   pub now : List ℕ
   pub tail : List ℕ
+  pub left : parts.rest.now ≡ tail ++ piece.rest.now
   pub bytes_are : piece.bytes.now ≡ piece.blanks.now ++ (gone ++ tail)
   pub put_is : put ≡ piece.blanks.now ++ (now ++ tail)
   pub gives : GivesValue value parts.key.now (value_of parts.value) gone now (tail ++ piece.rest.now)
@@ -257,7 +258,7 @@ pub record IsFound (key : Key) (text rest start new : List ℕ) (section : Optio
   pub is_entry : IsEntry f.parts.key.now (value_of f.parts.value) f.parts.lines f.parts.rest.now
       f.piece.blanks.now f.piece.bytes.now f.piece.rest.now f.piece.is_line
   pub is_of : IsOf key (content_of at f.parts)
-  pub others : Without key before left
+  pub others : Without key None before left
   pub changes : Becomes (Comes text) (MayLose key) front (f.piece.bytes.now ++ start) new
   pub between_is : Passed at between after section rest
   pub last : HasNone key after
@@ -386,54 +387,64 @@ abbrev pub one_more : Count → Count
 one_more count.None = count.One
 one_more _ = count.Several
 
--- how many entries of the key the old contents have, and what is left of them
-abbrev pub Counted : Key → List Content → List Content → Count → Type 0
-Counted key old new count.None = HasNone key old × (new ≡ old)
-Counted key old new count.One = LosesOne key old new
-Counted key old new count.Several = HasSeveral key old
+-- how many entries are gone: none, or if all of the key go, one or several
+abbrev pub Counted : Key → Option (List ℕ) → List Content → List Content → Count → Type 0
+Counted key places old new count.None = HasNoneAt places key old × (new ≡ old)
+Counted key places old new count.One = MatchOption places (LosesOne key old new) (λ _. ⊤)
+Counted key places old new count.Several = MatchOption places (HasSeveral key old) (λ _. ⊤)
 
--- a header that may go with what its line has left, of which nothing is read if the line goes on
-pub record IsHead (key : Key) (bytes rest : List ℕ) (goes_on : Bool) : Type 0 where
+-- from this place on, these are left of the places
+abbrev pub AreLeft : Option (List ℕ) → Option (List ℕ) → ℕ → Type 0
+AreLeft places left from = (place : ℕ) → from ≤ place → (IsPlaceOf places place ↔ IsPlaceOf left place)
+
+-- Behind these contents, a header that may go with what its line has left, of which nothing is read if the line goes on.
+pub record IsHead (key : Key) (places : Option (List ℕ)) (before : List Content) (bytes rest : List ℕ) (goes_on : Bool) : Type 0 where
   pub blanks : List ℕ
   pub header : List ℕ
   pub tail : List ℕ
   pub joined : bytes ≡ blanks ++ (header ++ tail)
   pub are_blank : AreBlank blanks
   pub is_header : IsHeaderOf key header
-  pub is_tail : IsLostTail key is_header.1 tail rest
+  pub is_tail : IsLostTail key places before is_header.1 tail rest
   pub alone : goes_on ≡ true → tail ≡ []
 
 -- A section on its way: its head and its body are what these bytes became. The head may go if nothing is left in the
 -- section, so its body holds the same in any.
-pub record IsGroup (key : Key) (g : Group) (text head_was body_was : List ℕ) (now : List Content) (base section : Option Section) (rest : List ℕ) : Type 0 where
+pub record IsGroup (key : Key) (places : Option (List ℕ)) (before : List Content) (g : Group) (text head_was body_was : List ℕ)
+    (now : List Content) (base section : Option Section) (rest : List ℕ) : Type 0 where
   pub passed : Passed base (g.head.items ++ g.body.items) now section rest
   pub in_head : g.in_head ≡ true → (g.body.items ≡ []) × (body_was ≡ [])
-  pub head_changes : Becomes (Comes text) (MayUnset key) head_was (body_was ++ rest) g.head.items
-  pub body_changes : Becomes (Comes text) (MayUnset key) body_was rest g.body.items
+  pub head_changes : Becomes (Comes text) (MayUnset key places) head_was (body_was ++ rest) g.head.items
+  pub body_changes : Becomes (Comes text) (MayUnset key places) body_was rest g.body.items
   pub in_section : g.has_lost ≡ true → IsIn key section
   pub empty : g.is_kept ≡ false → (now ≡ []) × ((any : Option Section) → Passed any g.body.items [] any rest)
-  pub can_go : g.is_kept ≡ false → IsIn key section → IsHead key head_was (body_was ++ rest) g.in_head
+  pub can_go : g.is_kept ≡ false → IsIn key section → IsHead key places before head_was (body_was ++ rest) g.in_head
 
 -- the reading of this text comes to this rest
 abbrev pub IsComeTo : List ℕ → List ℕ → Type 0
 IsComeTo text rest = (before : List Content) × (section : Option Section) × Comes text before section rest
 
 -- what precedes this rest of a text, in which entries of the key are left out
-pub record Losing (key : Key) (text rest new : List ℕ) (section : Option Section) (g : Group) (count : Count) : Type 0 where
+pub record Losing (key : Key) (places : Option (List ℕ)) (text rest new : List ℕ) (section : Option Section) (g : Group)
+    (count : Count) (index : ℕ) : Type 0 where
   pub front : List ℕ
   pub head_was : List ℕ
   pub body_was : List ℕ
+  pub before : List Content
+  pub at : Option Section
   pub old : List Content
   pub now : List Content
   pub now_group : List Content
   pub base : Option Section
   pub past : IsPast text rest (front ++ (head_was ++ body_was)) old section
+  pub index_is : index ≡ length old
   pub new_is : Holds None new now base
-  pub changes : Becomes (Comes text) (MayUnset key) front ((head_was ++ body_was) ++ rest) new
-  pub begins : IsComeTo text (head_was ++ (body_was ++ rest))
-  pub group : IsGroup key g text head_was body_was now_group base section rest
-  pub without : Without key old (now ++ now_group)
-  pub counted : Counted key old (now ++ now_group) count
+  pub changes : Becomes (Comes text) (MayUnset key places) front ((head_was ++ body_was) ++ rest) new
+  pub begins : Comes text before at (head_was ++ (body_was ++ rest))
+  pub nothing_read : g.in_head ≡ true → old ≡ before
+  pub group : IsGroup key places before g text head_was body_was now_group base section rest
+  pub without : Without key places old (now ++ now_group)
+  pub counted : Counted key places old (now ++ now_group) count
 
 -- these bytes are the section, with its head or with a line end in its place
 pub data IsFinished (g : Group) : List ℕ → Type 0 where
@@ -447,13 +458,13 @@ pub data IsPushed (g now : Group) (bytes : List ℕ) : Type 0 where
   to_head : g.in_head ≡ true → now.head.items ≡ g.head.items ++ bytes → now.body.items ≡ g.body.items → IsPushed g now bytes
   to_body : g.in_head ≡ false → now.head.items ≡ g.head.items → now.body.items ≡ g.body.items ++ bytes → IsPushed g now bytes
 
--- the text is left without the entries of the key
-pub record IsTaken (key : Key) (text : List ℕ) (contents : List Content) (taken : Taken) : Type 0 where
+-- the text is left without the entries of the key at these places, or without all of the key
+pub record IsTaken (key : Key) (places : Option (List ℕ)) (text : List ℕ) (contents : List Content) (taken : Taken) : Type 0 where
   pub now : List Content
   pub ends : Ends None taken.text.items now
-  pub without : Without key contents now
-  pub counted : Counted key contents now taken.count
-  pub changes : Becomes (Comes text) (MayUnset key) text [] taken.text.items
+  pub without : Without key places contents now
+  pub counted : Counted key places contents now taken.count
+  pub changes : Becomes (Comes text) (MayUnset key places) text [] taken.text.items
 
 -- the text is left without the sections of the key
 pub record IsCleared (key : Key) (text : List ℕ) (contents : List Content) (new : List ℕ) : Type 0 where
@@ -528,8 +539,14 @@ abbrev pub IsWritableValue : Option (List ℕ) → Type 0
 IsWritableValue None = ⊤
 IsWritableValue (Some value) = is_spellable value ≡ true
 
+abbrev pub IsWritableComment : Option (List ℕ) → Option (List ℕ) → Type 0
+IsWritableComment value None = ⊤
+IsWritableComment None (Some comment) = ⊥
+IsWritableComment (Some value) (Some comment) = list_all is_comment_byte comment ≡ true
+
 abbrev pub IsWritable : Change → Type 0
 IsWritable change = IsWritableName (option_copied change.name) × IsWritableValue (option_copied change.value)
+    × IsWritableComment (option_copied change.value) (option_copied change.comment)
 
 abbrev pub AreWritable : List Change → Type 0
 AreWritable [] = ⊤
@@ -546,6 +563,7 @@ pub record IsShaped (name : List ℕ) (value : Option (List ℕ)) (parts : Entry
   pub between : List ℕ
   pub bytes : List ℕ
   pub tail : List ℕ
+  pub left : parts.rest.now ≡ tail ++ piece.rest.now
   pub begins : BeginsWithLetter ((parts.key.now ++ (between ++ value_bytes (value_of parts.value))) ++ (tail ++ piece.rest.now))
   pub takes : TakesEntry ((parts.key.now ++ (between ++ value_bytes (value_of parts.value))) ++ (tail ++ piece.rest.now))
       parts.key.now (value_of parts.value) lines (tail ++ piece.rest.now)
@@ -563,15 +581,48 @@ pub record IsValued (value : Option (List ℕ)) (parts : EntryParts) (piece : Pi
   pub entry : IsEntry parts.key.now raw lines at piece.blanks.now put piece.rest.now piece.is_line
   pub shaped : IsShaped parts.key.now value parts piece put
 
+-- in the place of the piece of an entry, these bytes are the entry with this last part of its key and this value, if given
+pub record IsNamed (name value : Option (List ℕ)) (parts : EntryParts) (piece : Piece) (put : List ℕ) : Type 0 where
+  pub raw : Option (List ℕ)
+  pub lines : ℕ
+  pub at : List ℕ
+  pub value_is : MatchOption value (raw ≡ value_of parts.value) (HasValue raw)
+  pub entry : IsEntry (name_after name parts.key.now) raw lines at piece.blanks.now put piece.rest.now piece.is_line
+  pub shaped : IsShaped (name_after name parts.key.now) value parts piece put
+
+-- In the place of the piece of an entry, which has become this line with this value, these bytes are the line with this
+-- comment.
+pub record IsCommented (value comment : List ℕ) (parts : EntryParts) (piece : Piece) (line put : List ℕ) : Type 0 where
+  pub core : List ℕ
+  pub blanks : List ℕ
+  pub tail : List ℕ
+  pub feed : List ℕ
+  pub written : List ℕ
+  pub end : List ℕ
+  pub left : parts.rest.now ≡ tail ++ piece.rest.now
+  pub line_is : line ≡ (core ++ blanks) ++ tail
+  pub are_blank : AreBlank blanks
+  pub ends_core : (more : List ℕ) (b : ℕ) → core ≡ more ++ b ∷ [] → is_blank b ≡ false
+  pub feed_is : (IsOpen parts × HasValue (value_of parts.value) value × (feed ≡ line_feed ∷ []))
+      ⊎ (¬ (IsOpen parts × HasValue (value_of parts.value) value) × (feed ≡ []))
+  pub is_written : WritesComment comment written
+  pub is_end : IsEndOfLine piece.bytes.now piece.is_line end
+  pub put_is : put ≡ core ++ (feed ++ (written ++ end))
+
 -- in the place of the piece of an entry, these bytes are the entry after the change
 pub record IsChangedIn (change : Change) (parts : EntryParts) (piece : Piece) (put : List ℕ) : Type 0 where
   pub raw : Option (List ℕ)
   pub lines : ℕ
   pub at : List ℕ
+  pub gone : List ℕ
+  pub now : List ℕ
+  pub kept : List ℕ
   pub value_is : MatchOption (option_copied change.value) (raw ≡ value_of parts.value) (HasValue raw)
   pub entry : IsEntry (name_after (option_copied change.name) parts.key.now) raw lines at
       piece.blanks.now put piece.rest.now piece.is_line
-  pub shaped : IsShaped (name_after (option_copied change.name) parts.key.now) (option_copied change.value) parts piece put
+  pub bytes_are : piece.bytes.now ≡ piece.blanks.now ++ (gone ++ kept)
+  pub put_is : put ≡ piece.blanks.now ++ (now ++ kept)
+  pub changes : ChangesEntry change parts.key.now (value_of parts.value) gone now (kept ++ piece.rest.now)
 
 -- what precedes this rest of a text has become this new text: the changes that are not left are made
 pub record Changing (changes : List Change) (text rest : List ℕ) (left : List Change) (new : List ℕ) (index : ℕ) : Type 0 where

@@ -2,11 +2,11 @@
 ghost use Rattle.std.specs.Prelude.{◌≡◌, ◌++◌, ◌∷◌, [], List, ℕ, None, MatchOption, OnOk, IfOk, length, option_copied, drop, ◌+◌, ◌<◌};
 ghost use Rattle.config_edit.specs.Edit.{Content, AreInOrder, IsEntry};
 ghost use Rattle.config_file.specs.Views.{value_of};
-ghost use Rattle.config_edit.specs.Reading.{AreLater, AreWritable, Ends, IsWritable, IsWritableValue, IsEachChanged, IsChangedIn, IsValued};
+ghost use Rattle.config_edit.specs.Reading.{AreLater, AreWritable, Ends, IsWritable, IsWritableValue, IsEachChanged, IsChangedIn, IsNamed, IsWritableName, IsValued};
 
 use crate::Change;
 use crate::piece::{Held, Piece, next_piece};
-use crate::write::push_changed;
+use crate::write::{push_changed, push_commented};
 use config_file::entry::EntryParts;
 use std::alloc::{AllocError, Global};
 
@@ -82,15 +82,34 @@ fn push_change(
     ensures { OnOk result ((put : List ℕ) × (new.new.items ≡ new.old.items ++ put)
         × IsChangedIn change.now parts.now piece.now put) }
 {
-    let name = match change.name {
-        Some(name) => name,
-        None => {
-            push_valued(new, alloc, piece, parts, change.value)?;
-            return Ok(());
-        }
+    let (Some(value), Some(comment)) = (change.value, change.comment) else {
+        return push_named(new, alloc, piece, parts, change.name, change.value);
     };
     let mut line = Vec::new(alloc);
-    push_valued(&mut line, alloc, piece, parts, change.value)?;
+    push_named(&mut line, alloc, piece, parts, change.name, Some(value))?;
+    push_commented(new, alloc, piece, parts, line.as_slice(), value, comment)
+}
+
+/// Appends the piece of an entry with this last part of its key and this value, where they are given.
+fn push_named(
+    new: &mut Vec<u8>,
+    alloc: Global,
+    piece: &Piece<'_>,
+    parts: &EntryParts<'_>,
+    name: Option<&[u8]>,
+    value: Option<&[u8]>,
+) -> Result<(), AllocError>
+    requires writable { IsWritableName (option_copied name) × IsWritableValue (option_copied value) }
+    requires entry { IsEntry parts.now.key.now (value_of parts.now.value) parts.now.lines parts.now.rest.now
+        piece.now.blanks.now piece.now.bytes.now piece.now.rest.now piece.now.is_line }
+    ensures { OnOk result ((put : List ℕ) × (new.new.items ≡ new.old.items ++ put)
+        × IsNamed (option_copied name.entry) (option_copied value.entry) parts.now piece.now put) }
+{
+    let Some(name) = name else {
+        return push_valued(new, alloc, piece, parts, value);
+    };
+    let mut line = Vec::new(alloc);
+    push_valued(&mut line, alloc, piece, parts, value)?;
     new.extend_from_slice(piece.blanks)?;
     new.extend_from_slice(name)?;
     new.extend_from_slice(behind(line.as_slice(), piece.blanks, parts.key))?;

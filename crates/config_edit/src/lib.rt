@@ -7,7 +7,7 @@
 #![tactic(auto)]
 
 ghost use Rattle.std.specs.Prelude.{◌≡◌, ◌++◌, ◌∷◌, [], List, ℕ, None, Some, true, map, ⊤, IfOk, MatchResult, option_copied};
-ghost use Rattle.config_edit.specs.Edit.{content, AddsOne, AreInOrder, ChangesEntries, HasNone, HasSeveral, Never, RefusesChanges, RefusesEdit, RefusesLastPart, RefusesOneChange, RefusesOneOf, RefusesRemoval, RefusesRenaming, RemovesSection, RenamesSection, ReplacesAll, Sets, Unsets, UnsetsAll};
+ghost use Rattle.config_edit.specs.Edit.{content, AddsOne, AreInOrder, ChangesEntries, HasNone, HasNoneAt, HasSeveral, Never, RefusesChanges, RefusesEdit, RefusesLastPart, RefusesOneChange, RefusesOneOf, RefusesRemoval, RefusesRenaming, RemovesSection, RenamesSection, ReplacesAll, Sets, Unsets, UnsetsAll, UnsetsAt, UnsetsEach};
 ghost use Rattle.config_file.specs.Spelling.{HasNoSpelling};
 ghost use Rattle.config_file.specs.File.{Entry, IsFile};
 ghost use Rattle.config_edit.specs.Reading.{AreWritable, IsSplit, IsWritable, IsWritableName, RefusesName, RefusesText};
@@ -55,6 +55,8 @@ pub enum EditError {
     Section,
     /// No bytes spell the value: it has a NUL.
     Value,
+    /// The comment has a line end, or comes without a value.
+    Comment,
     /// The text is not a configuration file.
     File(FileError),
     /// Several entries have the key.
@@ -243,7 +245,7 @@ pub fn unset(alloc: Global, text: &[u8], key: &[u8]) -> Result<Vec<u8>, EditErro
     let key = parse_key(key)?;
     check_file(text)?;
     let (mark, body) = split_mark(text);
-    let taken = without(alloc, body, &key)?;
+    let taken = without(alloc, body, &key, None)?;
     match taken.count {
         Count::None => Err(EditError::Absent),
         Count::One => Ok(marked(taken.text, alloc, mark)?),
@@ -256,10 +258,49 @@ pub fn unset_all(alloc: Global, text: &[u8], key: &[u8]) -> Result<Vec<u8>, Edit
     ensures { MatchResult result (λ new. UnsetsAll key.now text.now new.items)
         (RefusesEdit Never HasNone key.now None text.now) }
 {
+    unset_each(alloc, text, key, None)
+}
+
+/// What [`unset`] does, with those entries of a key that stand at these places. A place counts all entries of
+/// the text, from 0. The places rise: one that is below one before it stands for no entry.
+///
+/// It fails if Git refuses the key, no header can have its section, the text is no configuration file, no
+/// entry of the key is at one of the places, or memory is refused.
+///
+/// ```rust
+/// use config_edit::{EditError, unset_at};
+///
+/// let text = b"[a]\n\tk = 1\n\tj = 2\n\tk = 3\n";
+/// let new = unset_at(alloc, text, b"a.k", &[1, 2]).expect(&rt, "a text");
+/// assert!(rt; new.as_slice() == b"[a]\n\tk = 1\n\tj = 2\n".as_slice());
+/// assert!(rt; matches!(unset_at(alloc, text, b"a.k", &[1]), Err(EditError::Absent)));
+/// ```
+pub fn unset_at(
+    alloc: Global,
+    text: &[u8],
+    key: &[u8],
+    places: &[usize],
+) -> Result<Vec<u8>, EditError>
+    ensures { MatchResult result (λ new. UnsetsAt places.now key.now text.now new.items)
+        (RefusesEdit Never (HasNoneAt (Some places.now)) key.now None text.now) }
+{
+    unset_each(alloc, text, key, Some(places))
+}
+
+/// The text without the entries of the key at these places, or without all of them.
+fn unset_each(
+    alloc: Global,
+    text: &[u8],
+    key: &[u8],
+    places: Option<&[usize]>,
+) -> Result<Vec<u8>, EditError>
+    ensures { MatchResult result (λ new. UnsetsEach (option_copied places) key.now text.now new.items)
+        (RefusesEdit Never (HasNoneAt (option_copied places)) key.now None text.now) }
+{
     let key = parse_key(key)?;
     check_file(text)?;
     let (mark, body) = split_mark(text);
-    let taken = without(alloc, body, &key)?;
+    let taken = without(alloc, body, &key, places)?;
     match taken.count {
         Count::None => Err(EditError::Absent),
         Count::One | Count::Several => Ok(marked(taken.text, alloc, mark)?),
@@ -347,11 +388,11 @@ pub fn remove_section(alloc: Global, text: &[u8], name: &[u8]) -> Result<Vec<u8>
 ///
 /// let text = b"[user]\n\temial = A # me\n\tname = B\n";
 /// let changes = [
-///     Change { entry: 0, name: Some(b"email"), value: None },
-///     Change { entry: 1, name: None, value: Some(b"C") },
+///     Change { entry: 0, name: Some(b"email"), value: None, comment: None },
+///     Change { entry: 1, name: None, value: Some(b"C"), comment: Some(b"mine") },
 /// ];
 /// let new = change_entries(alloc, text, &changes).expect(&rt, "a text");
-/// assert!(rt; new.as_slice() == b"[user]\n\temail = A # me\n\tname = C\n".as_slice());
+/// assert!(rt; new.as_slice() == b"[user]\n\temail = A # me\n\tname = C # mine\n".as_slice());
 /// ```
 #[derive(Clone, Copy, Debug)]
 pub struct Change<'c> {
@@ -361,6 +402,10 @@ pub struct Change<'c> {
     pub name: Option<&'c [u8]>,
     /// The value that it has from now on.
     pub value: Option<&'c [u8]>,
+    /// The comment that stands behind this value from now on, in place of the one that is there. A comment
+    /// comes with a value only, since Git reads none behind a key alone. As `git config set --comment` does,
+    /// ` # ` is written before it, or a space if it begins with `#`, or nothing if blanks and `#` begin it.
+    pub comment: Option<&'c [u8]>,
 }
 
 /// Refuses a name that is not the last part of a key.
@@ -381,9 +426,14 @@ fn check_change(change: &Change<'_>) -> Result<(), EditError>
     if let Err(error) = check_name(change.name) {
         return Err(EditError::Key(error));
     }
-    match change.value {
-        Some(value) => check_value(value),
-        None => Ok(()),
+    if let Some(value) = change.value {
+        check_value(value)?;
+    }
+    match change.comment {
+        Some(comment) if change.value.is_none() || comment.contains(&b'\n') => {
+            Err(EditError::Comment)
+        }
+        _ => Ok(()),
     }
 }
 
@@ -401,13 +451,13 @@ fn check_changes(changes: &[Change<'_>]) -> Result<(), EditError>
     Ok(())
 }
 
-/// The text in which some of its entries have changed: the last part of a key, a value, or both. Only the
-/// bytes of this part and of this value change, as in [`set`]. The changes are in the order of their entries,
-/// one at most for each.
+/// The text in which some of its entries have changed: the last part of a key, a value, or both, and a comment
+/// behind a value. Only the bytes of this part and of this value change, as in [`set`], and with a comment what
+/// follows the value on its line. The changes are in the order of their entries, one at most for each.
 ///
-/// It fails, in this order, if a name is not the last part of a key or a value has a NUL, the text is no
-/// configuration file, a change is of no entry or not of one behind that of the change before, or memory is
-/// refused at any time.
+/// It fails, in this order, if a name is not the last part of a key, a value has a NUL, or a comment has a line
+/// end or no value comes with it; if the text is no configuration file, a change is of no entry or not of one
+/// behind that of the change before, or if memory is refused at any time.
 pub fn change_entries(
     alloc: Global,
     text: &[u8],

@@ -2,7 +2,7 @@
 ghost use Rattle.std.specs.Prelude.{◌≡◌, ◌≢◌, ◌<◌, ◌≤◌, ◌++◌, ◌⊎◌, ◌∷◌, List, ℕ, [], true, false, length, IfSome, MatchOption};
 ghost use Rattle.config_edit.specs.Reading.{EndsComment, GoesOn, IsPiece, IsRead, StartsLine, StartsNoComment};
 ghost use Rattle.config_edit.specs.Edit.{AreBlank, IsEnd, IsComment, IsTail};
-ghost use Rattle.config_edit.specs.Edit.{IsLineEnd};
+ghost use Rattle.config_edit.specs.Edit.{IsEndOfLine, IsLineEnd};
 ghost use Rattle.config_file.specs.Bytes.{BeginsWithLetter};
 
 use config_file::bytes::{Class, before, is_comment_sign, run, split};
@@ -169,7 +169,7 @@ fn line_piece<'a>(text: &'a [u8], blanks: &'a [u8], at: &'a [u8]) -> Option<Piec
 impl<'a> Piece<'a> {
     /// The line end of the piece, or nothing if none ends it.
     pub(crate) fn line_end(&self) -> &'static [u8]
-        ensures { IsEnd result.now }
+        ensures { IsEndOfLine self.now.bytes.now self.now.is_line result.now }
     {
         if !self.is_line {
             return &[];
@@ -195,7 +195,7 @@ impl<'a> Piece<'a> {
 
 /// The line end of a text that LF ends.
 fn line_end(line: &[u8]) -> &'static [u8]
-    ensures { IsLineEnd result.now }
+    ensures { IsEndOfLine line.now true result.now }
 {
     if line.ends_with(b"\r\n") {
         b"\r\n"

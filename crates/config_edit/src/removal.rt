@@ -1,8 +1,8 @@
 //! Entries that are taken out, with the headers of sections that they leave empty.
-ghost use Rattle.std.specs.Prelude.{◌≡◌, ◌++◌, List, ℕ, [], None, Option, true, false, IfOk, OnOk, ◌||◌, ◌⊎◌, not};
-ghost use Rattle.config_edit.specs.Edit.{Content, IsEnd};
+ghost use Rattle.std.specs.Prelude.{◌≡◌, ◌++◌, ◌↔◌, List, ℕ, [], None, Option, true, false, IfOk, IsTrue, OnOk, option_copied, ◌||◌, ◌⊎◌, not};
+ghost use Rattle.config_edit.specs.Edit.{Content, IsEnd, IsPlaceOf};
 ghost use Rattle.config_file.specs.KeyView.{key_of};
-ghost use Rattle.config_edit.specs.Reading.{Ends, IsFinished, IsPushed, IsTaken, is_blank_held, one_more};
+ghost use Rattle.config_edit.specs.Reading.{AreLeft, Ends, IsFinished, IsPushed, IsTaken, is_blank_held, one_more};
 
 use crate::piece::{Held, Piece, last_line_end, next_piece};
 use crate::setting::is_of;
@@ -29,7 +29,7 @@ impl Count {
     }
 }
 
-/// A new text, and how many entries of the key were taken out.
+/// A new text, and how many entries were taken out.
 #[derive(Drop)]
 pub(crate) struct Taken {
     pub text: Vec<u8>,
@@ -151,16 +151,44 @@ impl Group {
     }
 }
 
-/// A text without the entries of the key.
-pub(crate) fn without(alloc: Global, text: &[u8], key: &Key<'_>) -> Result<Taken, AllocError>
+/// Whether one of these places is this one, if they rise, and those that are left after it. Without places,
+/// each is one.
+fn at_place(places: Option<&[usize]>, index: usize) -> (bool, Option<&[usize]>)
+    ensures here { IsTrue result.0 ↔ IsPlaceOf (option_copied places) index }
+    ensures left { AreLeft (option_copied places) (option_copied result.1) index }
+{
+    let Some(mut left) = places else {
+        return (true, None);
+    };
+    'before: while let [first, later @ ..] = left {
+        if *first >= index {
+            break;
+        }
+        left = later;
+    }
+    match left {
+        [first, ..] => (*first == index, Some(left)),
+        [] => (false, Some(left)),
+    }
+}
+
+/// A text without the entries of the key at these places, or without all of them.
+pub(crate) fn without(
+    alloc: Global,
+    text: &[u8],
+    key: &Key<'_>,
+    places: Option<&[usize]>,
+) -> Result<Taken, AllocError>
     ensures { (contents : List Content) → Ends None text.now contents
-        → IfOk result (λ taken. IsTaken (key_of key.now) text.now contents taken) }
+        → IfOk result (λ taken. IsTaken (key_of key.now) (option_copied places) text.now contents taken) }
 {
     let mut new = Vec::with_capacity(alloc, text.len())?;
     let mut rest = text;
     let mut section: Option<Section<'_>> = None;
     let mut group = Group::new(alloc);
     let mut count = Count::None;
+    let mut left = places;
+    let mut index = 0usize;
     let mut starts_line = true;
     let mut below_comment = false;
     'pieces: while let Some(piece) = next_piece(rest) {
@@ -171,7 +199,10 @@ pub(crate) fn without(alloc: Global, text: &[u8], key: &Key<'_>) -> Result<Taken
                 group.begin(&piece, starts_line, below_comment)?;
             }
             Held::Entry(parts) => {
-                if is_of(key, &section, parts) {
+                let (is_place, later) = at_place(left, index);
+                left = later;
+                index += 1;
+                if is_place && is_of(key, &section, parts) {
                     count = count.more();
                     group.lose(&piece)?;
                 } else {

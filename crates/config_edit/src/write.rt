@@ -1,11 +1,11 @@
 //! What an edit writes: values, entries, and the ends of lines.
-ghost use Rattle.std.specs.Prelude.{◌≡◌, ◌++◌, ◌∷◌, ◌↔◌, [], true, false, List, ℕ, IfOk, IsTrue, OnOk};
+ghost use Rattle.std.specs.Prelude.{◌≡◌, ◌++◌, ◌∷◌, ◌↔◌, [], true, false, List, ℕ, Some, IfOk, IsTrue, OnOk};
 ghost use Rattle.config_file.specs.Bytes.{is_blank as spec_blank};
 ghost use Rattle.config_edit.specs.Edit.{IsGap};
 ghost use Rattle.config_file.specs.Value.{Ending, SpellsValue};
 ghost use Rattle.config_file.specs.Views.{value_of};
-ghost use Rattle.config_edit.specs.Reading.{IsEndOf, IsOpen, IsSet, IsPutIn, line_ends, new_line};
-ghost use Rattle.config_edit.specs.Edit.{AreBlank, IsEntry};
+ghost use Rattle.config_edit.specs.Reading.{IsEndOf, IsOpen, IsSet, IsPutIn, line_ends, new_line, IsCommented, IsShaped};
+ghost use Rattle.config_edit.specs.Edit.{AreBlank, IsEntry, WritesComment};
 ghost use Rattle.config_file.specs.Reading.Spellings.{is_spellable};
 ghost use Rattle.config_file.specs.Spelling.{git_spelled};
 
@@ -241,5 +241,45 @@ fn begins_with_sign(text: &[u8]) -> bool {
     match split(text) {
         Some((byte, _)) => is_comment_sign(byte),
         None => false,
+    }
+}
+
+/// Appends the piece of an entry with this comment behind its value, in place of the one that is there. The
+/// piece has come to these bytes, in which the entry has the value.
+pub(crate) fn push_commented(
+    text: &mut Vec<u8>,
+    alloc: Global,
+    piece: &Piece<'_>,
+    parts: &EntryParts<'_>,
+    bytes: &[u8],
+    value: &[u8],
+    comment: &[u8],
+) -> Result<(), AllocError>
+    requires entry { IsEntry parts.now.key.now (value_of parts.now.value) parts.now.lines parts.now.rest.now
+        piece.now.blanks.now piece.now.bytes.now piece.now.rest.now piece.now.is_line }
+    requires shaped { (name : List ℕ) × IsShaped name (Some value.now) parts.now piece.now bytes.now }
+    ensures { OnOk result ((put : List ℕ) × (text.new.items ≡ text.old.items ++ put)
+        × IsCommented value.now comment.now parts.now piece.now bytes.now put) }
+{
+    let tail = before(parts.rest, piece.rest);
+    text.extend_from_slice(trimmed(before(bytes, tail)).0)?;
+    if is_open(parts) && has_value(alloc, parts, value)? {
+        text.push(b'\n')?;
+    }
+    text.extend_from_slice(comment_front(comment))?;
+    text.extend_from_slice(comment)?;
+    text.extend_from_slice(piece.line_end())?;
+    Ok(())
+}
+
+/// What Git writes before a comment: nothing before blanks and `#`, a space before `#`, and otherwise ` # `.
+fn comment_front(comment: &[u8]) -> &'static [u8]
+    ensures { WritesComment comment.now (result.now ++ comment.now) }
+{
+    let (blanks, rest) = run(comment, Class::Space);
+    match rest {
+        [b'#', ..] if blanks.is_empty() => b" ",
+        [b'#', ..] => b"",
+        _ => b" # ",
     }
 }

@@ -12,6 +12,8 @@ pub enum Takes {
     Nothing,
     /// Nothing, and no option undoes it.
     Ever,
+    /// Nothing, and nothing that follows it is read. Its name is never shortened.
+    End,
     /// A value, which the help calls by this name. If there are words, the value is one of them. `--no-` before the
     /// name undoes it.
     Value(&'static str, &'static [&'static str]),
@@ -24,10 +26,10 @@ pub type Row = (&'static str, &'static str, Takes, &'static str);
 /// The options of a program, or of one of its words.
 pub type Tables = &'static [&'static [Row]];
 
-/// The options of every program. What follows them is not read.
+/// The options of every program.
 pub const GENERAL: &[Row] = &[
-    ("help", "h", Takes::Ever, "Print help"),
-    ("version", "V", Takes::Ever, "Print version"),
+    ("help", "h", Takes::End, "Print help"),
+    ("version", "V", Takes::End, "Print version"),
 ];
 
 /// An option that is given.
@@ -59,10 +61,12 @@ pub enum Misuse<'a> {
     Switch(char),
     /// The name of an option follows one dash.
     OneDash(&'a str),
-    /// The beginning of a name is that of two options, of which each may be undone.
+    /// The beginning of a name is that of these options, and perhaps of others. Each may be undone.
     Ambiguous(&'a str, (bool, &'static str), (bool, &'static str)),
     /// The option has no value.
     NeedsValue(&'static str),
+    /// The option of this letter has no value.
+    SwitchNeedsValue(&'static str),
     /// The option has a value, and takes none; perhaps it is undone.
     TakesNone(bool, &'static str),
     /// The value of the option is none of its words.
@@ -98,6 +102,7 @@ impl fmt::Display for Misuse<'_> {
                 )
             }
             Misuse::NeedsValue(name) => write!(f, "option `{name}' requires a value"),
+            Misuse::SwitchNeedsValue(letter) => write!(f, "switch `{letter}' requires a value"),
             Misuse::TakesNone(is_undone, name) => {
                 write!(f, "option `{}{name}' takes no value", negation(*is_undone))
             }
@@ -136,7 +141,7 @@ type Found = (&'static Row, bool);
 
 /// Whether `--no-` before its name undoes the option of this row.
 fn can_be_undone(row: &Row) -> bool {
-    !matches!(row.2, Takes::Ever)
+    !matches!(row.2, Takes::Ever | Takes::End)
 }
 
 /// The row of this very name.
@@ -164,6 +169,9 @@ fn exact(tables: Tables, name: &str) -> Option<Found> {
 
 /// Whether a name is the beginning of that of the option, and whether it is the beginning of its opposite.
 fn begins(row: &Row, name: &str) -> (bool, bool) {
+    if matches!(row.2, Takes::End) {
+        return (false, false);
+    }
     let is_opposite = match name.strip_prefix("no-") {
         Some(rest) => row.0.starts_with(rest),
         None => "no-".starts_with(name),
@@ -173,20 +181,26 @@ fn begins(row: &Row, name: &str) -> (bool, bool) {
 
 /// The one option whose name has this beginning.
 fn abbreviated<'a>(tables: Tables, name: &'a str) -> Result<Found, Misuse<'a>> {
+    let mut before: Option<Found> = None;
     let mut found: Option<Found> = None;
     for rows in tables {
         for row in *rows {
             let (is_named, is_opposite) = begins(row, name);
-            if !is_named && !is_opposite {
-                continue;
+            if is_named || is_opposite {
+                before = found;
+                found = Some((row, !is_named));
             }
-            if let Some((other, is_undone)) = found {
-                return Err(Misuse::Ambiguous(name, (is_undone, other.0), (!is_named, row.0)));
-            }
-            found = Some((row, !is_named));
         }
     }
-    found.ok_or(Misuse::Unknown(name))
+    match (before, found) {
+        (Some((row, is_undone)), Some((other, is_other_undone))) => Err(Misuse::Ambiguous(
+            name,
+            (is_undone, row.0),
+            (is_other_undone, other.0),
+        )),
+        (None, Some(found)) => Ok(found),
+        _ => Err(Misuse::Unknown(name)),
+    }
 }
 
 /// The row of a letter.
@@ -231,14 +245,14 @@ struct Reading<'w, 'a> {
 
 impl<'w, 'a> Reading<'w, 'a> {
     /// Keeps an option.
-    fn keep(&mut self, name: &'static str, value: &'a str, is_undone: bool) {
+    fn keep(&mut self, row: &Row, value: &'a str, is_undone: bool) {
         let given = Given {
-            name,
+            name: row.0,
             value,
             is_undone,
         };
         self.has_failed |= self.options.given.push(given).is_err();
-        if name == "help" || name == "version" {
+        if matches!(row.2, Takes::End) {
             self.goes_on = false;
             self.left = &[];
         }
@@ -260,30 +274,32 @@ impl<'w, 'a> Reading<'w, 'a> {
         }
     }
 
-    /// Takes an option of this row, with this value if the same word has one.
-    fn take(&mut self, found: Found, value: Option<&'a str>) -> Result<(), Misuse<'a>> {
-        let ((name, _, takes, _), is_undone) = found;
-        let words = match takes {
-            Takes::Value(_, words) if !is_undone => *words,
+    /// Takes an option of this row, with this value if the same word has one. If it lacks one, that is the misuse.
+    fn take(
+        &mut self,
+        found: Found,
+        value: Option<&'a str>,
+        lacking: Misuse<'a>,
+    ) -> Result<(), Misuse<'a>> {
+        let (row, is_undone) = found;
+        let words = match row.2 {
+            Takes::Value(_, words) if !is_undone => words,
             _ => {
                 if value.is_some() {
-                    return Err(Misuse::TakesNone(is_undone, *name));
+                    return Err(Misuse::TakesNone(is_undone, row.0));
                 }
-                self.keep(*name, "", is_undone);
+                self.keep(row, "", is_undone);
                 return Ok(());
             }
         };
         let value = match value {
             Some(value) => value,
-            None => match self.next() {
-                Some(value) => value,
-                None => return Err(Misuse::NeedsValue(*name)),
-            },
+            None => self.next().ok_or(lacking)?,
         };
         if !words.is_empty() && !words.contains(&value) {
-            return Err(Misuse::NoWord(*name, value));
+            return Err(Misuse::NoWord(row.0, value));
         }
-        self.keep(*name, value, false);
+        self.keep(row, value, false);
         Ok(())
     }
 
@@ -301,7 +317,7 @@ impl<'w, 'a> Reading<'w, 'a> {
                 Ok(found) => found,
             },
         };
-        self.take(found, value)
+        self.take(found, value, Misuse::NeedsValue(found.0.0))
     }
 
     /// Takes the options of letters, of which the last one may be followed by its value.
@@ -312,14 +328,14 @@ impl<'w, 'a> Reading<'w, 'a> {
                 return Err(Misuse::Switch(letter));
             };
             if !matches!(row.2, Takes::Value(..)) {
-                self.keep(row.0, "", false);
+                self.keep(row, "", false);
                 continue;
             }
             let rest = letters
                 .get(at.saturating_add(letter.len_utf8())..)
                 .unwrap_or("");
             let value = if rest.is_empty() { None } else { Some(rest) };
-            return self.take((row, false), value);
+            return self.take((row, false), value, Misuse::SwitchNeedsValue(row.1));
         }
         Ok(())
     }

@@ -8,9 +8,9 @@ fn is_hidden(byte: u8) -> bool {
 }
 
 /// A message as a line, with `?` for each control character but TAB and LF, as Git writes it.
-pub fn line_of(alloc: Global, message: &str) -> Result<Vec<u8>, AllocError> {
+pub fn line_of(alloc: Global, message: &[u8]) -> Result<Vec<u8>, AllocError> {
     let mut line = Vec::with_capacity(alloc, message.len().saturating_add(1))?;
-    for byte in message.as_bytes() {
+    for byte in message {
         line.push(if is_hidden(*byte) { b'?' } else { *byte })?;
     }
     line.push(b'\n')?;

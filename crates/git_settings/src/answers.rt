@@ -1,18 +1,19 @@
 //! Answers about a URL, a color, and whether output is colored.
 
-use crate::files::{Reading, origin_of};
-use crate::output::{Ending, tell, tell_refusal};
-use crate::shown::{Outcome, Shown};
+use crate::files::Reading;
+use crate::output::{Ending, Name, tell};
+use crate::shown::{Outcome, Shown, Wrong, tell_wrong};
 use crate::wanted::section_and_name;
 use config_file::{Key, Setting, Settings};
 use config_host::HostError;
 use config_host::environment::variable;
+use config_host::text::Text;
 use config_url::{Url, last_for_url};
-use gix_config_value::canonical::TryRead;
+use gix_config_value::canonical::{Kind, TryRead};
 use gix_config_value::{Boolean, Color};
 use std::alloc::AllocError;
 use std::cmp::Ordering;
-use std::io::{self, IsTerminal, Write};
+use std::io::IsTerminal;
 
 /// The order of the names of two settings, in which case does not count.
 fn order_of_names(one: &Setting<'_>, other: &Setting<'_>) -> Ordering {
@@ -40,25 +41,28 @@ fn add<'t>(group: &mut Settings<'t>, setting: Setting<'t>) -> Result<(), AllocEr
     }
 }
 
-/// The key of a section and a name as Git lists it, in lower case.
-fn push_plain_key(key: &mut Vec<u8>, section: &str, name: &[u8]) -> io::Result<()> {
+/// Appends the key of a section and a name as Git lists it, in lower case.
+fn put_plain_key(key: &mut Text, section: &str, name: &[u8]) {
     for byte in section.as_bytes() {
-        key.push(byte.to_ascii_lowercase())?;
+        key.put_byte(byte.to_ascii_lowercase());
     }
-    key.push(b'.')?;
+    key.put_byte(b'.');
     for byte in name {
-        key.push(byte.to_ascii_lowercase())?;
+        key.put_byte(byte.to_ascii_lowercase());
     }
-    Ok(())
 }
 
 /// Whether the run goes on after a setting that has no value of its type. As in Git, it ends at others.
 fn is_passed_over(shown: Shown, setting: &Setting<'_>) -> bool {
-    shown == Shown::Escape || shown == Shown::Path && setting.value.is_none()
+    match shown {
+        Shown::Escape => true,
+        Shown::Path => setting.value.is_none(),
+        _ => false,
+    }
 }
 
 /// When output is colored.
-#[derive(Clone, Copy, PartialEq, Eq)]
+#[derive(Clone, Copy)]
 enum Use {
     /// Never.
     Never,
@@ -68,18 +72,21 @@ enum Use {
     OnTerminal,
 }
 
+/// The words that say when output is colored.
+const USES: &[(&[u8], Use)] = &[
+    (b"never", Use::Never),
+    (b"always", Use::Always),
+    (b"auto", Use::OnTerminal),
+];
+
 impl Use {
     /// What a setting says, or `None` if it says nothing of the kind.
     fn of(setting: &Setting<'_>) -> Option<Use> {
         let text = setting.text();
-        if text.eq_ignore_ascii_case(b"never") {
-            return Some(Use::Never);
-        }
-        if text.eq_ignore_ascii_case(b"always") {
-            return Some(Use::Always);
-        }
-        if text.eq_ignore_ascii_case(b"auto") {
-            return Some(Use::OnTerminal);
+        for (word, means) in USES {
+            if text.eq_ignore_ascii_case(word) {
+                return Some(*means);
+            }
         }
         match Boolean::try_read(text) {
             Ok(Boolean(is_true)) if is_true => Some(Use::OnTerminal),
@@ -89,24 +96,27 @@ impl Use {
     }
 }
 
-impl<'t, W: Write + Drop> Reading<'_, '_, '_, '_, 't, W> {
+impl<'t> Reading<'_, 't> {
     /// Appends the settings that decide for a URL: of a section the one of each name, in the order of names.
     pub fn answer_url(&mut self, text: &str, url: &str) -> Result<Ending, HostError> {
-        let alloc = self.rt.alloc();
-        let Some(url) = Url::parse(alloc, url.as_bytes())? else {
+        let Some(url) = Url::parse(self.rt.alloc(), url.as_bytes())? else {
+            tell(
+                self.rt,
+                &[b"fatal: no URL that Git compares: ", url.as_bytes()],
+            );
             return Ok(Ending::Refused);
         };
         let (section, _) = section_and_name(text);
         let mut found = self.taken();
         found.sort_by(order_of_names)?;
-        let mut group = Settings::new(alloc);
+        let mut group = Settings::new(self.rt.alloc());
         let mut ending = Ending::Absent;
         for setting in found {
             if is_of_other(&group, &setting) {
                 ending = self.answer_group(ending, section, &group, &url)?;
-                group = Settings::new(alloc);
+                group = Settings::new(self.rt.alloc());
             }
-            if ending == Ending::Refused {
+            if matches!(ending, Ending::Refused) {
                 return Ok(ending);
             }
             add(&mut group, setting)?;
@@ -123,79 +133,86 @@ impl<'t, W: Write + Drop> Reading<'_, '_, '_, '_, 't, W> {
         group: &Settings<'t>,
         url: &Url,
     ) -> Result<Ending, HostError> {
-        let alloc = self.rt.alloc();
-        let mut text = Vec::new(alloc);
+        let mut text = Text::new(self.rt.alloc());
         match group.entries.first() {
-            Some(first) => push_plain_key(&mut text, section, first.entry.key)?,
+            Some(first) => put_plain_key(&mut text, section, first.entry.key),
             None => return Ok(ending),
         }
-        let Ok(key) = Key::parse(&text) else {
+        let text = text.so_far()?;
+        let Ok(key) = Key::parse(text) else {
             return Ok(ending);
         };
-        match last_for_url(alloc, group, &key, url)? {
-            Some(setting) => self.answer_for_url(setting, &text),
+        match last_for_url(self.rt.alloc(), group, &key, url)? {
+            Some(setting) => self.answer_for_url(setting, text),
             None => Ok(ending),
         }
     }
 
-    /// Appends a setting that decides for a URL, or reports that it has no value of its type.
+    /// Appends a setting that decides for a URL, or tells that it has no value of its type.
     fn answer_for_url(&mut self, setting: &Setting<'_>, key: &[u8]) -> Result<Ending, HostError> {
-        let origin = origin_of(&self.sources, setting.scope, setting.file);
-        match self.show(origin, setting, Some(key))? {
-            Outcome::Refused => {
-                tell_refusal(self.rt, setting, self.request.shown)?;
-                if !is_passed_over(self.request.shown, setting) {
-                    return Ok(Ending::Refused);
-                }
+        let place = self.place(setting);
+        let outcome = self.show(setting, &place, Name::Text(key))?;
+        if matches!(outcome, Outcome::Refused) {
+            self.tell_setting(self.request.shown, setting, key);
+            if !is_passed_over(self.request.shown, setting) {
+                return Ok(Ending::Refused);
             }
-            _ => {}
         }
         Ok(Ending::Done)
     }
 
-    /// Appends the escape sequence of the last color that was found, or of the default, and nothing after it.
-    pub fn answer_color(&mut self) -> Result<Ending, HostError> {
+    /// The last color that was found, or `None` if one of them is wrong, which is told.
+    fn last_color(&mut self) -> Result<Option<Option<Color>>, HostError> {
         let mut color = None;
         let found = self.taken();
         for setting in &found {
             match Color::try_read(setting.text()) {
                 Ok(read) if setting.value.is_some() => color = Some(read),
                 _ => {
-                    tell_refusal(self.rt, setting, Shown::Escape)?;
-                    return Ok(Ending::Refused);
+                    let key = setting.entry.key_text(self.rt.alloc())?;
+                    self.tell_setting(Shown::Escape, setting, &key);
+                    return Ok(None);
                 }
             }
         }
+        Ok(Some(color))
+    }
+
+    /// Appends the escape sequence of the last color that was found, or of the default, and nothing after it.
+    pub fn answer_color(&mut self) -> Result<Ending, HostError> {
+        let Some(mut color) = self.last_color()? else {
+            return Ok(Ending::Refused);
+        };
         if let (None, Some(default)) = (color, self.request.default) {
             match Color::try_from(default) {
                 Ok(read) => color = Some(read),
-                Err(error) => {
-                    tell(self.rt, format_args!("{default}: {}", error.fault))?;
-                    return Ok(Ending::NoColor);
+                Err(_) => {
+                    tell(
+                        self.rt,
+                        &[b"error: invalid color value: ", default.as_bytes()],
+                    );
+                    tell(self.rt, &[b"error: unable to parse default color value"]);
+                    return Ok(Ending::Failed);
                 }
             }
         }
         if let Some(color) = color {
-            self.output
-                .extend_from_slice(color.escape().as_str().as_bytes())?;
+            self.output.put(color.escape().as_str().as_bytes());
         }
         Ok(Ending::Done)
     }
 
     /// What the settings that were found say of the output of this key, or `None` if one of them is wrong,
-    /// which is reported.
+    /// which is told.
     fn decided_use(&mut self, key: &str) -> Result<Option<Use>, HostError> {
-        let mut own = None;
-        let mut of_diff = None;
-        let mut of_all = None;
+        let (mut own, mut of_diff, mut of_all) = (None, None, None);
         let found = self.taken();
         for setting in &found {
+            let listed = setting.entry.key_text(self.rt.alloc())?;
             let Some(means) = Use::of(setting) else {
-                let fault = "no boolean, and none of never, always and auto";
-                tell(self.rt, setting.refused(fault))?;
+                self.tell_setting(Shown::Canonical(Kind::Boolean), setting, &listed);
                 return Ok(None);
             };
-            let listed = setting.entry.key_text(self.rt.alloc())?;
             if listed.as_slice() == key.as_bytes() {
                 own = Some(means);
             } else if listed.as_slice() == b"diff.color".as_slice() {
@@ -204,25 +221,27 @@ impl<'t, W: Write + Drop> Reading<'_, '_, '_, '_, 't, W> {
                 of_all = Some(means);
             }
         }
-        let mut decided = of_all;
-        if key == "color.diff" && of_diff.is_some() {
-            decided = of_diff;
+        if key != "color.diff" {
+            of_diff = None;
         }
-        if own.is_some() {
-            decided = own;
-        }
+        let decided = own.or(of_diff).or(of_all);
         Ok(Some(decided.unwrap_or(Use::OnTerminal)))
     }
 
     /// Whether the output is a terminal with colors, or `None` if what is said of it is no boolean, which is
-    /// reported.
-    fn is_for_terminal(&self, is_terminal: Option<&str>) -> Result<Option<bool>, HostError> {
-        let is_terminal = match is_terminal {
+    /// told.
+    fn is_for_terminal(&self, said: Option<&str>) -> Result<Option<bool>, HostError> {
+        let is_terminal = match said {
             None => self.rt.stdout().is_terminal(),
             Some(text) => match Boolean::try_read(text.as_bytes()) {
                 Ok(Boolean(is_terminal)) => is_terminal,
                 Err(_) => {
-                    tell(self.rt, format_args!("{text}: no boolean"))?;
+                    let wrong = Wrong {
+                        key: b"command line",
+                        value: Some(text.as_bytes()),
+                        place: None,
+                    };
+                    tell_wrong(self.rt, Shown::Canonical(Kind::Boolean), &wrong, b"");
                     return Ok(None);
                 }
             },
@@ -236,12 +255,8 @@ impl<'t, W: Write + Drop> Reading<'_, '_, '_, '_, 't, W> {
 
     /// Says whether output is colored: by a text if it is said whether the output is a terminal, and by the
     /// status otherwise.
-    pub fn answer_use(
-        &mut self,
-        key: &str,
-        is_terminal: Option<&str>,
-    ) -> Result<Ending, HostError> {
-        let Some(has_terminal) = self.is_for_terminal(is_terminal)? else {
+    pub fn answer_use(&mut self, key: &str, said: Option<&str>) -> Result<Ending, HostError> {
+        let Some(has_terminal) = self.is_for_terminal(said)? else {
             return Ok(Ending::Refused);
         };
         let Some(means) = self.decided_use(key)? else {
@@ -252,9 +267,12 @@ impl<'t, W: Write + Drop> Reading<'_, '_, '_, '_, 't, W> {
             Use::Always => true,
             Use::OnTerminal => has_terminal,
         };
-        if is_terminal.is_some() {
-            let said = if is_colored { "true\n" } else { "false\n" };
-            self.output.extend_from_slice(said.as_bytes())?;
+        if said.is_some() {
+            self.output.put(if is_colored {
+                b"true\n"
+            } else {
+                b"false\n".as_slice()
+            });
         } else if !is_colored {
             return Ok(Ending::Absent);
         }

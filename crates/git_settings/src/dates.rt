@@ -12,56 +12,62 @@ const UNITS: &[(&str, u64)] = &[
     ("week", 604800),
 ];
 
-/// The first and the last second of the epoch that Git reads by its number.
-const SECONDS: (u64, u64) = (100_000_000, 4_102_444_799);
+/// The texts that are dates by themselves.
+const WORDS: &[(&str, u64)] = &[
+    ("never", 0),
+    ("false", 0),
+    ("all", u64::MAX),
+    ("now", u64::MAX),
+];
 
 /// The longest age in seconds, beyond which Git's own product of a count and a unit does not fit.
 const OLDEST: u64 = 2_147_483_647;
 
-/// The number of a text that has digits alone, of which the first is not 0.
-fn number_of(text: &str) -> Option<u64> {
-    let has_digits = text.bytes().all(|byte| byte.is_ascii_digit());
-    if !has_digits || text.starts_with("0") {
-        return None;
+/// What a table has for a name.
+fn named(table: &[(&str, u64)], name: &str) -> Option<u64> {
+    for (one, value) in table {
+        if *one == name {
+            return Some(*value);
+        }
     }
-    text.parse::<u64>().ok()
+    None
 }
 
-/// The second of the epoch that a text is, or `None` if it is another text.
-fn second_of(text: &str) -> Option<u64> {
-    let (first, last) = SECONDS;
-    match number_of(text) {
-        Some(second) if first <= second && second <= last => Some(second),
+/// The number of a text that has digits alone, of which the first is not 0.
+fn number_of(text: &str) -> Option<u64> {
+    match text.as_bytes() {
+        [b'1'..=b'9', ..] => text.parse::<u64>().ok(),
         _ => None,
     }
 }
 
 /// The seconds of an age such as `90 days` or `2.weeks.ago`, or `None` if the text is another one.
 fn age_of(text: &str) -> Option<u64> {
-    let mut words = text.split(|character: char| character == '.' || character == ' ');
-    let (count, unit, ago) = (words.next()?, words.next()?, words.next());
-    if words.next().is_some() || !matches!(ago, None | Some("ago")) {
+    let mut words = text.split(['.', ' '].as_slice());
+    let (count, unit) = (words.next()?, words.next()?);
+    if !matches!(
+        (words.next(), words.next()),
+        (None, _) | (Some("ago"), None)
+    ) {
         return None;
     }
-    let unit = unit.strip_suffix("s").unwrap_or(unit);
-    let (_, seconds) = UNITS.iter().find(|(name, _)| *name == unit)?;
-    match number_of(count)?.checked_mul(*seconds) {
+    let seconds = named(UNITS, unit.strip_suffix("s").unwrap_or(unit))?;
+    match number_of(count)?.checked_mul(seconds) {
         Some(age) if age <= OLDEST => Some(age),
         _ => None,
     }
 }
 
-/// The second of the epoch of a date, or `None` for a text that is no date which is read here. `never` and
-/// `false` are the first one, and `all` and `now` the last one. An age is one before this moment.
+/// The second of the epoch of a date, or `None` for a text that is no date which is read here: `never` and `false`
+/// are the first one, `all` and `now` the last one; Git's range of numbers is that of the seconds themselves; and an
+/// age is before this moment.
 pub fn read(rt: &HostRuntime, text: &str) -> io::Result<Option<u64>> {
-    if text == "never" || text == "false" {
-        return Ok(Some(0));
-    }
-    if text == "all" || text == "now" {
-        return Ok(Some(u64::MAX));
-    }
-    if let Some(second) = second_of(text) {
+    if let Some(second) = named(WORDS, text) {
         return Ok(Some(second));
+    }
+    if let Some(second) = number_of(text) {
+        let is_read = matches!(second, 100_000_000..=4_102_444_799);
+        return Ok(if is_read { Some(second) } else { None });
     }
     let Some(age) = age_of(text) else {
         return Ok(None);

@@ -1,17 +1,18 @@
 //! Lists the entries of texts, or prints values of them.
 
-use crate::output::{Ending, Listed, Name, Origin, push_as_git, push_entry, tell, tell_refusal};
-use crate::request::{Request, Style, Subject, Texts};
-use crate::shown::{Homes, Outcome, Shown, put_value};
+use crate::output::{Ending, Name, Origin, Place, put_entry, tell_here, tell_line};
+use crate::request::{Request, Subject};
+use crate::shown::{Homes, Outcome, Shown, Wrong, put_value, tell_wrong};
 use crate::sources::{COMMAND, Opened, open_texts};
-use crate::wanted::{Patterns, Unclear, Wanted};
+use crate::wanted::{Patterns, Wanted};
 use bumpalo::Bump;
-use config_file::{Entries, Entry, Known, Scope, Setting, Walk, push_setting};
+use config_file::errors::FileFault;
+use config_file::{AddError, Entries, Entry, Known, Scope, Setting, Walk, push_setting};
 use config_host::here::prepare;
 use config_host::reading::next_entry;
 use config_host::sources::Source;
+use config_host::text::Text;
 use config_host::{Disk, HereError, HostError, Surroundings};
-use config_url::Url;
 use std::alloc::AllocError;
 use std::io::{self, Write};
 use std::mem;
@@ -21,42 +22,40 @@ const ROOM: usize = 65536;
 
 /// A run over the requested texts.
 #[derive(Drop)]
-pub struct Reading<'r, 'm, 'a, 'p, 't, W: Write + Drop> {
+pub struct Reading<'r, 't> {
     /// The system.
     pub rt: &'t HostRuntime,
     disk: Disk<'t, HostRuntime>,
     /// The texts, in order.
-    pub sources: Vec<Source<'t>>,
+    sources: Vec<Source<'t>>,
     homes: Homes<'t>,
-    /// Where the output goes.
-    writer: W,
     /// What is asked.
-    pub request: &'r Request<'m, 'a>,
-    wanted: Wanted<'a, 'p>,
+    pub request: &'r Request<'r>,
+    wanted: Wanted<'r, 'r>,
     /// The settings that are asked for, unless all entries are listed.
     found: Vec<Setting<'t>>,
     /// A value as it is shown.
-    text: Vec<u8>,
+    text: Text,
     /// What is still to be written.
-    pub output: Vec<u8>,
+    pub output: Text,
 }
 
-/// Where an entry of a file of this scope and name is. A file has the name of no other text: those of a
-/// command include files by whole paths.
-pub fn origin_of(sources: &[Source<'_>], scope: Scope, file: &[u8]) -> Origin {
+/// What an entry of a file of this scope and name is in. A file has the name of no other text: those of a command
+/// include files by whole paths.
+fn origin_of(sources: &[Source<'_>], scope: Scope, file: &[u8]) -> Origin {
     if scope != Scope::Command {
         return Origin::File;
     }
-    let is_in_file = !sources
-        .iter()
-        .any(|source| !source.is_file && source.place.name == file);
-    if is_in_file {
-        Origin::File
-    } else if file == COMMAND {
-        Origin::Command
-    } else {
-        Origin::Input
+    for source in sources {
+        if !source.is_file && source.place.name == file {
+            return if file == COMMAND {
+                Origin::Command
+            } else {
+                Origin::Input
+            };
+        }
     }
+    Origin::File
 }
 
 /// The value of a setting as it is shown, or `None` for a key alone: its own text, or this one.
@@ -68,25 +67,34 @@ fn shown_value<'v>(outcome: Outcome, setting: &'v Setting<'_>, text: &'v [u8]) -
     }
 }
 
-impl<'t, W: Write + Drop> Reading<'_, '_, '_, '_, 't, W> {
-    /// Keeps a setting that is asked for. Without a word the last one is enough.
-    fn keep(&mut self, setting: Setting<'t>) -> io::Result<()> {
-        if self.request.style == Style::Places {
-            self.found.clear();
-        }
-        match self.found.push(setting) {
-            Ok(()) => Ok(()),
-            Err(_) => Err(io::Error::from(AllocError)),
+impl<'t> Reading<'_, 't> {
+    /// Where a setting is.
+    pub fn place<'s>(&self, setting: &'s Setting<'_>) -> Place<'s> {
+        Place {
+            origin: origin_of(&self.sources, setting.scope, setting.file),
+            scope: setting.scope,
+            file: setting.file,
+            line: setting.entry.line,
         }
     }
 
-    /// Appends a setting to the output as Git writes it, or replaces the one before it if one is wanted. The
-    /// key is that of the entry if none is given. Returns what becomes of its value.
+    /// Tells that a setting, which is listed under this key, is none of this type.
+    pub fn tell_setting(&self, shown: Shown, setting: &Setting<'_>, key: &[u8]) {
+        let wrong = Wrong {
+            key,
+            value: setting.value.as_deref(),
+            place: Some(self.place(setting)),
+        };
+        tell_wrong(self.rt, shown, &wrong, b"");
+    }
+
+    /// Appends a setting to the output as Git writes it, or replaces the one before it if one is wanted. Returns
+    /// what becomes of its value.
     pub fn show(
         &mut self,
-        origin: Origin,
         setting: &Setting<'_>,
-        key: Option<&[u8]>,
+        place: &Place<'_>,
+        name: Name<'_, '_>,
     ) -> io::Result<Outcome> {
         self.text.clear();
         let shown = if self.request.shows_values {
@@ -95,67 +103,28 @@ impl<'t, W: Write + Drop> Reading<'_, '_, '_, '_, 't, W> {
             Shown::Text
         };
         let outcome = put_value(self.rt, &self.homes, shown, setting, &mut self.text)?;
-        if outcome == Outcome::Missing || outcome == Outcome::Refused {
+        if matches!(outcome, Outcome::Missing | Outcome::Refused) {
             return Ok(outcome);
         }
         if !self.request.all {
             self.output.clear();
         }
-        let value = shown_value(outcome, setting, &self.text);
-        let place = Listed {
-            scope: setting.scope,
-            file: setting.file,
-            line: setting.entry.line,
-        };
-        let (output, request) = (&mut self.output, self.request);
-        match key {
-            Some(key) => push_as_git(output, request, origin, place, Name::Text(key), value)?,
-            None => push_as_git(
-                output,
-                request,
-                origin,
-                place,
-                Name::Of(&setting.entry),
-                value,
-            )?,
-        }
+        let value = shown_value(outcome, setting, self.text.so_far()?);
+        put_entry(&mut self.output, self.request, place, name, value);
         Ok(outcome)
     }
 
-    /// Lists an entry with its value as it is written. Only what shows the origin asks for it.
-    fn list(
-        &mut self,
-        scope: Scope,
-        file: &'t [u8],
-        entry: &Entry<'t>,
-        value: Option<&[u8]>,
-    ) -> Result<(), AllocError> {
-        let place = Listed {
-            scope,
-            file,
-            line: entry.line,
-        };
-        let (output, request, name) = (&mut self.output, self.request, Name::Of(entry));
-        if matches!(request.style, Style::Places) {
-            return push_entry(output, request, place, name, value);
-        }
-        let origin = if request.shows_origin {
-            origin_of(&self.sources, scope, file)
-        } else {
-            Origin::File
-        };
-        push_as_git(output, request, origin, place, name, value)
-    }
-
-    /// Lists a setting with its value as one of its type, or keeps it if it is asked for. As in Git, a list
-    /// leaves out what is none of its type.
+    /// Lists a setting, or keeps it if it is asked for. As in Git, a list leaves out what is none of its type.
     fn take_setting(&mut self, setting: Setting<'t>) -> io::Result<()> {
-        if !matches!(self.request.subject, Subject::Entries) {
-            return self.keep(setting);
+        if self.request.lists() {
+            let place = self.place(&setting);
+            self.show(&setting, &place, Name::Of(&setting.entry))?;
+            return Ok(());
         }
-        let origin = origin_of(&self.sources, setting.scope, setting.file);
-        self.show(origin, &setting, None)?;
-        Ok(())
+        match self.found.push(setting) {
+            Ok(()) => Ok(()),
+            Err(_) => Err(io::Error::from(AllocError)),
+        }
     }
 
     /// Takes an entry, if it is wanted.
@@ -170,16 +139,12 @@ impl<'t, W: Write + Drop> Reading<'_, '_, '_, '_, 't, W> {
         if !self.wanted.has_value(value.as_deref()) {
             return Ok(());
         }
-        if self.request.lists_as_written() {
-            self.list(scope, file, entry, value.as_deref())?;
-        } else {
-            self.take_setting(Setting {
-                scope,
-                file,
-                entry: *entry,
-                value,
-            })?;
-        }
+        self.take_setting(Setting {
+            scope,
+            file,
+            entry: *entry,
+            value,
+        })?;
         if self.output.len() >= ROOM {
             self.write()?;
         }
@@ -188,7 +153,7 @@ impl<'t, W: Write + Drop> Reading<'_, '_, '_, '_, 't, W> {
 
     /// Writes the output so far.
     fn write(&mut self) -> io::Result<()> {
-        self.writer.write_all(&self.output)?;
+        self.rt.stdout().write_all(self.output.so_far()?)?;
         self.output.clear();
         Ok(())
     }
@@ -241,14 +206,28 @@ impl<'t, W: Write + Drop> Reading<'_, '_, '_, '_, 't, W> {
         Ok(())
     }
 
-    /// Takes the entries of all texts. Reports where Git stops in each file that is named; in what Git reads
-    /// here nothing follows such a place.
-    fn walk_all(
-        &mut self,
-        surroundings: &mut Surroundings<'t>,
-        opened: Ending,
-    ) -> Result<Ending, HostError> {
-        let mut ending = opened;
+    /// Tells why Git stops in a text of this scope.
+    fn tell_stop(&self, scope: Scope, stop: HereError<'t>) {
+        match stop {
+            HereError::Stops(AddError::Line { file, error }) => {
+                let why: &[u8] = match error.fault {
+                    FileFault::BadLine => b"",
+                    FileFault::Nul => b": a NUL byte outside a comment",
+                };
+                let place = Place {
+                    origin: origin_of(&self.sources, scope, file),
+                    scope,
+                    file,
+                    line: error.line,
+                };
+                tell_line(self.rt, &place, why);
+            }
+            stop => tell_here(self.rt, stop),
+        }
+    }
+
+    /// Takes the entries of all texts, up to where Git stops, which is told.
+    fn walk_all(&mut self, surroundings: &mut Surroundings<'t>) -> Result<Ending, HostError> {
         for index in 0..self.sources.len() {
             let Some(source) = self.sources.get(index) else {
                 break;
@@ -258,52 +237,43 @@ impl<'t, W: Write + Drop> Reading<'_, '_, '_, '_, 't, W> {
                 Ok(()) => {}
                 Err(HereError::Host(error)) => return Err(error),
                 Err(stop) => {
-                    tell(self.rt, stop)?;
-                    ending = Ending::Refused;
-                    if !matches!(self.request.texts, Texts::Named(_)) {
-                        break;
-                    }
+                    self.tell_stop(source.scope, stop);
+                    return Ok(Ending::Refused);
                 }
             }
         }
-        Ok(ending)
-    }
-
-    /// Appends a setting of the key to the answer, or replaces the one before it. Returns whether it has a
-    /// value; one that is none of its type is reported.
-    fn answer_one(
-        &mut self,
-        origin: Origin,
-        setting: &Setting<'_>,
-        key: Option<&[u8]>,
-    ) -> io::Result<Ending> {
-        match self.show(origin, setting, key)? {
-            Outcome::Missing => Ok(Ending::Absent),
-            Outcome::Refused => {
-                tell_refusal(self.rt, setting, self.request.shown)?;
-                Ok(Ending::Refused)
-            }
-            _ => Ok(Ending::Done),
-        }
+        Ok(Ending::Done)
     }
 
     /// Appends the default value, if there is one, under the key or the pattern as it was asked for.
     fn answer_default(&mut self, key: &str) -> Result<Ending, HostError> {
         let Some(default) = self.request.default else {
-            if self.request.style == Style::Places {
-                tell(self.rt, format_args!("{key}: no entry has this key"))?;
-            }
             return Ok(Ending::Absent);
         };
         let alloc = self.rt.alloc();
         let mut text = Vec::new(alloc);
         let written = push_setting(alloc, &mut text, b"a.b", Some(default.as_bytes()));
-        match (written, Entries::new(&text).next()) {
-            (Ok(()), Some(Ok(entry))) => {
-                let setting = Setting::of_entry(alloc, COMMAND, entry)?;
-                Ok(self.answer_one(Origin::Command, &setting, Some(key.as_bytes()))?)
+        let (Ok(()), Some(Ok(entry))) = (written, Entries::new(&text).next()) else {
+            return Err(HostError::from(AllocError));
+        };
+        let setting = Setting::of_entry(alloc, COMMAND, entry)?;
+        let place = Place {
+            origin: Origin::Command,
+            ..self.place(&setting)
+        };
+        match self.show(&setting, &place, Name::Text(key.as_bytes()))? {
+            Outcome::Missing => Ok(Ending::Absent),
+            Outcome::Refused => {
+                let wrong = Wrong {
+                    key: key.as_bytes(),
+                    value: Some(default.as_bytes()),
+                    place: None,
+                };
+                let end = b"fatal: failed to format default config value: ";
+                tell_wrong(self.rt, self.request.shown, &wrong, end);
+                Ok(Ending::Refused)
             }
-            _ => Err(HostError::from(AllocError)),
+            _ => Ok(Ending::Done),
         }
     }
 
@@ -314,135 +284,102 @@ impl<'t, W: Write + Drop> Reading<'_, '_, '_, '_, 't, W> {
 
     /// Appends the values of the key, or of the keys of a pattern. If one is refused, there is no output.
     fn answer_key(&mut self, key: &str) -> Result<Ending, HostError> {
-        let mut ending = Ending::Absent;
+        let mut is_absent = true;
         let found = self.taken();
         for setting in &found {
-            let origin = origin_of(&self.sources, setting.scope, setting.file);
-            match self.answer_one(origin, setting, None)? {
-                Ending::Done => ending = Ending::Done,
-                Ending::Refused => {
+            let place = self.place(setting);
+            match self.show(setting, &place, Name::Of(&setting.entry))? {
+                Outcome::Missing => {}
+                Outcome::Refused => {
+                    let key = setting.entry.key_text(self.rt.alloc())?;
+                    self.tell_setting(self.request.shown, setting, &key);
                     self.output.clear();
                     return Ok(Ending::Refused);
                 }
-                _ => {}
+                _ => is_absent = false,
             }
         }
-        if ending == Ending::Absent {
-            ending = self.answer_default(key)?;
+        if is_absent {
+            return self.answer_default(key);
         }
-        Ok(ending)
+        Ok(Ending::Done)
     }
 
     /// Appends what is asked about.
     fn answer(&mut self) -> Result<Ending, HostError> {
-        match self.request.subject {
+        match self.request.chosen.subject {
             Subject::Entries => Ok(Ending::Done),
-            Subject::Key(key) => self.answer_key(key),
-            Subject::Pattern(pattern) => self.answer_key(pattern),
+            Subject::Key(key) | Subject::Pattern(key) => self.answer_key(key),
             Subject::Url(name, url) => self.answer_url(name, url),
             Subject::Color(_) => self.answer_color(),
-            Subject::UsesColor(key, is_terminal) => self.answer_use(key, is_terminal),
+            Subject::UsesColor(key, said) => self.answer_use(key, said),
         }
     }
-}
 
-/// Reports why it cannot be said which entries a request asks for. Returns how the run ends.
-fn tell_unclear(
-    rt: &HostRuntime,
-    request: &Request<'_, '_>,
-    why: Unclear,
-) -> Result<Ending, HostError> {
-    let key = match request.subject {
-        Subject::Key(key) | Subject::Pattern(key) => key,
-        _ => "",
-    };
-    match why {
-        Unclear::Key(error) => {
-            tell(rt, format_args!("{key}: {error}"))?;
-            Ok(Ending::Absent)
+    /// Answers from the texts.
+    fn run(&mut self, surroundings: &mut Surroundings<'t>) -> Result<Ending, HostError> {
+        let mut ending = self.walk_all(surroundings)?;
+        if matches!(ending, Ending::Done) {
+            ending = self.answer()?;
         }
-        Unclear::Pattern => {
-            tell(
-                rt,
-                format_args!("config_value: a pattern of this key or value is invalid: {key}"),
-            )?;
-            Ok(Ending::NoPattern)
-        }
-        Unclear::Memory => Err(HostError::from(AllocError)),
+        self.write()?;
+        Ok(ending)
     }
 }
 
 /// Answers the request for the wanted entries. The texts of the files are kept in `texts`. If a file is not
 /// read completely, no value is printed, since a later line could have another one.
-fn answer_in<'t, 'a>(
+fn answer_in<'r, 't>(
     rt: &'t HostRuntime,
     texts: &'t Bump,
-    request: &Request<'_, 'a>,
-    wanted: Wanted<'a, '_>,
+    request: &'r Request<'r>,
+    wanted: Wanted<'r, 'r>,
+    commands: &[u8],
 ) -> Result<Ending, HereError<'t>> {
     let Opened {
         disk,
         mut surroundings,
         sources,
         ending,
-    } = open_texts(rt, texts, request)?;
+    } = open_texts(rt, texts, request, commands)?;
+    if !matches!(ending, Ending::Done) {
+        return Ok(ending);
+    }
     let mut reading = Reading {
         rt,
         homes: Homes::new(&disk, request.shown)?,
         disk,
         sources,
-        writer: rt.stdout(),
         request,
         wanted,
         found: Vec::new(rt.alloc()),
-        text: Vec::new(rt.alloc()),
-        output: Vec::new(rt.alloc()),
+        text: Text::new(rt.alloc()),
+        output: Text::new(rt.alloc()),
     };
-    let mut ending = reading.walk_all(&mut surroundings, ending)?;
-    if ending == Ending::Done {
-        ending = reading.answer()?;
-    }
-    reading.write()?;
-    reading.writer.flush()?;
-    Ok(ending)
+    Ok(reading.run(&mut surroundings)?)
 }
 
-/// Answers the request.
-fn answer(rt: &HostRuntime, request: &Request<'_, '_>) -> Result<Ending, HostError> {
-    let alloc = rt.alloc();
-    if let Subject::Url(_, url) = request.subject {
-        if Url::parse(alloc, url.as_bytes())?.is_none() {
-            tell(rt, format_args!("{url}: no URL that Git compares"))?;
-            return Ok(Ending::Refused);
-        }
-    }
-    let patterns = match Patterns::new(alloc, request) {
+/// Answers the request, after all of whose texts these settings of the command line come.
+pub fn run<'a>(
+    rt: &HostRuntime,
+    request: &Request<'a>,
+    commands: &[u8],
+) -> Result<Ending, HostError> {
+    let patterns = match Patterns::new(rt.alloc(), &request.chosen) {
         Ok(patterns) => patterns,
-        Err(why) => return tell_unclear(rt, request, why),
+        Err(why) => return Ok(why.tell(rt, &request.chosen)),
     };
-    let wanted = match Wanted::new(alloc, request, &patterns) {
+    let wanted = match Wanted::new(rt.alloc(), &request.chosen, &patterns) {
         Ok(wanted) => wanted,
-        Err(why) => return tell_unclear(rt, request, why),
+        Err(why) => return Ok(why.tell(rt, &request.chosen)),
     };
     let texts = Bump::new(rt.alloc());
-    match answer_in(rt, &texts, request, wanted) {
+    match answer_in(rt, &texts, request, wanted, commands) {
         Ok(ending) => Ok(ending),
         Err(HereError::Host(error)) => Err(error),
         Err(stop) => {
-            tell(rt, stop)?;
+            tell_here(rt, stop);
             Ok(Ending::Refused)
-        }
-    }
-}
-
-/// Answers the request, and returns the status: that of [`Ending`], or 2 after an error of the output, of
-/// memory or of the environment.
-pub fn run(rt: &HostRuntime, request: &Request<'_, '_>) -> u8 {
-    match answer(rt, request) {
-        Ok(ending) => ending as u8,
-        Err(error) => {
-            let _ = tell(rt, format_args!("config_value: {error}"));
-            2
         }
     }
 }

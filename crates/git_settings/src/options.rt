@@ -1,255 +1,302 @@
-//! The options of the words, and of Git's older flags.
+//! The words of the command line, their options, and what the help says of them.
 
-use crate::arguments::{READ, file_argument, flag, valued};
-use crate::words::Word;
-use clap::{Arg, ArgAction, Command};
-use std::alloc::{AllocError, Global};
+use config_host::options::Takes::{self, Ever, Nothing, Value};
+use config_host::options::{About, GENERAL, Row, Tables};
 
-/// The flags of all words: their names, and what they do.
-const FLAGS: &[(&str, &str)] = &[
-    ("system", "Read the file of the system alone"),
-    ("global", "Read the file of the user alone"),
-    ("local", "Read the file of the repository alone"),
-    ("worktree", "Read the file of the work tree alone"),
-    ("bool", "The same as --type=bool"),
-    ("int", "The same as --type=int"),
-    ("bool-or-int", "The same as --type=bool-or-int"),
-    ("bool-or-str", "The same as --type=bool-or-str"),
-    ("path", "The same as --type=path"),
-    ("expiry-date", "The same as --type=expiry-date"),
-    (
-        "canonical",
-        "Show a color by its canonical text, and not by its escape sequence",
-    ),
-    ("name-only", "Show names without values"),
-    ("show-origin", "Show where an entry is from before it"),
-    ("show-scope", "Show the scope of an entry before it"),
+/// What is done.
+#[derive(Clone, Copy)]
+pub enum Action {
+    Get,
+    GetAll,
+    GetRegexp,
+    GetUrlMatch,
+    GetColor,
+    GetColorBool,
+    List,
+    Set,
+    Add,
+    ReplaceAll,
+    Unset,
+    UnsetAll,
+    RenameSection,
+    RemoveSection,
+}
+
+/// An action, and the least and the largest number of words that it takes.
+pub type Counted = (Action, usize, usize);
+
+/// Git's older flags, each of which is an action.
+pub const OLDER_ACTIONS: &[(&str, Counted)] = &[
+    ("get", (Action::Get, 1, 2)),
+    ("get-all", (Action::GetAll, 1, 2)),
+    ("get-regexp", (Action::GetRegexp, 1, 2)),
+    ("get-urlmatch", (Action::GetUrlMatch, 2, 2)),
+    ("get-color", (Action::GetColor, 1, 2)),
+    ("get-colorbool", (Action::GetColorBool, 1, 2)),
+    ("list", (Action::List, 0, 0)),
+    ("add", (Action::Add, 2, 2)),
+    ("replace-all", (Action::ReplaceAll, 2, 3)),
+    ("unset", (Action::Unset, 1, 2)),
+    ("unset-all", (Action::UnsetAll, 1, 2)),
+    ("rename-section", (Action::RenameSection, 2, 2)),
+    ("remove-section", (Action::RemoveSection, 1, 1)),
 ];
 
-/// Flags that undo others, for all words.
-const OPPOSITES: &[(&str, &[&str])] = &[
-    ("no-file", &["file"]),
-    ("no-blob", &[]),
-    ("no-null", &["null"]),
-    ("no-system", &["system"]),
-    ("no-global", &["global"]),
-    ("no-local", &["local"]),
-    ("no-worktree", &["worktree"]),
-    ("no-name-only", &["name-only"]),
-    ("no-show-origin", &["show-origin"]),
-    ("no-show-scope", &["show-scope"]),
-    (
-        "no-type",
-        &[
-            "type",
-            "bool",
-            "int",
-            "bool-or-int",
-            "bool-or-str",
-            "path",
-            "expiry-date",
-        ],
-    ),
+/// A word of the command line.
+pub struct Word {
+    /// The word, or the empty text for a command line without one.
+    pub name: &'static str,
+    /// Its action, which its options can change.
+    pub action: Action,
+    /// The number of words that follow its options.
+    pub count: usize,
+    /// Its options.
+    pub tables: Tables,
+    /// What its help says around them.
+    pub about: About,
+}
+
+/// Which file is read or changed. There is no `--blob`, and it is told so.
+const LOCATION: &[Row] = &[
+    ("global", "", Nothing, "Use the file of the user"),
+    ("system", "", Nothing, "Use the file of the system"),
+    ("local", "", Nothing, "Use the repository's file"),
+    ("worktree", "", Nothing, "Use the work tree's file"),
+    ("file", "f", FILE, "Use this file, or standard input for -"),
+    ("blob", "", Value("BLOB", &[]), ""),
 ];
 
-/// Flags that undo options of `get`.
-const OPPOSITES_OF_GET: &[(&str, &[&str])] = &[
-    ("no-all", &["all"]),
-    ("no-default", &["default"]),
-    ("no-value", &["value"]),
-    ("no-fixed-value", &["fixed-value"]),
-    ("no-regexp", &["regexp"]),
-    ("no-url", &["url"]),
+const FILE: Takes = Value("FILE", &[]);
+
+/// The flags that are types.
+pub const TYPE_FLAGS: &[Row] = &[
+    ("bool", "", Ever, "As --type=bool"),
+    ("int", "", Ever, "As --type=int"),
+    ("bool-or-int", "", Ever, "As --type=bool-or-int"),
+    ("bool-or-str", "", Ever, "As --type=bool-or-str"),
+    ("path", "", Ever, "As --type=path"),
+    ("expiry-date", "", Ever, "As --type=expiry-date"),
 ];
 
-/// Git's older flags, one of which stands for a word.
-const ACTIONS: &[(&str, &str)] = &[
-    (
-        "get",
-        "Print the last value of KEY, or of those that PATTERN matches",
-    ),
-    (
-        "get-all",
-        "Print all values of KEY, or those that PATTERN matches",
-    ),
+/// Of which type values are, and how one is shown that Git shows otherwise.
+const TYPE: &[Row] = &[
+    ("type", "t", Value("TYPE", &[]), TYPES),
+    ("canonical", "", Nothing, CANONICAL),
+];
+
+const TYPES: &str = "\
+Read or write values as this: bool, int, bool-or-int, bool-or-str, path, expiry-date or color, as Git does; or suffix, \
+integer, amount, boolean, name or attribute";
+
+const CANONICAL: &str = "Show or write a color by its canonical text, which Git does not do";
+
+/// How entries are shown.
+const DISPLAY: &[Row] = &[
+    ("null", "z", Nothing, "End each entry with a NUL"),
+    ("name-only", "", Nothing, "Show names, and no values"),
+    ("show-origin", "", Nothing, "Show where each entry is"),
+    ("show-scope", "", Nothing, "Show each entry's scope"),
+    ("show-names", "", Nothing, "Show keys before values"),
+];
+
+const INCLUDES: &[Row] = &[("includes", "", Nothing, "Follow includes")];
+
+const DEFAULT: &[Row] = &[("default", "", VALUE, "What is printed if no entry has KEY")];
+
+const VALUE: Takes = Value("VALUE", &[]);
+
+const COMMENT: &[Row] = &[("comment", "", TEXT, "Write this comment behind the value")];
+
+const TEXT: Takes = Value("TEXT", &[]);
+
+const FIXED: &[Row] = &[("fixed-value", "", Nothing, "PATTERN is the value itself")];
+
+/// Of which entries a word is.
+const FILTER: &[Row] = &[
+    ("all", "", Nothing, "Take all entries, and not one"),
+    ("value", "", Value("PATTERN", &[]), MATCHES),
+];
+
+const MATCHES: &str =
+    "Take only entries whose value the pattern matches, or after ! does not match";
+
+/// Of which keys `get` is.
+const KEYS: &[Row] = &[
+    ("regexp", "", Nothing, "KEY is a pattern of keys"),
+    ("url", "", Value("URL", &[]), DECIDES),
+];
+
+const DECIDES: &str = "\
+Print the value that decides for the URL, as http.proxy has one for each host; KEY may be a section, all of whose \
+names are then printed";
+
+/// Whether `set` adds an entry.
+const APPEND: &[Row] = &[("append", "", Nothing, "Add an entry, and keep the others")];
+
+/// What Git's older flags do.
+const OLDER: &[Row] = &[
+    ("get", "", Ever, "Print the last value of KEY"),
+    ("get-all", "", Ever, "Print all values of KEY"),
     (
         "get-regexp",
-        "Print each key that the pattern KEY matches, and its value",
+        "",
+        Ever,
+        "KEY is a pattern: print all keys and values",
     ),
     (
         "get-urlmatch",
-        "Print what decides for the URL PATTERN in the section KEY, or under the key KEY",
+        "",
+        Ever,
+        "Print what decides in KEY for a URL",
     ),
+    ("replace-all", "", Ever, "Replace all values of KEY"),
+    ("add", "", Ever, "Add an entry, and keep the others"),
+    ("unset", "", Ever, "Remove the one entry of KEY"),
+    ("unset-all", "", Ever, "Remove all entries of KEY"),
+    ("rename-section", "", Ever, "Give sections another name"),
+    ("remove-section", "", Ever, "Remove sections"),
+    ("list", "l", Ever, "List all entries"),
     (
         "get-color",
-        "Print the escape sequence of the color of KEY, or of the color PATTERN",
+        "",
+        Ever,
+        "Print the color of KEY, or a default",
     ),
     (
         "get-colorbool",
-        "Say whether the output of KEY is colored: as a text if PATTERN says whether the output is a \
-        terminal, and otherwise by the status",
+        "",
+        Ever,
+        "Say whether the output of KEY is colored",
     ),
 ];
 
-/// What follows the options in the help.
-const AFTER: &str = "\
-Each option has an opposite, such as --no-type. Statuses: 0 if all is printed, 1 if no entry has the key or \
-it is no key, 6 for an invalid pattern, 128 if a file, a line, a value or a URL is refused, 129 for a wrong \
-usage, 255 for a default that is no color, and 2 after an error of the output or of memory.
+/// The statuses of what reads.
+const READING: &str = "\
+Each option has an opposite, such as --no-type. Statuses: 0 if all is printed, 1 if no entry has the key or it is \
+no key, 6 for an invalid pattern, 128 if a file, a line, a value or a URL is refused, or after an error of the \
+output or of memory, 129 for a wrong usage, and 255 for a default that is no color.
+
+An expiry date is never, false, all or now; or the seconds since 1970, from 100000000 to 4102444799; or an age: a \
+number, a space or a dot, and a unit from second to week, perhaps with ago, as in 2.weeks.ago.";
+
+/// The statuses of what changes a file.
+const CHANGING: &str = "\
+Without a file or a scope the file of the repository changes. All bytes but those of the change stay.
+
+Each option has an opposite, such as --no-type. Statuses: 0 if the file is as asked, 1 for a key with a wrong byte, \
+2 for a key without a section or a name, 3 for a file that is no configuration file, 4 if the new file is not \
+written, 5 if several entries have the key or none, 6 for an invalid pattern, 128 if the value is none of its type, \
+the comment has a line end, no section has the name or the file is -, 129 for a wrong usage, and 255 if the file \
+cannot be locked or no section can have the name.";
+
+/// The words.
+const WORDS: &[Word] = &[
+    Word {
+        name: "list",
+        action: Action::List,
+        count: 0,
+        tables: &[LOCATION, DISPLAY, TYPE, TYPE_FLAGS, INCLUDES, GENERAL],
+        about: About {
+            summary: "Lists all entries, as `git config list` does",
+            usage: "git-settings [-c KEY=VALUE]... list [OPTIONS]",
+            after: READING,
+        },
+    },
+    Word {
+        name: "get",
+        action: Action::Get,
+        count: 1,
+        tables: &[
+            LOCATION, FILTER, FIXED, KEYS, DISPLAY, TYPE, TYPE_FLAGS, INCLUDES, DEFAULT, GENERAL,
+        ],
+        about: About {
+            summary: "Prints the last value of a key, or all of them, as `git config get` does",
+            usage: "git-settings [-c KEY=VALUE]... get [OPTIONS] KEY",
+            after: READING,
+        },
+    },
+    Word {
+        name: "set",
+        action: Action::Set,
+        count: 2,
+        tables: &[
+            LOCATION, TYPE, TYPE_FLAGS, FILTER, FIXED, COMMENT, APPEND, GENERAL,
+        ],
+        about: About {
+            summary: "Gives a key a value in a file, as `git config set` does",
+            usage: "git-settings set [OPTIONS] KEY VALUE",
+            after: CHANGING,
+        },
+    },
+    Word {
+        name: "unset",
+        action: Action::Unset,
+        count: 1,
+        tables: &[LOCATION, FILTER, FIXED, GENERAL],
+        about: About {
+            summary: "Removes the entry of a key from a file, as `git config unset` does",
+            usage: "git-settings unset [OPTIONS] KEY",
+            after: CHANGING,
+        },
+    },
+    Word {
+        name: "rename-section",
+        action: Action::RenameSection,
+        count: 2,
+        tables: &[LOCATION, GENERAL],
+        about: About {
+            summary: "Gives sections of a file another name, as `git config rename-section` does",
+            usage: "git-settings rename-section [OPTIONS] OLD NEW",
+            after: CHANGING,
+        },
+    },
+    Word {
+        name: "remove-section",
+        action: Action::RemoveSection,
+        count: 1,
+        tables: &[LOCATION, GENERAL],
+        about: About {
+            summary: "Removes sections from a file, as `git config remove-section` does",
+            usage: "git-settings remove-section [OPTIONS] NAME",
+            after: CHANGING,
+        },
+    },
+];
+
+/// A command line without a word.
+const WITHOUT: &Word = &Word {
+    name: "",
+    action: Action::Get,
+    count: 0,
+    tables: &[
+        LOCATION, OLDER, DISPLAY, TYPE, TYPE_FLAGS, DEFAULT, COMMENT, FIXED, INCLUDES, GENERAL,
+    ],
+    about: About {
+        summary: "Reads and changes Git's settings, as `git config` does",
+        usage: "git-settings [-c KEY=VALUE]... [OPTIONS] [KEY [VALUE [PATTERN]]]",
+        after: "\
+Words: list, get, set, unset, rename-section and remove-section, each of which has a --help of its own. Without a \
+word and without one of the flags from --get to --get-colorbool a key alone is read, and a key and a value are set. \
+Before them each `-c KEY=VALUE` and each `--config-env=KEY=VARIABLE` adds a setting of the command. Statuses are \
+those of the words.
 
 Examples:
-  config_value get --type=bool --default=false core.bare
-  config_value get --url=https://example.com/a.git http
-  config_value list --file .gitmodules --null
-  config_value --get-regexp '^remote\\.'";
+  git-settings get --type=bool --default=false core.bare
+  git-settings get --url=https://example.com/a.git http
+  git-settings list --file .gitmodules --null
+  git-settings set core.editor 'vim -n'
+  git-settings unset --global alias.st",
+    },
+};
 
-/// Flags that undo others.
-fn with_opposites<'a>(
-    alloc: Global,
-    command: Command<'a>,
-    opposites: &[(&'a str, &[&'a str])],
-) -> Result<Command<'a>, AllocError> {
-    let mut command = command;
-    for (name, undone) in opposites {
-        let opposite = flag(alloc, name, "Undo the option of this name").hide(true);
-        command = command.arg(opposite.overrides_with_all(undone)?)?;
+/// The word with which arguments begin, and what follows it. Without a word all of them follow.
+pub fn word_of<'w, 'a>(arguments: &'w [&'a str]) -> (&'static Word, &'w [&'a str]) {
+    if let [first, rest @ ..] = arguments {
+        for word in WORDS {
+            if word.name == *first {
+                return (word, rest);
+            }
+        }
     }
-    Ok(command)
-}
-
-/// A flag, and one that undoes it, of which the last decides.
-fn pair<'a>(
-    alloc: Global,
-    command: Command<'a>,
-    name: &'a str,
-    opposite: &'a str,
-    help: &'a str,
-) -> Result<Command<'a>, AllocError> {
-    command
-        .arg(flag(alloc, name, help).overrides_with(opposite)?)?
-        .arg(flag(alloc, opposite, "Undo the flag of this name").overrides_with(name)?)
-}
-
-/// The type of the value.
-pub fn type_argument<'a>(alloc: Global) -> Arg<'a> {
-    let help =
-        "Read values as this: bool, int, bool-or-int, bool-or-str, path, expiry-date or color, as Git \
-        does; or suffix, integer, amount, boolean, name or attribute";
-    valued(alloc, "type", "TYPE", help)
-        .short('t')
-        .action(ArgAction::Append)
-}
-
-/// The options of all words.
-fn with_options<'a>(alloc: Global, command: Command<'a>) -> Result<Command<'a>, AllocError> {
-    let mut command = command
-        .version("0.2.0")
-        .args_override_self(true)
-        .infer_long_args(true)
-        .after_help(AFTER)
-        .arg(file_argument(alloc, READ))?
-        .arg(type_argument(alloc))?
-        .arg(flag(alloc, "null", "End each entry with a NUL").short('z'))?;
-    for (name, help) in FLAGS {
-        command = command.arg(flag(alloc, name, help))?;
-    }
-    command = with_opposites(alloc, command, OPPOSITES)?;
-    command = pair(alloc, command, "includes", "no-includes", "Follow includes")?;
-    pair(
-        alloc,
-        command,
-        "show-names",
-        "no-show-names",
-        "Show the key before a value",
-    )
-}
-
-/// The value that a missing key has.
-fn default_argument<'a>(alloc: Global) -> Arg<'a> {
-    let help = "The value to print if no entry has the key";
-    valued(alloc, "default", "VALUE", help)
-}
-
-/// The pattern of values.
-pub fn pattern_argument<'a>(alloc: Global) -> Arg<'a> {
-    let help = "Take only entries whose value the pattern matches, or after ! does not match";
-    valued(alloc, "value", "PATTERN", help)
-}
-
-/// Whether the pattern of values is the value itself.
-pub fn fixed_argument<'a>(alloc: Global) -> Arg<'a> {
-    flag(alloc, "fixed-value", "Take PATTERN for the value itself")
-}
-
-/// What follows the options, of which none comes later.
-pub fn words_argument<'a>(alloc: Global, name: &'a str, help: &'a str) -> Arg<'a> {
-    Arg::new(alloc, "words")
-        .value_name(name)
-        .action(ArgAction::Append)
-        .num_args(0..)
-        .trailing_var_arg(true)
-        .help(help)
-}
-
-/// The command line of `get`.
-fn get_command<'a>(alloc: Global) -> Result<Command<'a>, AllocError> {
-    let command = Command::new(alloc, "config_value get")
-        .about("Prints the last value of a key, or all of them, as `git config get` does")
-        .override_usage("config_value [-c KEY=VALUE]... get [OPTIONS] KEY");
-    let command = with_options(alloc, command)?
-        .arg(flag(alloc, "all", "Print all values of the key"))?
-        .arg(default_argument(alloc))?
-        .arg(pattern_argument(alloc))?
-        .arg(fixed_argument(alloc))?
-        .arg(flag(alloc, "regexp", "Take KEY for a pattern of keys"))?
-        .arg(valued(
-            alloc,
-            "url",
-            "URL",
-            "Print the value that decides for the URL, as http.proxy has one for each host; KEY may be a \
-                section, all of whose names are then printed",
-        ))?
-        .arg(words_argument(alloc, "KEY", "The key, as core.bare"))?;
-    with_opposites(alloc, command, OPPOSITES_OF_GET)
-}
-
-/// The command line of `list`.
-fn list_command<'a>(alloc: Global) -> Result<Command<'a>, AllocError> {
-    let command = Command::new(alloc, "config_value list")
-        .about("Lists all entries, as `git config list` does")
-        .override_usage("config_value [-c KEY=VALUE]... list [OPTIONS]");
-    with_options(alloc, command)?.arg(words_argument(alloc, "NOTHING", "").hide(true))
-}
-
-/// The command line of Git's older flags.
-fn older_command<'a>(alloc: Global) -> Result<Command<'a>, AllocError> {
-    let command = Command::new(alloc, "config_value")
-        .about("Prints values or lists entries, as the older flags of `git config` do")
-        .override_usage("config_value [-c KEY=VALUE]... --get [OPTIONS] KEY [PATTERN]");
-    let mut command = with_options(alloc, command)?
-        .arg(default_argument(alloc))?
-        .arg(fixed_argument(alloc))?
-        .arg(flag(alloc, "list", "List all entries").short('l'))?
-        .arg(words_argument(
-            alloc,
-            "KEY",
-            "The key, and what the flag asks for behind it",
-        ))?;
-    for (name, help) in ACTIONS {
-        command = command.arg(flag(alloc, name, help))?;
-    }
-    let opposites = [
-        ("no-default", ["default"].as_slice()),
-        ("no-fixed-value", ["fixed-value"].as_slice()),
-    ];
-    with_opposites(alloc, command, &opposites)
-}
-
-/// The command line of a word.
-pub fn word_command<'a>(alloc: Global, word: Word) -> Result<Command<'a>, AllocError> {
-    match word {
-        Word::List => list_command(alloc),
-        Word::Older => older_command(alloc),
-        _ => get_command(alloc),
-    }
+    (WITHOUT, arguments)
 }

@@ -1,50 +1,74 @@
 //! Writes entries, values and messages.
 
 use crate::request::{Request, Subject};
-use crate::shown::Shown;
-use bstr::BStr;
-use config_file::{Entry, Scope, Setting};
-use config_host::shown;
-use gix_config_value::canonical::{Kind, refusal};
+use config_file::{Entry, Scope};
+use config_host::HereError;
+use config_host::shown::line_of;
+use config_host::text::Text;
 use itoa::Buffer;
 use std::alloc::AllocError;
 use std::fmt;
-use std::io::{self, Write};
+use std::io::Write;
 
 /// How a run ends. Its number is the exit status, which is Git's.
-#[derive(Clone, Copy, PartialEq)]
+#[derive(Clone, Copy)]
 pub enum Ending {
-    /// All is listed, or the value is printed.
+    /// All is listed, the value is printed, or the file is as asked.
     Done = 0,
-    /// No entry has the key, or it is no key.
+    /// No entry has the key, or a byte of it is wrong.
     Absent = 1,
+    /// The key of a change has no section, or no name.
+    NoSection = 2,
+    /// The file is no configuration file.
+    NoFile = 3,
+    /// The new file is not written.
+    NotWritten = 4,
+    /// No entry is to be changed, or several are.
+    NotOne = 5,
     /// A text is no pattern.
     NoPattern = 6,
-    /// A file, a line or a value is refused.
+    /// A file, a line, a value or a change is refused, or the system refuses an answer, output or memory.
     Refused = 128,
-    /// The default is no color.
-    NoColor = 255,
+    /// The arguments are wrong.
+    Misused = 129,
+    /// The default is no color, the file cannot be locked, or no section has the name.
+    Failed = 255,
 }
 
-/// Writes a message on standard error.
-pub fn tell<M: fmt::Display + Drop>(rt: &HostRuntime, message: M) -> io::Result<()> {
-    let message = format!(in rt.alloc(); "{message}")?;
-    rt.stderr()
-        .write_all(&shown::line_of(rt.alloc(), &message)?)
-}
-
-/// Appends the word for a scope, if it is to be shown.
-#[inline]
-fn push_scope(
-    line: &mut Vec<u8>,
-    request: &Request<'_, '_>,
-    scope: Scope,
-) -> Result<(), AllocError> {
-    if request.shows_scope {
-        line.extend_from_slice(scope.name().as_bytes())?;
-        line.push(if request.null { 0 } else { b'\t' })?;
+/// The line of a message.
+fn message_of(rt: &HostRuntime, parts: &[&[u8]]) -> Result<Vec<u8>, AllocError> {
+    let mut message = Text::new(rt.alloc());
+    for part in parts {
+        message.put(part);
     }
-    Ok(())
+    line_of(rt.alloc(), message.so_far()?)
+}
+
+/// Writes a message of these parts on standard error. As in Git, one that cannot be written is lost.
+pub fn tell(rt: &HostRuntime, parts: &[&[u8]]) {
+    let _ = match message_of(rt, parts) {
+        Ok(line) => rt.stderr().write_all(&line),
+        Err(_) => rt.stderr().write_all(b"fatal: out of memory\n"),
+    };
+}
+
+/// Writes this front and an error on standard error.
+pub fn tell_error<E: fmt::Display + Drop>(rt: &HostRuntime, front: &[u8], error: E) {
+    match format!(in rt.alloc(); "{error}") {
+        Ok(text) => tell(rt, &[front, text.as_bytes()]),
+        Err(_) => tell(rt, &[b"fatal: out of memory"]),
+    }
+}
+
+/// Tells why settings are not read here.
+pub fn tell_here(rt: &HostRuntime, error: HereError<'_>) {
+    match error {
+        HereError::Command(error) => {
+            tell_error(rt, b"error: ", error);
+            tell(rt, &[b"fatal: unable to parse command-line config"]);
+        }
+        error => tell_error(rt, b"fatal: ", error),
+    }
 }
 
 /// The key under which an entry is listed.
@@ -56,61 +80,24 @@ pub enum Name<'s, 't> {
     Of(&'s Entry<'t>),
 }
 
-impl Name<'_, '_> {
-    /// Appends the key.
-    #[inline]
-    fn push_to(self, line: &mut Vec<u8>) -> Result<(), AllocError> {
-        match self {
-            Name::Text(text) => line.extend_from_slice(text),
-            Name::Of(entry) => entry.push_key(line),
-        }
-    }
-}
-
-/// Where an entry is that is listed: the scope and the name of its file, and its line.
+/// What an entry is in.
 #[derive(Clone, Copy)]
-pub struct Listed<'s> {
-    pub scope: Scope,
-    pub file: &'s [u8],
-    pub line: usize,
-}
-
-/// Appends an entry after its file and its line.
-pub fn push_entry(
-    line: &mut Vec<u8>,
-    request: &Request<'_, '_>,
-    listed: Listed<'_>,
-    key: Name<'_, '_>,
-    value: Option<&[u8]>,
-) -> Result<(), AllocError> {
-    let (place, equals, end) = if request.null {
-        (b"\0".as_slice(), b'\n', 0)
-    } else {
-        (b": ".as_slice(), b'=', b'\n')
-    };
-    push_scope(line, request, listed.scope)?;
-    line.extend_from_slice(listed.file)?;
-    line.push(b':')?;
-    line.extend_from_slice(Buffer::new().format(listed.line).as_bytes())?;
-    line.extend_from_slice(place)?;
-    key.push_to(line)?;
-    if let Some(value) = value {
-        line.push(equals)?;
-        line.extend_from_slice(value)?;
-    }
-    line.push(end)?;
-    Ok(())
+pub enum Origin {
+    /// A file.
+    File,
+    /// The text of standard input.
+    Input,
+    /// The settings of a command.
+    Command,
 }
 
 /// Where an entry is.
-#[derive(Clone, Copy, PartialEq, Eq)]
-pub enum Origin {
-    /// In a file.
-    File,
-    /// In the text of standard input.
-    Input,
-    /// In the settings of a command.
-    Command,
+#[derive(Clone, Copy)]
+pub struct Place<'s> {
+    pub origin: Origin,
+    pub scope: Scope,
+    pub file: &'s [u8],
+    pub line: usize,
 }
 
 /// The bytes that have an escape of their own.
@@ -132,111 +119,117 @@ fn is_escaped(byte: u8) -> bool {
 }
 
 /// Appends a byte of the name of a file, as Git escapes it.
-fn push_escaped(line: &mut Vec<u8>, byte: u8) -> Result<(), AllocError> {
+fn put_escaped(text: &mut Text, byte: u8) {
     if !is_escaped(byte) {
-        line.push(byte)?;
-        return Ok(());
+        text.put_byte(byte);
+        return;
     }
     for (letter, escape) in LETTERS {
         if *letter == byte {
-            return line.extend_from_slice(escape);
+            text.put(escape);
+            return;
         }
     }
-    line.extend_from_slice(&[
+    text.put(&[
         b'\\',
         b'0' + byte / 64,
         b'0' + byte / 8 % 8,
         b'0' + byte % 8,
-    ])
+    ]);
+}
+
+/// Whether Git writes the name of a file in quotes.
+fn is_quoted(name: &[u8]) -> bool {
+    for byte in name {
+        if is_escaped(*byte) {
+            return true;
+        }
+    }
+    false
 }
 
 /// Appends the name of a file: in quotes if one of its bytes is escaped, unless a NUL ends it.
-fn push_file(line: &mut Vec<u8>, name: &[u8], null: bool) -> Result<(), AllocError> {
-    if null || !name.iter().any(|byte| is_escaped(*byte)) {
-        return line.extend_from_slice(name);
+fn put_file(text: &mut Text, name: &[u8], null: bool) {
+    if null || !is_quoted(name) {
+        text.put(name);
+        return;
     }
-    line.push(b'"')?;
+    text.put_byte(b'"');
     for byte in name {
-        push_escaped(line, *byte)?;
+        put_escaped(text, *byte);
     }
-    line.push(b'"')?;
-    Ok(())
+    text.put_byte(b'"');
 }
 
 /// Appends where an entry is, as Git writes it.
-fn push_origin(
-    line: &mut Vec<u8>,
-    null: bool,
-    origin: Origin,
-    file: &[u8],
-) -> Result<(), AllocError> {
-    match origin {
+fn put_origin(text: &mut Text, null: bool, place: &Place<'_>) {
+    match place.origin {
         Origin::File => {
-            line.extend_from_slice(b"file:")?;
-            push_file(line, file, null)?;
+            text.put(b"file:");
+            put_file(text, place.file, null);
         }
-        Origin::Input => line.extend_from_slice(b"standard input:")?,
-        Origin::Command => line.extend_from_slice(b"command line:")?,
+        Origin::Input => text.put(b"standard input:"),
+        Origin::Command => text.put(b"command line:"),
     }
-    line.push(if null { 0 } else { b'\t' })?;
-    Ok(())
-}
-
-/// Appends an entry as Git writes it: its scope, its origin, its key and its value, as far as they are shown.
-/// Without a value the key stands alone.
-#[inline(always)]
-pub fn push_as_git(
-    line: &mut Vec<u8>,
-    request: &Request<'_, '_>,
-    origin: Origin,
-    listed: Listed<'_>,
-    key: Name<'_, '_>,
-    value: Option<&[u8]>,
-) -> Result<(), AllocError> {
-    let null = request.null;
-    push_scope(line, request, listed.scope)?;
-    if request.shows_origin {
-        push_origin(line, null, origin, listed.file)?;
-    }
-    if request.shows_names {
-        key.push_to(line)?;
-    }
-    if let Some(value) = value {
-        if request.shows_values {
-            if request.shows_names {
-                line.push(between(request))?;
-            }
-            line.extend_from_slice(value)?;
-        }
-    }
-    line.push(if null { 0 } else { b'\n' })?;
-    Ok(())
 }
 
 /// What stands between a key and its value.
-fn between(request: &Request<'_, '_>) -> u8 {
-    match (request.null, request.subject) {
+fn between(request: &Request<'_>) -> u8 {
+    match (request.null, request.chosen.subject) {
         (true, _) => b'\n',
         (false, Subject::Entries) => b'=',
         (false, _) => b' ',
     }
 }
 
-/// Why a date is refused.
-const DATES: &str =
-    "no date that is read here, as never, now, 90.days, 2.weeks.ago or seconds of the epoch";
+/// Appends an entry as Git writes it: its scope, its origin, its key and its value, as far as they are shown.
+/// Without a value the key stands alone.
+#[inline(always)]
+pub fn put_entry(
+    text: &mut Text,
+    request: &Request<'_>,
+    place: &Place<'_>,
+    name: Name<'_, '_>,
+    value: Option<&[u8]>,
+) {
+    let (gap, end) = if request.null { (0, 0) } else { (b'\t', b'\n') };
+    if request.shows_scope {
+        text.put(place.scope.name().as_bytes());
+        text.put_byte(gap);
+    }
+    if request.shows_origin {
+        put_origin(text, request.null, place);
+        text.put_byte(gap);
+    }
+    if request.shows_names {
+        match name {
+            Name::Text(key) => text.put(key),
+            Name::Of(entry) => {
+                let appended = entry.push_key(text.bytes());
+                text.heed(appended);
+            }
+        }
+    }
+    match value {
+        Some(value) if request.shows_values => {
+            if request.shows_names {
+                text.put_byte(between(request));
+            }
+            text.put(value);
+        }
+        _ => {}
+    }
+    text.put_byte(end);
+}
 
-/// Reports why a setting has no value as it is to be shown.
-pub fn tell_refusal(rt: &HostRuntime, setting: &Setting<'_>, shown: Shown) -> io::Result<()> {
-    let kind = match shown {
-        Shown::Canonical(kind) => kind,
-        Shown::Escape => Kind::Color,
-        Shown::Path => return tell(rt, setting.refused("the path cannot be made whole")),
-        Shown::Date => return tell(rt, setting.refused(DATES)),
-        _ => Kind::Boolean,
-    };
-    match refusal(kind, BStr::new(setting.text())) {
-        Some(refusal) => tell(rt, setting.refused(refusal)),
-        None => Ok(()),
+/// Tells that Git reads no further than this line, and why if its words do not say so.
+pub fn tell_line(rt: &HostRuntime, place: &Place<'_>, why: &[u8]) {
+    let mut buffer = Buffer::new();
+    let line = buffer.format(place.line).as_bytes();
+    let front = b"fatal: bad config line ";
+    match place.origin {
+        Origin::File => tell(rt, &[front, line, b" in file ", place.file, why]),
+        Origin::Input => tell(rt, &[front, line, b" in standard input", why]),
+        Origin::Command => tell(rt, &[b"fatal: unable to parse command-line config", why]),
     }
 }

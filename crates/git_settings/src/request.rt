@@ -2,30 +2,20 @@
 
 use crate::shown::Shown;
 use config_file::Scope;
-use config_host::surroundings::Followed;
 
-/// Which texts are read.
+/// Which texts are read, or which file is changed.
 #[derive(Clone, Copy)]
-pub enum Texts<'m, 'a> {
-    /// These files, of which a later one decides over an earlier one. `-` is standard input.
-    Named(&'m [&'a str]),
+pub enum Texts<'a> {
+    /// This file, or standard input if it is `-`.
+    Named(&'a str),
     /// All that Git reads here.
     Here,
     /// Of the files that Git reads here, the one of this scope.
     OfScope(Scope),
 }
 
-/// In which form the answers are.
-#[derive(Clone, Copy, PartialEq, Eq)]
-pub enum Style {
-    /// Entries are listed after their files and lines, and the last value of a key is read alone.
-    Places,
-    /// As `git config get` and `git config list` write them.
-    Git,
-}
-
 /// What settings are asked about.
-#[derive(Clone, Copy, PartialEq, Eq)]
+#[derive(Clone, Copy)]
 pub enum Subject<'a> {
     /// All entries, which are listed.
     Entries,
@@ -42,39 +32,33 @@ pub enum Subject<'a> {
     UsesColor(&'a str, Option<&'a str>),
 }
 
-/// A setting of the command line.
+/// Which entries are asked for.
 #[derive(Clone, Copy)]
-pub enum Override<'a> {
-    /// A key, or a key, `=` and a value, after `-c`.
-    Given(&'a str),
-    /// A key, `=` and the name of the variable that has the value, after `--config-env`.
-    OfVariable(&'a str),
-}
-
-/// What is asked of settings.
-#[derive(Clone, Copy)]
-pub struct Request<'m, 'a> {
-    /// The texts that are read.
-    pub texts: Texts<'m, 'a>,
-    /// The settings of the command line. They come last if all is read.
-    pub commands: &'m [Override<'a>],
-    /// The form of the answers.
-    pub style: Style,
-    /// What they are asked about.
+pub struct Chosen<'a> {
+    /// What they are about.
     pub subject: Subject<'a>,
     /// The pattern that the value has to match, or after `!` the one that it must not match.
     pub value: Option<&'a str>,
     /// Whether `value` is no pattern, but the value itself.
     pub is_fixed: bool,
+}
+
+/// What is asked of settings.
+#[derive(Clone, Copy)]
+pub struct Request<'a> {
+    /// The texts that are read.
+    pub texts: Texts<'a>,
+    /// The entries that are asked for.
+    pub chosen: Chosen<'a>,
     /// As what a value is read, and how it is shown.
     pub shown: Shown,
-    /// Which includes are followed.
-    pub followed: Followed,
+    /// Whether includes are followed.
+    pub follows: bool,
     /// Whether a NUL follows each entry and each value.
     pub null: bool,
     /// Whether the scope is written before an entry.
     pub shows_scope: bool,
-    /// Whether the origin is written before an entry, as Git writes it.
+    /// Whether the origin is written before an entry.
     pub shows_origin: bool,
     /// Whether the key is written before a value.
     pub shows_names: bool,
@@ -86,36 +70,49 @@ pub struct Request<'m, 'a> {
     pub default: Option<&'a str>,
 }
 
-impl<'m, 'a> Request<'m, 'a> {
-    /// Whether entries are listed whose values are not read, but shown as they are written.
-    pub fn lists_as_written(&self) -> bool {
-        let is_typed = self.shows_values && !matches!(self.shown, Shown::Text);
-        matches!(self.subject, Subject::Entries)
-            && (matches!(self.style, Style::Places) || !is_typed)
+impl Request<'_> {
+    /// Whether all entries are listed.
+    pub fn lists(&self) -> bool {
+        matches!(self.chosen.subject, Subject::Entries)
     }
+}
 
-    /// A list of the entries of these texts, whose values are shown as they are written.
-    pub fn new(
-        style: Style,
-        texts: Texts<'m, 'a>,
-        commands: &'m [Override<'a>],
-    ) -> Request<'m, 'a> {
-        Request {
-            texts,
-            commands,
-            style,
-            subject: Subject::Entries,
-            value: None,
-            is_fixed: false,
-            shown: Shown::Text,
-            followed: Followed::Nothing,
-            null: false,
-            shows_scope: false,
-            shows_origin: false,
-            shows_names: false,
-            shows_values: true,
-            all: false,
-            default: None,
-        }
-    }
+/// A change of a file.
+#[derive(Clone, Copy)]
+pub enum Change<'a> {
+    /// The key, which has at most one entry, has this value.
+    Set(&'a str),
+    /// The key has one more entry, of this value.
+    Add(&'a str),
+    /// The key has this value, and no other.
+    Replace(&'a str),
+    /// The key, which has one entry, has none.
+    Unset,
+    /// The key has no entry.
+    UnsetAll,
+    /// The sections have this name.
+    Rename(&'a str),
+    /// There is no section of the name.
+    Remove,
+}
+
+/// What is changed.
+#[derive(Clone, Copy)]
+pub struct Edit<'a> {
+    /// The file.
+    pub texts: Texts<'a>,
+    /// The change.
+    pub change: Change<'a>,
+    /// The key, or the name of the sections.
+    pub name: &'a str,
+    /// The pattern of the values of the entries that change, if not all of the key do.
+    pub pattern: Option<&'a str>,
+    /// Whether the pattern is the value itself.
+    pub is_fixed: bool,
+    /// The comment that the value gets.
+    pub comment: Option<&'a str>,
+    /// As what the value is written.
+    pub shown: Shown,
+    /// What to do if several entries have the key, as Git says it.
+    pub advice: &'static str,
 }

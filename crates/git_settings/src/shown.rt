@@ -1,20 +1,22 @@
 //! Values as they are shown.
 
 use crate::dates;
+use crate::output::{Origin, Place, tell, tell_error, tell_line};
 use bstr::BStr;
 use config_file::Setting;
 use config_host::names::exists;
+use config_host::text::Text;
 use config_host::{Disk, HostError, Users};
-use gix_config_value::canonical::{Kind, TryRead, normalize};
+use gix_config_value::canonical::{Kind, TryRead, normalize, refusal};
 use gix_config_value::integer::Amount;
 use gix_config_value::path::interpolate::{Context, home_for_user};
-use gix_config_value::{Boolean, Color};
+use gix_config_value::{Boolean, Color, Fault};
 use itoa::Buffer;
 use std::io;
 use std::str::FromStr;
 
 /// As what a value is read, and how it is shown.
-#[derive(Clone, Copy, PartialEq, Eq)]
+#[derive(Clone, Copy)]
 pub enum Shown {
     /// As it is written.
     Text,
@@ -32,28 +34,37 @@ pub enum Shown {
     Escape,
 }
 
+/// Git's words for types. Those for other types are the names of kinds.
+const NAMED: &[(&str, Shown)] = &[
+    ("bool", Shown::Canonical(Kind::Boolean)),
+    ("int", Shown::Canonical(Kind::Amount)),
+    ("bool-or-int", Shown::BooleanOrAmount),
+    ("bool-or-str", Shown::BooleanOrText),
+    ("path", Shown::Path),
+    ("expiry-date", Shown::Date),
+];
+
 impl Shown {
     /// What this word after `--type` means, or `None` if it is no such word. A color is shown as its escape
     /// sequence if `escapes` is true.
     pub fn named(word: &str, escapes: bool) -> Option<Shown> {
-        match word {
-            "bool" => Some(Shown::Canonical(Kind::Boolean)),
-            "int" => Some(Shown::Canonical(Kind::Amount)),
-            "bool-or-int" => Some(Shown::BooleanOrAmount),
-            "bool-or-str" => Some(Shown::BooleanOrText),
-            "path" => Some(Shown::Path),
-            "expiry-date" => Some(Shown::Date),
-            "color" if escapes => Some(Shown::Escape),
-            _ => match Kind::from_str(word) {
-                Ok(kind) => Some(Shown::Canonical(kind)),
-                Err(_) => None,
-            },
+        if word == "color" && escapes {
+            return Some(Shown::Escape);
+        }
+        for (name, shown) in NAMED {
+            if *name == word {
+                return Some(*shown);
+            }
+        }
+        match Kind::from_str(word) {
+            Ok(kind) => Some(Shown::Canonical(kind)),
+            Err(_) => None,
         }
     }
 }
 
 /// What becomes of a value.
-#[derive(Clone, Copy, PartialEq, Eq)]
+#[derive(Clone, Copy)]
 pub enum Outcome {
     /// The text of the value as it is written.
     AsWritten,
@@ -77,7 +88,7 @@ pub struct Homes<'t> {
 impl<'t> Homes<'t> {
     /// The home directory and the list of users.
     pub fn new(disk: &Disk<'t, HostRuntime>, shown: Shown) -> Result<Homes<'t>, HostError> {
-        if shown != Shown::Path {
+        if !matches!(shown, Shown::Path) {
             return Ok(Homes {
                 home: None,
                 passwd: None,
@@ -99,27 +110,38 @@ impl<'t> Homes<'t> {
     }
 }
 
-/// Appends a text.
-fn put(text: &mut Vec<u8>, more: &[u8]) -> io::Result<Outcome> {
-    text.extend_from_slice(more)?;
-    Ok(Outcome::Text)
+/// Appends the canonical text of this kind.
+fn put_canonical(text: &mut Text, kind: Kind, value: &[u8]) -> Outcome {
+    match normalize(kind, BStr::new(value)) {
+        Some(canonical) => {
+            text.put(canonical.as_str().as_bytes());
+            Outcome::Text
+        }
+        None => Outcome::Refused,
+    }
 }
 
-/// Appends the canonical text of this kind.
-fn put_canonical(text: &mut Vec<u8>, kind: Kind, value: &[u8]) -> io::Result<Outcome> {
-    match normalize(kind, BStr::new(value)) {
-        Some(canonical) => put(text, canonical.as_str().as_bytes()),
-        None => Ok(Outcome::Refused),
+/// Appends the escape sequence of a color.
+fn put_escape(text: &mut Text, value: &[u8]) -> Outcome {
+    match Color::try_read(value) {
+        Ok(color) => {
+            text.put(color.escape().as_str().as_bytes());
+            Outcome::Text
+        }
+        Err(_) => Outcome::Refused,
     }
 }
 
 /// Appends the second of the epoch of a date.
-fn put_date(rt: &HostRuntime, text: &mut Vec<u8>, value: &[u8]) -> io::Result<Outcome> {
+fn put_date(rt: &HostRuntime, text: &mut Text, value: &[u8]) -> io::Result<Outcome> {
     let Ok(value) = str::from_utf8(value) else {
         return Ok(Outcome::Refused);
     };
     match dates::read(rt, value)? {
-        Some(second) => put(text, Buffer::new().format(second).as_bytes()),
+        Some(second) => {
+            text.put(Buffer::new().format(second).as_bytes());
+            Ok(Outcome::Text)
+        }
         None => Ok(Outcome::Refused),
     }
 }
@@ -128,7 +150,7 @@ fn put_date(rt: &HostRuntime, text: &mut Vec<u8>, value: &[u8]) -> io::Result<Ou
 fn put_path(
     rt: &HostRuntime,
     homes: &Homes<'_>,
-    text: &mut Vec<u8>,
+    text: &mut Text,
     setting: &Setting<'_>,
 ) -> io::Result<Outcome> {
     let passwd = homes.passwd.unwrap_or("");
@@ -144,7 +166,23 @@ fn put_path(
     if is_optional && !exists(rt, path.as_bytes())? {
         return Ok(Outcome::Missing);
     }
-    put(text, path.as_bytes())
+    text.put(path.as_bytes());
+    Ok(Outcome::Text)
+}
+
+/// Appends a value of one of the types whose text is the same wherever it is, unless that is its own text. Returns
+/// what became of it. A color stays as it is written.
+pub fn put_typed(text: &mut Text, shown: Shown, value: &[u8]) -> Outcome {
+    match shown {
+        Shown::Canonical(kind) => put_canonical(text, kind, value),
+        Shown::BooleanOrAmount if Amount::try_read(value).is_ok() => {
+            put_canonical(text, Kind::Amount, value)
+        }
+        Shown::BooleanOrText if Boolean::try_read(value).is_err() => Outcome::AsWritten,
+        Shown::BooleanOrAmount | Shown::BooleanOrText => put_canonical(text, Kind::Boolean, value),
+        Shown::Escape if Color::try_read(value).is_err() => Outcome::Refused,
+        _ => Outcome::AsWritten,
+    }
 }
 
 /// Appends the value of a setting as it is shown, unless that is its own text. Returns what became of it.
@@ -153,24 +191,106 @@ pub fn put_value(
     homes: &Homes<'_>,
     shown: Shown,
     setting: &Setting<'_>,
-    text: &mut Vec<u8>,
+    text: &mut Text,
 ) -> io::Result<Outcome> {
-    let value = setting.text();
     match shown {
         Shown::Text if setting.value.is_none() => Ok(Outcome::Alone),
-        Shown::Text => Ok(Outcome::AsWritten),
-        Shown::Canonical(kind) => put_canonical(text, kind, value),
-        Shown::BooleanOrAmount if Amount::try_read(value).is_ok() => {
-            put_canonical(text, Kind::Amount, value)
-        }
-        Shown::BooleanOrAmount => put_canonical(text, Kind::Boolean, value),
-        Shown::BooleanOrText if Boolean::try_read(value).is_err() => Ok(Outcome::AsWritten),
-        Shown::BooleanOrText => put_canonical(text, Kind::Boolean, value),
         Shown::Path => put_path(rt, homes, text, setting),
-        Shown::Date => put_date(rt, text, value),
-        Shown::Escape => match Color::try_read(value) {
-            Ok(color) => put(text, color.escape().as_str().as_bytes()),
-            Err(_) => Ok(Outcome::Refused),
-        },
+        Shown::Date => put_date(rt, text, setting.text()),
+        Shown::Escape => Ok(put_escape(text, setting.text())),
+        shown => Ok(put_typed(text, shown, setting.text())),
+    }
+}
+
+/// A value that is none of its type.
+#[derive(Clone, Copy)]
+pub struct Wrong<'v> {
+    /// The key, as Git lists it.
+    pub key: &'v [u8],
+    /// The text of the value, or `None` for a key alone.
+    pub value: Option<&'v [u8]>,
+    /// Where it is, if it is an entry.
+    pub place: Option<Place<'v>>,
+}
+
+/// Tells that a value is no number.
+fn tell_number(rt: &HostRuntime, wrong: &Wrong<'_>) {
+    let value = wrong.value.unwrap_or(b"");
+    let why: &[u8] = match Amount::try_read(value) {
+        Err(Fault::Overflow) => b": out of range",
+        _ => b": invalid unit",
+    };
+    let (at, file): (&[u8], &[u8]) = match wrong.place {
+        Some(
+            Place {
+                origin: Origin::File,
+                file,
+                ..
+            },
+        ) => (b" in file ", file),
+        Some(
+            Place {
+                origin: Origin::Input,
+                ..
+            },
+        ) => (b" in standard input", b""),
+        _ => (b"", b""),
+    };
+    let front = b"fatal: bad numeric config value '";
+    tell(
+        rt,
+        &[front, value, b"' for '", wrong.key, b"'", at, file, why],
+    );
+}
+
+/// Tells in Git's words why a value is none of its type, and what follows if they have a second line: that of its
+/// place, or this one and the value.
+pub fn tell_wrong(rt: &HostRuntime, shown: Shown, wrong: &Wrong<'_>, end: &[u8]) {
+    let value = wrong.value.unwrap_or(b"true");
+    let kind = match shown {
+        Shown::Escape => Kind::Color,
+        Shown::Canonical(kind) => kind,
+        _ => Kind::Amount,
+    };
+    match (shown, kind) {
+        (Shown::Path | Shown::Date | Shown::Escape, _) if wrong.value.is_none() => {
+            tell(rt, &[b"error: missing value for '", wrong.key, b"'"]);
+        }
+        (Shown::Path, _) => {
+            return tell(
+                rt,
+                &[b"fatal: failed to expand user dir in: '", value, b"'"],
+            );
+        }
+        (Shown::Date, _) => {
+            let end = b"' is not a valid timestamp";
+            tell(rt, &[b"error: '", value, b"' for '", wrong.key, end]);
+        }
+        (_, Kind::Color) => tell(rt, &[b"error: invalid color value: ", value]),
+        (_, Kind::Amount) => return tell_number(rt, wrong),
+        (_, Kind::Boolean) => {
+            let front = b"fatal: bad boolean config value '";
+            return tell(rt, &[front, value, b"' for '", wrong.key, b"'"]);
+        }
+        (_, kind) => {
+            tell(
+                rt,
+                &[
+                    b"fatal: bad config value '",
+                    value,
+                    b"' for '",
+                    wrong.key,
+                    b"'",
+                ],
+            );
+            if let Some(refusal) = refusal(kind, BStr::new(value)) {
+                tell_error(rt, b"fatal: ", refusal);
+            }
+            return;
+        }
+    }
+    match wrong.place {
+        Some(place) => tell_line(rt, &place, b""),
+        None => tell(rt, &[end, value]),
     }
 }

@@ -1,9 +1,9 @@
 //! The texts that a request reads.
 
-use crate::output::{Ending, tell};
-use crate::request::{Override, Request, Style, Subject, Texts};
+use crate::output::{Ending, tell, tell_error};
+use crate::request::{Request, Texts};
 use bumpalo::Bump;
-use config_file::{FilePlace, Scope, push_setting};
+use config_file::{FilePlace, Scope};
 use config_host::disk::ReadError;
 use config_host::environment::variable;
 use config_host::reading::seek_urls;
@@ -49,11 +49,6 @@ fn add<'t>(sources: &mut Vec<Source<'t>>, source: Source<'t>) -> Result<(), Allo
     }
 }
 
-/// Whether a file that is not there has to be reported by a failure. As in Git, `get` takes it for empty.
-fn fails_without(request: &Request<'_, '_>) -> bool {
-    request.style == Style::Places || request.subject == Subject::Entries
-}
-
 /// The text of a file, or of standard input.
 fn text_of<'t>(
     rt: &HostRuntime,
@@ -78,23 +73,43 @@ fn text_of<'t>(
     })
 }
 
-/// Reads the file of this name. Reports one that cannot be read.
+/// Tells that a file cannot be read that is named. As in Git, a list of its entries fails, and otherwise the file
+/// counts as empty.
+fn tell_unread(
+    rt: &HostRuntime,
+    request: &Request<'_>,
+    name: &[u8],
+    error: ReadError,
+) -> Result<Ending, HostError> {
+    if error.is_memory() {
+        return Err(HostError::from(AllocError));
+    }
+    let Ok(why) = format!(in rt.alloc(); "{error}") else {
+        return Err(HostError::from(AllocError));
+    };
+    if request.lists() {
+        let front = b"fatal: unable to read config file '";
+        tell(rt, &[front, name, b"': ", why.as_bytes()]);
+        return Ok(Ending::Refused);
+    }
+    if !error.is_missing() {
+        let front = b"warning: unable to access '";
+        tell(rt, &[front, name, b"': ", why.as_bytes()]);
+    }
+    Ok(Ending::Done)
+}
+
+/// Reads the file of this name.
 fn open<'t>(
     rt: &'t HostRuntime,
-    request: &Request<'_, '_>,
+    request: &Request<'_>,
     opened: &mut Opened<'t>,
     scope: Scope,
     name: &[u8],
 ) -> Result<(), HostError> {
     match text_of(rt, &opened.disk, scope, name) {
         Ok(source) => add(&mut opened.sources, source)?,
-        Err(error) if error.is_memory() => return Err(HostError::from(AllocError)),
-        Err(error) => {
-            tell(rt, format_args!("{}: {error}", bstr::BStr::new(name)))?;
-            if fails_without(request) {
-                opened.ending = Ending::Refused;
-            }
-        }
+        Err(error) => opened.ending = tell_unread(rt, request, name, error)?,
     }
     Ok(())
 }
@@ -103,9 +118,14 @@ fn open<'t>(
 fn closed<'t>(
     rt: &'t HostRuntime,
     disk: Disk<'t, HostRuntime>,
-    request: &Request<'_, '_>,
+    request: &Request<'_>,
 ) -> Result<Opened<'t>, HostError> {
-    let surroundings = Surroundings::new(&disk, request.followed)?;
+    let followed = if request.follows {
+        Followed::AsGit
+    } else {
+        Followed::Nothing
+    };
+    let surroundings = Surroundings::new(&disk, followed)?;
     Ok(Opened {
         disk,
         surroundings,
@@ -114,96 +134,16 @@ fn closed<'t>(
     })
 }
 
-/// The texts of these files.
+/// The text of this file.
 fn open_named<'t>(
     rt: &'t HostRuntime,
     texts: &'t Bump,
-    request: &Request<'_, '_>,
-    files: &[&str],
-) -> Result<Opened<'t>, HereError<'t>> {
+    request: &Request<'_>,
+    file: &str,
+) -> Result<Opened<'t>, HostError> {
     let mut opened = closed(rt, Disk::new(rt, texts), request)?;
-    for file in files {
-        open(rt, request, &mut opened, Scope::Command, file.as_bytes())?;
-    }
+    open(rt, request, &mut opened, Scope::Command, file.as_bytes())?;
     Ok(opened)
-}
-
-/// Appends a setting of the command line to a text.
-fn push_override(
-    rt: &HostRuntime,
-    text: &mut Vec<u8>,
-    key: &str,
-    value: Option<&[u8]>,
-) -> Result<(), HereError<'static>> {
-    match push_setting(rt.alloc(), text, key.as_bytes(), value) {
-        Ok(()) => Ok(()),
-        Err(config_file::CommandError::Memory(error)) => Err(HereError::from(error)),
-        Err(error) => Err(HereError::Command(error)),
-    }
-}
-
-/// Appends a setting of `-c` to a text.
-fn push_given(rt: &HostRuntime, text: &mut Vec<u8>, given: &str) -> Result<(), HereError<'static>> {
-    match given.split_once('=') {
-        Some((key, value)) => push_override(rt, text, key, Some(value.as_bytes())),
-        None => push_override(rt, text, given, None),
-    }
-}
-
-/// The key and the name of the variable of a setting of `--config-env`, or why it has none, as a message.
-pub fn key_and_variable(given: &str) -> Result<(&str, &str), &'static str> {
-    match given.rsplit_once('=') {
-        None => Err("it has no = before the name of a variable"),
-        Some((_, "")) => Err("it has no name of a variable"),
-        Some((key, name)) => Ok((key, name)),
-    }
-}
-
-/// Appends a setting of `--config-env` to a text. Reports one that has no variable, and then returns false.
-fn push_of_variable(
-    rt: &HostRuntime,
-    text: &mut Vec<u8>,
-    given: &str,
-) -> Result<bool, HereError<'static>> {
-    let (key, name) = match key_and_variable(given) {
-        Ok(parts) => parts,
-        Err(why) => {
-            tell(rt, format_args!("--config-env={given}: {why}"))?;
-            return Ok(false);
-        }
-    };
-    match variable(rt, name)? {
-        Some(value) => {
-            push_override(rt, text, key, Some(&value))?;
-            Ok(true)
-        }
-        None => {
-            tell(
-                rt,
-                format_args!("--config-env={given}: there is no such variable"),
-            )?;
-            Ok(false)
-        }
-    }
-}
-
-/// The settings of the command line as a text, or `None` if one has no value, which is reported.
-fn command_text(
-    rt: &HostRuntime,
-    commands: &[Override<'_>],
-) -> Result<Option<Vec<u8>>, HereError<'static>> {
-    let mut text = Vec::new(rt.alloc());
-    for command in commands {
-        match command {
-            Override::Given(given) => push_given(rt, &mut text, given)?,
-            Override::OfVariable(given) => {
-                if !push_of_variable(rt, &mut text, given)? {
-                    return Ok(None);
-                }
-            }
-        }
-    }
-    Ok(Some(text))
 }
 
 /// The file of this scope among those that Git reads here: the last one, unless only one before it is there.
@@ -228,27 +168,48 @@ pub fn of_scope<'t>(
     Ok(found)
 }
 
-/// Adds the file of a scope. Reports that there is none outside a repository.
+/// Tells that there is no file of a scope here.
+pub fn tell_no_file(rt: &HostRuntime, scope: Scope) {
+    let name = scope.name().as_bytes();
+    match scope {
+        Scope::Local | Scope::Worktree => {
+            let end = b" can only be used inside a git repository";
+            tell(rt, &[b"fatal: --", name, end]);
+        }
+        Scope::Global => tell(rt, &[b"fatal: $HOME not set"]),
+        _ => {
+            let front = b"fatal: there is no file of the scope ";
+            tell(rt, &[front, name, b" here"]);
+        }
+    }
+}
+
+/// Whether one of these files is that of a work tree.
+fn has_worktree(files: &[Named<'_>]) -> bool {
+    for named in files {
+        if named.scope == Scope::Worktree {
+            return true;
+        }
+    }
+    false
+}
+
+/// Adds the file of a scope. Tells that there is none outside a repository.
 fn open_scope<'t>(
     rt: &'t HostRuntime,
-    request: &Request<'_, '_>,
+    request: &Request<'_>,
     opened: &mut Opened<'t>,
     files: &[Named<'t>],
     scope: Scope,
 ) -> Result<(), HostError> {
-    let has_own = files.iter().any(|named| named.scope == Scope::Worktree);
-    let scope = match scope {
-        Scope::Worktree if !has_own => Scope::Local,
+    let read = match scope {
+        Scope::Worktree if !has_worktree(files) => Scope::Local,
         scope => scope,
     };
-    match of_scope(&opened.disk, files, scope)? {
-        Some(named) => open(rt, request, opened, scope, named.name),
+    match of_scope(&opened.disk, files, read)? {
+        Some(named) => open(rt, request, opened, read, named.name),
         None => {
-            let name = scope.name();
-            tell(
-                rt,
-                format_args!("config_value: there is no file of the scope {name} here"),
-            )?;
+            tell_no_file(rt, scope);
             opened.ending = Ending::Refused;
             Ok(())
         }
@@ -274,25 +235,37 @@ fn open_all<'t>(
     Ok(add(&mut opened.sources, source)?)
 }
 
-/// The folder in which Git works, and the repository that it uses. Reports why it uses none although one is
-/// there.
+/// The folder in which Git works, and the repository that it uses. Tells why it uses none although one is there.
 pub fn located<'t>(
     rt: &HostRuntime,
     disk: &Disk<'t, HostRuntime>,
 ) -> Result<(&'t [u8], Option<FoundRepository<'t>>), HereError<'t>> {
     let location = find(disk, b"")?;
     if let Some(refusal) = location.refusal {
-        tell(rt, format_args!("config_value: {refusal}"))?;
+        tell_error(rt, b"warning: ", refusal);
     }
     let folder = location.folder;
     Ok((folder, location.used()?))
+}
+
+/// Whether one of the texts that are opened includes files that are followed.
+fn may_include(opened: &Opened<'_>, request: &Request<'_>) -> bool {
+    if !request.follows {
+        return false;
+    }
+    for source in &opened.sources {
+        if has_includes(source.text) {
+            return true;
+        }
+    }
+    false
 }
 
 /// The texts that Git reads here, or the one of a scope.
 fn open_here<'t>(
     rt: &'t HostRuntime,
     texts: &'t Bump,
-    request: &Request<'_, '_>,
+    request: &Request<'_>,
     scope: Option<Scope>,
     commands: &[u8],
 ) -> Result<Opened<'t>, HereError<'t>> {
@@ -305,47 +278,30 @@ fn open_here<'t>(
         Some(scope) => open_scope(rt, request, &mut opened, &files, scope)?,
         None => open_all(&mut opened, &files, commands)?,
     }
-    let follows = request.followed != Followed::Nothing;
-    if follows
-        && opened
-            .sources
-            .iter()
-            .any(|source| has_includes(source.text))
-    {
-        seek(&mut opened)?;
+    if may_include(&opened, request) {
+        seek_urls(&opened.disk, &mut opened.surroundings, &opened.sources)?;
     }
     Ok(opened)
 }
 
-/// Finds the URLs of remotes if conditions ask about them.
-fn seek<'t>(opened: &mut Opened<'t>) -> Result<(), HereError<'t>> {
-    seek_urls(&opened.disk, &mut opened.surroundings, &opened.sources)
-}
-
-/// The texts of a request. Reports files that cannot be read, and settings of the command line that have no
-/// value.
+/// The texts of a request, after which these settings of the command line come. Tells which files cannot be read.
 pub fn open_texts<'t>(
     rt: &'t HostRuntime,
     texts: &'t Bump,
-    request: &Request<'_, '_>,
+    request: &Request<'_>,
+    commands: &[u8],
 ) -> Result<Opened<'t>, HereError<'t>> {
-    let Some(commands) = command_text(rt, request.commands)? else {
-        let mut opened = closed(rt, Disk::new(rt, texts), request)?;
-        opened.ending = Ending::Refused;
-        return Ok(opened);
-    };
     match request.texts {
-        Texts::Named(files) => open_named(rt, texts, request, files),
-        Texts::OfScope(scope) => open_here(rt, texts, request, Some(scope), &commands),
-        Texts::Here if request.style == Style::Git => match named_by_variable(rt)? {
-            Some(file) => open_named(rt, texts, request, &[file.as_str()]),
-            None => open_here(rt, texts, request, None, &commands),
+        Texts::Named(file) => Ok(open_named(rt, texts, request, file)?),
+        Texts::OfScope(scope) => open_here(rt, texts, request, Some(scope), commands),
+        Texts::Here => match named_by_variable(rt)? {
+            Some(file) => Ok(open_named(rt, texts, request, &file)?),
+            None => open_here(rt, texts, request, None, commands),
         },
-        Texts::Here => open_here(rt, texts, request, None, &commands),
     }
 }
 
-/// The file that GIT_CONFIG names. Only the words look for it, as `git config` alone does.
+/// The file that GIT_CONFIG names, for which `git config` alone looks.
 pub fn named_by_variable(rt: &HostRuntime) -> Result<Option<String>, HostError> {
     match variable(rt, "GIT_CONFIG")? {
         Some(name) => match String::from_utf8(name) {

@@ -1,6 +1,7 @@
 //! The entries that are asked for: of a key, or of a pattern of keys, and with a value that fits.
 
-use crate::request::{Request, Subject};
+use crate::output::{Ending, tell};
+use crate::request::{Chosen, Subject};
 use config_file::{Entry, Key, KeyError};
 use regex::bytes::{Matcher, Regex};
 use regex::{Error, RegexBuilder};
@@ -16,25 +17,66 @@ pub struct Patterns {
 }
 
 /// Why it cannot be said which entries are asked for.
-#[derive(Clone, Copy, Debug, PartialEq, Eq)]
+#[derive(Clone, Copy, Debug)]
 pub enum Unclear {
     /// The text is no key.
     Key(KeyError),
-    /// The text is no pattern.
-    Pattern,
+    /// The text is no pattern of keys.
+    Keys,
+    /// The text is no pattern of values.
+    Values,
     /// Memory is refused.
     Memory,
 }
 
-/// The pattern of this text, in which a point stands for a line end too.
-fn pattern_of(alloc: Global, text: &str) -> Result<Regex, Unclear> {
+/// Tells why a text is no key.
+pub fn tell_key(rt: &HostRuntime, key: &str, error: KeyError) {
+    let why = match error {
+        KeyError::NoName => "key does not contain variable name",
+        error => error.text(),
+    };
+    tell(rt, &[b"error: ", why.as_bytes(), b": ", key.as_bytes()]);
+}
+
+impl Unclear {
+    /// Tells it. Returns how the run ends.
+    pub fn tell(self, rt: &HostRuntime, chosen: &Chosen<'_>) -> Ending {
+        let key = match chosen.subject {
+            Subject::Key(key) | Subject::Pattern(key) => key,
+            _ => "",
+        };
+        let value = chosen.value.unwrap_or("");
+        match self {
+            Unclear::Key(error) => {
+                tell_key(rt, key, error);
+                Ending::Absent
+            }
+            Unclear::Keys => {
+                tell(rt, &[b"error: invalid key pattern: ", key.as_bytes()]);
+                Ending::NoPattern
+            }
+            Unclear::Values => {
+                let pattern = value.strip_prefix("!").unwrap_or(value);
+                tell(rt, &[b"error: invalid pattern: ", pattern.as_bytes()]);
+                Ending::NoPattern
+            }
+            Unclear::Memory => {
+                tell(rt, &[b"fatal: out of memory"]);
+                Ending::Refused
+            }
+        }
+    }
+}
+
+/// The pattern of this text, in which a point stands for a line end too, or this reason why there is none.
+fn pattern_of(alloc: Global, text: &str, unclear: Unclear) -> Result<Regex, Unclear> {
     let built = RegexBuilder::new(text)
         .dot_matches_new_line(true)
         .build_bytes(alloc);
     match built {
         Ok(pattern) => Ok(pattern),
         Err(Error::OutOfMemory) => Err(Unclear::Memory),
-        Err(_) => Err(Unclear::Pattern),
+        Err(_) => Err(unclear),
     }
 }
 
@@ -55,21 +97,25 @@ fn lower_ends(alloc: Global, pattern: &str) -> Result<String, AllocError> {
 }
 
 impl Patterns {
-    /// The patterns of a request, or why one of its texts is none.
-    pub fn new(alloc: Global, request: &Request<'_, '_>) -> Result<Patterns, Unclear> {
-        let key = match request.subject {
+    /// The patterns of what is asked for, or why one of its texts is none.
+    pub fn new(alloc: Global, chosen: &Chosen<'_>) -> Result<Patterns, Unclear> {
+        let key = match chosen.subject {
             Subject::Pattern(pattern) => match lower_ends(alloc, pattern) {
-                Ok(text) => Some(pattern_of(alloc, &text)?),
+                Ok(text) => Some(pattern_of(alloc, &text, Unclear::Keys)?),
                 Err(_) => return Err(Unclear::Memory),
             },
             _ => None,
         };
-        let (is_negated, value) = match request.value {
-            Some(value) if !request.is_fixed => match value.strip_prefix("!") {
-                Some(rest) => (true, Some(pattern_of(alloc, rest)?)),
-                None => (false, Some(pattern_of(alloc, value)?)),
+        let (is_negated, text) = match chosen.value {
+            Some(value) if !chosen.is_fixed => match value.strip_prefix("!") {
+                Some(rest) => (true, Some(rest)),
+                None => (false, Some(value)),
             },
             _ => (false, None),
+        };
+        let value = match text {
+            Some(text) => Some(pattern_of(alloc, text, Unclear::Values)?),
+            None => None,
         };
         Ok(Patterns {
             key,
@@ -79,26 +125,12 @@ impl Patterns {
     }
 }
 
-/// The keys of the entries that are asked for.
-#[derive(Drop)]
-enum Keys<'k> {
-    /// All of them.
-    All,
-    /// This one.
-    One(Key<'k>),
-    /// Those that are listed as this text, byte for byte.
-    Listed(&'k str),
-    /// Those that are listed as this text, and those that say whether the output of diffs, or all output, is
-    /// colored.
-    OfUse(&'k str),
-    /// Those of this section, and with this name if there is one, whatever their subsection is.
-    OfSection(&'k str, Option<&'k str>),
-}
-
 /// Which entries are asked for.
 #[derive(Drop)]
 pub struct Wanted<'k, 'p> {
-    keys: Keys<'k>,
+    subject: Subject<'k>,
+    /// The key, if it is one that is asked about.
+    key: Option<Key<'k>>,
     /// The pattern of the keys, if they have to match one.
     pattern: Option<Matcher<'p>>,
     values: Option<Matcher<'p>>,
@@ -142,63 +174,44 @@ fn search<'p>(alloc: Global, pattern: &'p Option<Regex>) -> Result<Option<Matche
     }
 }
 
-/// Whether a key is listed as this text.
-fn is_text(text: &str, listed: &[u8]) -> bool {
-    text.as_bytes() == listed
-}
-
-/// The wanted keys of a request, without those of a pattern.
-fn keys_of<'k>(request: &Request<'_, 'k>) -> Result<Keys<'k>, Unclear> {
-    match request.subject {
-        Subject::Entries | Subject::Pattern(_) => Ok(Keys::All),
-        Subject::Key(key) => match Key::parse(key.as_bytes()) {
-            Ok(key) => Ok(Keys::One(key)),
-            Err(error) => Err(Unclear::Key(error)),
-        },
+/// Whether a key that is listed as this is asked about.
+fn is_about(subject: Subject<'_>, listed: &[u8]) -> bool {
+    match subject {
         Subject::Url(text, _) => {
             let (section, name) = section_and_name(text);
-            Ok(Keys::OfSection(section, name))
+            is_in_section(listed, section, name)
         }
-        Subject::Color(key) => Ok(Keys::Listed(key)),
-        Subject::UsesColor(key, _) => Ok(Keys::OfUse(key)),
-    }
-}
-
-impl Keys<'_> {
-    /// Whether an entry that is listed under this key is among them.
-    fn has(&self, entry: &Entry<'_>, listed: &[u8]) -> bool {
-        match self {
-            Keys::All => true,
-            Keys::One(key) => key.is_of(entry),
-            Keys::Listed(text) => is_text(text, listed),
-            Keys::OfUse(text) => {
-                is_text(text, listed)
-                    || is_text("diff.color", listed)
-                    || is_text("color.ui", listed)
-            }
-            Keys::OfSection(section, name) => is_in_section(listed, section, *name),
+        Subject::Color(key) => listed == key.as_bytes(),
+        Subject::UsesColor(key, _) => {
+            listed == key.as_bytes()
+                || listed == b"diff.color".as_slice()
+                || listed == b"color.ui".as_slice()
         }
-    }
-
-    /// Whether the listed key of an entry is needed to say whether it is among them.
-    fn needs_listed(&self) -> bool {
-        !matches!(self, Keys::All | Keys::One(_))
+        _ => false,
     }
 }
 
 impl<'k, 'p> Wanted<'k, 'p> {
-    /// Which entries a request with these patterns asks for.
+    /// Which entries are asked for, with the patterns of that.
     pub fn new(
         alloc: Global,
-        request: &Request<'_, 'k>,
+        chosen: &Chosen<'k>,
         patterns: &'p Patterns,
     ) -> Result<Wanted<'k, 'p>, Unclear> {
-        let fixed = match request.value {
-            Some(value) if request.is_fixed => Some(value.as_bytes()),
+        let fixed = match chosen.value {
+            Some(value) if chosen.is_fixed => Some(value.as_bytes()),
+            _ => None,
+        };
+        let key = match chosen.subject {
+            Subject::Key(key) => match Key::parse(key.as_bytes()) {
+                Ok(key) => Some(key),
+                Err(error) => return Err(Unclear::Key(error)),
+            },
             _ => None,
         };
         Ok(Wanted {
-            keys: keys_of(request)?,
+            subject: chosen.subject,
+            key,
             pattern: search(alloc, &patterns.key)?,
             values: search(alloc, &patterns.value)?,
             is_negated: patterns.is_negated,
@@ -210,22 +223,21 @@ impl<'k, 'p> Wanted<'k, 'p> {
     /// Whether an entry has a wanted key.
     #[inline]
     pub fn has_key(&mut self, entry: &Entry<'_>) -> Result<bool, AllocError> {
-        if self.pattern.is_none() && matches!(self.keys, Keys::All) {
-            return Ok(true);
+        match (&self.key, self.subject) {
+            (_, Subject::Entries) => Ok(true),
+            (Some(key), _) => Ok(key.is_of(entry)),
+            _ => self.has_listed_key(entry),
         }
-        self.has_named_key(entry)
     }
 
-    /// Whether an entry has a wanted key, if not all keys are wanted.
-    fn has_named_key(&mut self, entry: &Entry<'_>) -> Result<bool, AllocError> {
+    /// Whether an entry has a key that is asked about as it is listed.
+    fn has_listed_key(&mut self, entry: &Entry<'_>) -> Result<bool, AllocError> {
         self.listed.clear();
-        if self.pattern.is_some() || self.keys.needs_listed() {
-            entry.push_key(&mut self.listed)?;
-        }
+        entry.push_key(&mut self.listed)?;
         if let Some(pattern) = &mut self.pattern {
             return Ok(pattern.is_match(&self.listed));
         }
-        Ok(self.keys.has(entry, &self.listed))
+        Ok(is_about(self.subject, &self.listed))
     }
 
     /// Whether an entry with this value is wanted. That of a key alone is the empty text.

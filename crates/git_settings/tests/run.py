@@ -2,13 +2,15 @@
 """The words of the command line, and files, names and repositories that are unusual: python3 run.py PROGRAM [--git
 COMMAND].
 
-PROGRAM is config_value. Which entries are right is asked of a Git: the installed one, or that of --git. Git keeps names
+PROGRAM is git-settings. Which entries are right is asked of a Git: the installed one, or that of --git. Git keeps names
 as bytes; the program refuses names that are not UTF-8 where it has to open them. What the words answer is in words.tsv,
-and of types a Git 2.55 is asked if the folder NEWER_GITS has it. The last line is 'N passed, M failed'.
+what they change in changes.tsv, and of types a Git 2.55 is asked if the folder NEWER_GITS has it. The last line is
+'N passed, M failed'.
 """
 import argparse
 import os
 import pathlib
+import re
 import resource
 import shlex
 import shutil
@@ -22,7 +24,9 @@ HIT = b"[hit]\n\tk = 1\n"
 # the memory that a program may take for a small file, and the address space that is too small for a large one, in bytes
 SMALL, ADDRESSES, LARGE = 50_000_000, 100_000_000, 200_000_000
 WORDS = pathlib.Path(__file__).with_name("words.tsv")
-ESCAPES = ((r"\n", "\n"), (r"\t", "\t"), (r"\e", "\x1b"), (r"\0", "\0"))
+CHANGES = pathlib.Path(__file__).with_name("changes.tsv")
+NUMBER = re.compile(rb" \(os error \d+\)")
+ESCAPES = ((r"\n", "\n"), (r"\r", "\r"), (r"\t", "\t"), (r"\e", "\x1b"), (r"\0", "\0"), (r"\ufeff", "\ufeff"))
 # the options of words that older Gits have too, as flags of their own
 OLDER = {"-f", "f", "-", "absent", "-z", "--all", "--show-origin", "--show-scope"}
 # texts that have a value of each type, or none, without those that the page of differences names
@@ -35,56 +39,6 @@ TYPED = {
     "color": ("bold red", "red blue", "#ff0000", "208", "256", "no-bold", "reset", "default", "red blue green"),
     "expiry-date": ("never", "false", "all", "now", "100000000", "1700000000", "2147483648", "4102444799"),
 }
-# changes of a file: the arguments, its old text and its new one
-CHANGES = (
-    (["set", "core.bare", "false"], b"[core]\n\tbare\n", b"[core]\n\tbare = false\n"),
-    (["set", "core.bare", "a#"], b"[core]\n\tbare\n", b'[core]\n\tbare = "a#"\n'),
-    (["set", "core.bare", "x"], b"[core]\r\n\tbare\r\n", b"[core]\r\n\tbare = x\r\n"),
-    (["set", "a.l", "2"], b"[a]\n\tk = 1\n# last words", b"[a]\n\tk = 1\n\tl = 2\n# last words"),
-    (["set", "a.l", "2"], b"[a]\n\tk = 1 # last words", b"[a]\n\tk = 1 # last words\n\tl = 2\n"),
-    (["set", "core.bare", "0"], b"[core] bare = 1\n[u] x\n[core] e = vi", b"[core] bare = 0\n[u] x\n[core] e = vi"),
-    (["set", "a.b.k", "2"], b"[a.B]\n\tk = 1\n", b"[a.B]\n\tk = 2\n"),
-    (["set", "a.B.k", "2"], b'[a "b"]\n\tk = 1\n', b'[a "b"]\n\tk = 1\n[a "B"]\n\tk = 2\n'),
-    (["set", "a.name", "C"], b"[a]\nname =A\n", b"[a]\nname =C\n"),
-    (["set", "user.name", "B"], b"[user]\r\n\tname = A\r\n[core]\n", b"[user]\r\n\tname = B\r\n[core]\n"),
-    (["set", "a.k", "v"], b"\xef\xbb\xbf", b"\xef\xbb\xbf[a]\n\tk = v\n"),
-    (["set", "a.k", "v"], b"[a] [b] x = 1\n", b"[a]\n\tk = v\n [b] x = 1\n"),
-    (["set", "a.k", "v"], b"[a] # c\n", b"[a] # c\n\tk = v\n"),
-    (["set", "a.k", "z"], b'[a]\n\tk = "x\\\ny" \t# c\n', b"[a]\n\tk = z \t# c\n"),
-    (["set", "a.k", "v"], b"[a]\nk=\n", b"[a]\nk=v\n"),
-    (["set", "a.k", "v"], b"[a]\nk =#c\n", b"[a]\nk = v #c\n"),
-    (["set", "a.k", "v"], b'[a]\n\tk = "v"\n', b'[a]\n\tk = "v"\n'),
-    (["set", "a.k", "x"], b"[a]\n\tk = v\\", b"[a]\n\tk = x"),
-    (["set", "--append", "a.l", "x"], b"[a]\n\tk = v\\", b"[a]\n\tk = v\\\n\n\tl = x\n"),
-    (["set", "--append", "a.l", "x"], b"[a]\n\tk = v\\\n", b"[a]\n\tk = v\\\n\n\tl = x\n"),
-    (["--add", "b.l", "x"], b"[a]\n\tk = v\\", b"[a]\n\tk = v\\\n\n[b]\n\tl = x\n"),
-    (["set", "--all", "a.k", "3"], b"[a]\n\tk = 1\n[b]\n[a]\n\tk = 2\n", b"[a]\n[b]\n[a]\n\tk = 3\n"),
-    (["unset", "a.k"], b"[a]\n\tk = 1 # c\n\n\n\tl = 2\n", b"[a]\n\n\n\tl = 2\n"),
-    (["unset", "a.k"], b"[a] k = 1\n\tl = 2\n", b"[a]\n\tl = 2\n"),
-    (["unset", "a.k"], b"[a] k = 1 ; c\r\n\tl = 2\n", b"[a]\r\n\tl = 2\n"),
-    (["unset", "a.k"], b"[a]\n\tk = 1\n[b]\n", b"[b]\n"),
-    (["unset", "a.k"], b"[a]\n\t# why\n\tk = 1\n", b"[a]\n\t# why\n"),
-    (["--unset-all", "a.k"], b"[a]\n\tk = 1\n\tK\n[a]\n\tk = 2\n\tl\n", b"[a]\n\tl\n"),
-    (["set", "--comment=why", "a.k", "1"], b"[a]\r\n\tk = 1 # old\r\n", b"[a]\r\n\tk = 1 # why\r\n"),
-    (["set", "--comment=why", "a.k", "2"], b"[a]\r\n\tk = 1\r\n", b"[a]\r\n\tk = 2 # why\r\n"),
-    (["set", "--comment= \t# b", "a.k", "9"], b"[a]\n\tk = 1\n", b"[a]\n\tk = 9 \t# b\n"),
-    (["set", "--comment=#b", "a.k", "9"], b"[a]\n\tk = 1;c\n", b"[a]\n\tk = 9 #b\n"),
-    (["set", "--comment=b", "a.k", "v"], b"[a]\n\tk = v\\", b"[a]\n\tk = v\\\n # b"),
-    (["set", "--append", "--comment=b", "a.k", "7"], b"[a]\n\tk = 7\n[b]\n", b"[a]\n\tk = 7\n\tk = 7 # b\n[b]\n"),
-    (["set", "--value=[0-9]", "--all", "a.k", "9"], b"[a]\n\tk = 1 # c\n\tk = x\n\tk = 3\n", b"[a]\n\tk = x\n\tk = 9\n"),
-    (["set", "--value=zzz", "a.k", "9"], b"[a]\n\tk = 1\n\tk = x\n", b"[a]\n\tk = 1\n\tk = x\n\tk = 9\n"),
-    (["set", "--value=x", "--fixed-value", "--comment=c", "a.k", "9"], b"[a]\n\tk = 1\n\tk = x\n\tk = 9\n",
-     b"[a]\n\tk = 1\n\tk = 9 # c\n\tk = 9\n"),
-    (["unset", "--value=1", "a.k"], b"[a] k = 1\n\tk = x\n", b"[a]\n\tk = x\n"),
-    (["--unset", "a.k", "!x"], b"[a]\n\tk\n\tk = x\n", b"[a]\n\tk = x\n"),
-    (["--", "-a.k", "-1"], b"[-a]\n\tk = 1\n", b"[-a]\n\tk = -1\n"),
-    (["--replace-all", "a.k", "2", "^1"], b"[a]\n\tk = 1\n\tk = x\n", b"[a]\n\tk = 2\n\tk = x\n"),
-    (["rename-section", "a", "b"], b"# c\0d\n[a]\n\tk = 1\n", b"# c\0d\n[b]\n\tk = 1\n"),
-    (["rename-section", "a", "b"], b"[a]\n\tk = x\\\n[a]\n\tl = 1\n", b"[b]\n\tk = x\\\n[a]\n\tl = 1\n"),
-    (["rename-section", "a", "b"], b"\xef\xbb\xbf[a]\n\tk = 1\n", b"\xef\xbb\xbf[b]\n\tk = 1\n"),
-    (["rename-section", "a", "b"], b"[a]\n[c]\n\tk\n[a]\n", b"[b]\n[c]\n\tk\n[b]\n"),
-    (["remove-section", "a"], b"[a]\n\tk = 1\n\n# about b\n[b]\n\tk = 2\n", b"# about b\n[b]\n\tk = 2\n"),
-)
 # ages, which Git reads so too, and dates that only Git reads
 AGES = ("2.weeks.ago", "90 days", "1.day", "36.hours", "30 minutes ago", "1000.seconds.ago", "1.week.ago")
 OTHER_DATES = ("yesterday", "1.month.ago", "2020-01-01", "99999999", "4102444800", "0.days", "01.day", "3551.weeks")
@@ -126,8 +80,8 @@ class Tests:
 
     def entries(self, file, folder=b"", more=None, words=("--includes",)):
         """The entries that the program lists."""
-        run = self.run(self.program, "--null", "--file", file, *words, folder=folder, more=more)
-        return run.stdout.split(b"\0")[1::2]
+        run = self.run(self.program, "list", "--null", "--file", file, *words, folder=folder, more=more)
+        return run.stdout.split(b"\0")[:-1]
 
     def by_git(self, file, folder=b"", more=None, words=("--includes",)):
         run = self.run(self.git, "config", "--null", "--file", file, *words, "--list", folder=folder, more=more)
@@ -148,21 +102,22 @@ class Tests:
 
 def endless(tests):
     """Files without an end, and what is no file. Git stops on the same line of a device."""
-    told = b"/dev/zero:1: a NUL byte outside a comment"
-    tests.refuse("a device", ["--file", "/dev/zero"], told)
+    told = b"fatal: bad config line 1 in file /dev/zero: a NUL byte outside a comment"
+    tests.refuse("a device", ["list", "--file", "/dev/zero"], told)
     file = tests.write(b"device", b"[a]\n\tb = 1\n[include]\n\tpath = /dev/zero\n")
-    tests.refuse("an included device", ["--file", file, "--includes"], told)
+    tests.refuse("an included device", ["get", "--file", file, "--includes", "a.b"], told)
     git = tests.run(tests.git, "config", "--file", file, "--includes", "--list").stderr
     tests.expect("a device, in Git", b"fatal: bad config line 1 in file /dev/zero\n", git)
     tests.compare("no device", tests.write(b"null", b"[include]\n\tpath = /dev/null\n[a]\n\tb\n"))
     os.mkfifo(tests.path(b"pipe"))
     for name in (b"pipe", b"."):
         tests.write(b"includer", b"[include]\n\tpath = " + name)
-        told = b"includer:2: cannot read " + name + b": it is no regular file"
-        tests.refuse(f"an included {name}", ["--file", "includer", "--includes"], told)
+        told = b"fatal: includer:2: cannot read " + name + b": it is no regular file"
+        tests.refuse(f"an included {name}", ["list", "--file", "includer", "--includes"], told)
     with open(tests.path(b"long"), "wb") as file:
         file.truncate((1 << 30) + 1)
-    tests.refuse("a long file", ["--file", "long"], b"long: it is longer than 1 GiB")
+    tests.refuse("a long file", ["list", "--file", "long"],
+                 b"fatal: unable to read config file 'long': it is longer than 1 GiB")
     shell = ["sh", "-c", 'printf "#\\0\\n[a]b=2" | "$0" --file /dev/stdin a.b', tests.program]
     tests.expect("a pipe with a NUL in a comment", b"2\n", tests.run(*shell).stdout)
 
@@ -171,13 +126,13 @@ def names(tests):
     """Names that are not UTF-8 are refused where the program has to open them."""
     plain = tests.write(b"plain", b"[a]\n\tb = 1\n")
     shown = "n\ufffd".encode()
-    told = b"config_value: " + shown + b": the argument is not UTF-8"
+    told = b"fatal: " + shown + b": the argument is not UTF-8"
     tests.write(NOT_UTF8, b"[a]\n\tb = 1\n")
-    tests.refuse("a file", ["--file", NOT_UTF8], told, status=2)
-    told = "config_value: a.\ufffd: the argument is not UTF-8".encode()
-    tests.refuse("a key", ["--file", plain, b"a.\xff"], told, status=2)
+    tests.refuse("a file", ["list", "--file", NOT_UTF8], told)
+    told = "fatal: a.\ufffd: the argument is not UTF-8".encode()
+    tests.refuse("a key", ["--file", plain, b"a.\xff"], told)
     file = tests.write(b"of name", b"[a]\n\tb = 1\n[include]\n\tpath = \"" + NOT_UTF8 + b"\"\n")
-    tests.refuse("an include", ["--file", file, "--includes"], b"of name:4: cannot read " + shown
+    tests.refuse("an include", ["list", "--file", file, "--includes"], b"fatal: of name:4: cannot read " + shown
                  + b": its name is not UTF-8")
     bad = {b"HOME": tests.path(NOT_UTF8), b"GIT_DIR": NO_FOLDER, b"GIT_COMMON_DIR": NO_FOLDER}
     tests.compare("variables that are not asked for", plain, more=bad)
@@ -188,10 +143,10 @@ def names(tests):
     tests.git_dir(b"repository")
     for name in (b"GIT_DIR", b"GIT_COMMON_DIR"):
         more = {b"GIT_DIR": b"repository", name: NO_FOLDER}
-        tests.refuse(name, ["--file", file, "--includes"], b"config_value: " + name + b" is not UTF-8", 2, more)
+        tests.refuse(name, ["list", "--file", file, "--includes"], b"fatal: " + name + b" is not UTF-8", more=more)
     file = tests.write(b"home", b"[include]\n\tpath = ~/hit\n")
-    told = b"home:2: cannot read " + os.path.join(tests.folder, shown, b"hit") + b": its name is not UTF-8"
-    tests.refuse("HOME", ["--file", file, "--includes"], told, more=bad)
+    told = b"fatal: home:2: cannot read " + os.path.join(tests.folder, shown, b"hit") + b": its name is not UTF-8"
+    tests.refuse("HOME", ["list", "--file", file, "--includes"], told, more=bad)
 
 
 def folders(tests):
@@ -214,13 +169,12 @@ def shown(tests):
     name = b"a\x1b[31m\x07b"
     git = tests.run(tests.git, "config", "--file", name, "--list").stderr
     tests.expect("Git's message", True, b"a?[31m?b" in git and b"\x1b" not in git)
-    tests.refuse("a name", ["--file", name], b"a?[31m?b: No such file or directory (os error 2)")
-    tests.refuse("a key", ["--file", "plain", b"a.b\x1b"], b"a.b?: invalid key", 1)
-    tests.refuse("a missing key", ["--file", "plain", b"a.\x1b.b"], b"a.?.b: no entry has this key", 1)
-    for key, told in ((b"key", b"key does not contain a section"), (b"a.", b"key does not contain a variable name"),
-                      (b"a.b\n", b"invalid key")):
-        tests.refuse(key, ["--file", "plain", key], key + b": " + told, 1)
-        tests.expect(f"{key} in Git", 1, tests.run(tests.git, "config", key).returncode)
+    tests.refuse("a name", ["list", "--file", name], git.strip() + b" (os error 2)")
+    for words in (["--file", "plain", b"a.b\x1b"], ["--file", "plain", "--remove-section", b"a.\x1b"],
+                  ["--file", "plain", b"key"], ["--file", "plain", b"a."], ["--file", "plain", b"a.b\n"]):
+        git = tests.run(tests.git, "config", *words)
+        tests.expect(f"{words} in Git", True, git.returncode in (1, 128) and b"\x1b" not in git.stderr)
+        tests.refuse(words, words, git.stderr[:-1], git.returncode)
 
 
 def statuses(tests):
@@ -230,11 +184,12 @@ def statuses(tests):
     for file, key, status, more in ((file, b"a.yes", 0, True), (file, b"a.no", 1, True), (file, b"a.wrong", 128, True),
                                     (file, b"a.alone", 0, False), (file, b"a.empty", 0, False), (file, b"a", 1, False),
                                     (bad, b"a.yes", 128, False)):
-        ours = tests.run(tests.program, "--file", file, *["--type=boolean"] * more, key)
-        theirs = tests.run(tests.git, "config", "--file", file, *["--type=bool"] * more, "--get", key)
-        tests.expect(f"{key} of {file}", (status, theirs.returncode, theirs.stdout),
-                     (ours.returncode, status, ours.stdout))
-    tests.refuse("a missing file", ["--file", "nowhere", "a.b"], b"nowhere: No such file or directory (os error 2)")
+        words = ["--file", file, *["--type=bool"] * more, "--get", key]
+        ours, theirs = tests.run(tests.program, *words), tests.run(tests.git, "config", *words)
+        tests.expect(f"{key} of {file}", (status, theirs.returncode, theirs.stdout, theirs.stderr),
+                     (ours.returncode, status, ours.stdout, ours.stderr))
+    git = tests.run(tests.git, "config", "--list", "--file", "nowhere").stderr
+    tests.refuse("a missing file", ["list", "--file", "nowhere"], git.strip() + b" (os error 2)")
 
 
 def repositories(tests):
@@ -280,18 +235,21 @@ def here(tests):
     counted = {b"GIT_CONFIG_COUNT": b"1", b"GIT_CONFIG_KEY_0": b"a.size", b"GIT_CONFIG_VALUE_0": b"1k"}
     for more in ({}, counted):
         for key, words in ((b"a.size", ["--type=int"]), (b"a.wrong", ["--type=int"]), (b"a.alone", []), (b"a.no", [])):
-            ours = tests.run(tests.program, *(["--type=amount"] if words else []), key, folder=b"here/deep", more=more)
+            ours = tests.run(tests.program, *words, key, folder=b"here/deep", more=more)
             git = tests.run(tests.git, "config", *words, "--get", key, folder=b"here/deep", more=more)
             tests.expect(f"{key} here", (git.returncode, git.stdout), (ours.returncode, ours.stdout))
-    listed = tests.run(tests.program, "--list", "--show-scope", folder=b"here/deep", more=counted).stdout
-    tests.expect("a list", b"local\t.git/config:2: core.repositoryformatversion=0\nlocal\t.git/config:4: a.size=0x10\n"
-                 b"local\t.git/config:5: a.wrong=x\nlocal\t.git/config:6: a.alone\n"
-                 b"command\tcommand line:1: a.size=1k\n", listed)
+    ours, git = (tests.run(*words, "--list", "--show-scope", "--show-origin", folder=b"here/deep", more=counted)
+                 for words in ([tests.program], [tests.git, "config"]))
+    tests.expect("a list", b"local\tfile:.git/config\tcore.repositoryformatversion=0\nlocal\tfile:.git/config\t"
+                 b"a.size=0x10\nlocal\tfile:.git/config\ta.wrong=x\nlocal\tfile:.git/config\ta.alone\n"
+                 b"command\tcommand line:\ta.size=1k\n", ours.stdout)
+    tests.expect("a list in Git", git.stdout, ours.stdout)
     missing = {b"GIT_CONFIG_COUNT": b"1"}
-    tests.refuse("a missing key", ["--list"], b"missing config key GIT_CONFIG_KEY_0", more=missing, folder=b"here")
+    git = tests.run(tests.git, "config", "--list", folder=b"here", more=missing)
+    tests.refuse("a missing key", ["--list"], git.stderr[:-1], more=missing, folder=b"here")
     tests.git_dir(b"newer/.git")
     tests.write(b"newer/.git/config", b"[core]\n\trepositoryformatversion = 2\n")
-    told = b"config_value: Expected git repo version <= 1, found 2"
+    told = b"warning: Expected git repo version <= 1, found 2"
     tests.refuse("a newer repository", ["--list"], told, 0, folder=b"newer")
 
 
@@ -302,21 +260,22 @@ def memory(tests):
     if tests.is_checked:
         print("skipped: memory, of which a checked build takes more")
         return
-    for words in ([], [section + b".k"]):
+    for words in (["--list"], [section + b".k"]):
         command = [tests.program, "--file", file, *words]
         process = subprocess.Popen(command, cwd=tests.folder, stdout=subprocess.DEVNULL)
         _, status, used = os.wait4(process.pid, 0)
         process.returncode = os.waitstatus_to_exitcode(status)
-        tests.expect(f"{len(words)} keys of a long section", (0, True), (process.returncode, used.ru_maxrss * 1024 < SMALL))
+        tests.expect(f"keys of a long section, {len(words[0])}", (0, True),
+                     (process.returncode, used.ru_maxrss * 1024 < SMALL))
     with open(tests.path(b"large"), "wb") as large:
         large.write(b"#" * LARGE)
-    run = tests.run(tests.program, "--file", "large",
+    run = tests.run(tests.program, "list", "--file", "large",
                     preexec_fn=lambda: resource.setrlimit(resource.RLIMIT_AS, (ADDRESSES, ADDRESSES)))
-    tests.expect("no memory for a file", (2, b"config_value: out of memory\n"), (run.returncode, run.stderr))
+    tests.expect("no memory for a file", (128, b"fatal: out of memory\n"), (run.returncode, run.stderr))
 
 
 def plain(text):
-    """A text without the escapes of words.tsv."""
+    """A text without the escapes of words.tsv and changes.tsv."""
     for escape, byte in ESCAPES:
         text = text.replace(escape, byte)
     return text
@@ -331,15 +290,22 @@ def words(tests):
             texts[name] = plain(text).encode()
         if line.startswith("#"):
             continue
-        arguments, name, status, output = line.split("\t")
+        arguments, name, status, output, *message = line.split("\t")
         asked = [plain(word) for word in shlex.split(arguments)]
         tests.write(b"w/f", texts[name])
         wanted = (int(status), plain(output).encode())
         home = {b"HOME": b"/nonexistent", b"TERM": b"xterm"}
         run = tests.run(tests.program, *asked, folder=b"w", more=home)
         tests.expect(f"{arguments} of {name}", wanted, (run.returncode, run.stdout))
-        word, *options = asked
-        if word in ("get", "list") and {option for option in options if "." not in option or "=" in option} <= OLDER:
+        for text in message:
+            # after such a message Git says how it is used
+            usage = text.startswith(("error: unknown ", "error: ambiguous "))
+            said = NUMBER.sub(b"", run.stderr)
+            said, more = (said[:len(plain(text))], b"\nUsage: " in said) if usage else (said, usage)
+            tests.expect(f"the message of {arguments} of {name}", (plain(text).encode(), usage), (said, more))
+        word, *options = asked or [""]
+        flags = {option for option in options if "." not in option or "=" in option}
+        if word in ("get", "list") and flags <= OLDER and not (word == "list" and "--all" in options):
             flag = "--list" if word == "list" else "--get-all" if "--all" in options else "--get"
             options = [option for option in options if option != "--all"]
             run = tests.run(tests.git, "config", flag, *options, folder=b"w", more=home)
@@ -405,31 +371,35 @@ def changes(tests):
         tests.expect(f"{words}, afterwards", after, file.read_bytes() if file.exists() else None)
         tests.expect(f"{words}, its lock", name == b"held", os.path.exists(tests.path(name + b".lock")))
 
-    for (word, *words), old, new in CHANGES:
-        tests.write(b"edit", old)
-        change(["-f", "edit", word, *words] if word == "--" else [word, "-f", "edit", *words], 0, new)
+    for line in CHANGES.read_text("utf-8").splitlines():
+        if not line.startswith("#"):
+            arguments, old, new = line.split("\t")
+            tests.write(b"edit", plain(old).encode())
+            change([plain(word) for word in shlex.split(arguments)], 0, plain(new).encode())
     change(["set", "-f", "new", "a.k", "v"], 0, b"[a]\n\tk = v\n", name=b"new")
     change(["unset", "-f", "absent", "a.k"], 5, None, name=b"absent")
     for words in (["set", "-f", "-", "a.k", "v"], ["unset", "-f", "-", "a.k"], ["--file", "-", "a.k", "v"]):
-        change(words, 128, None, b"config_value: standard input cannot be changed\n", name=b"-")
-    change(["remove-section", "-f", "absent", "a"], 128, None, b"config_value: no such section: a\n", name=b"absent")
+        change(words, 128, None, b"fatal: writing to stdin is not supported\n", name=b"-")
+    change(["remove-section", "-f", "absent", "a"], 128, None, b"fatal: no such section: a\n", name=b"absent")
     tests.write(b"edit", b"[a]\n\tk = v\n")
-    for words, status, told in ((["rename-section", "-f", "edit", "z", "y"], 128, b"no such section: z"),
-                                (["rename-section", "-f", "edit", "a", "y_z"], 255, b"invalid section name"),
-                                (["remove-section", "-f", "edit", "z"], 128, b"no such section: z")):
-        change(words, status, b"[a]\n\tk = v\n", b"config_value: " + told + b"\n")
-    for words, status, told in ((["set", "--value=(", "-f", "edit", "a.k", "w"], 6, b"invalid pattern: ("),
+    for words, status, told in ((["rename-section", "-f", "edit", "z", "y"], 128, b"fatal: no such section: z"),
+                                (["rename-section", "-f", "edit", "a", "y_z"], 255, b"error: invalid section name: y_z"),
+                                (["remove-section", "-f", "edit", "z"], 128, b"fatal: no such section: z")):
+        change(words, status, b"[a]\n\tk = v\n", told + b"\n")
+    for words, status, told in ((["set", "--value=(", "-f", "edit", "a.k", "w"], 6, b"error: invalid pattern: ("),
                                 (["set", "--append", "--value=x", "-f", "edit", "a.k", "w"], 128,
-                                 b"--append cannot be used with --value=<pattern>"),
+                                 b"fatal: --append cannot be used with --value=<pattern>"),
                                 (["set", "--fixed-value", "-f", "edit", "a.k", "w"], 128,
-                                 b"--fixed-value only applies with --value=<pattern>"),
-                                (["set", "--comment=a\nb", "-f", "edit", "a.k", "w"], 128, b"no multi-line comment allowed"),
-                                (["unset", "--comment=b", "-f", "edit", "a.k"], 129, b"--comment is only applicable to set")):
-        change(words, status, b"[a]\n\tk = v\n", b"config_value: " + told + b"\n")
+                                 b"fatal: --fixed-value only applies with --value=<pattern>"),
+                                (["set", "--comment=a\nb", "-f", "edit", "a.k", "w"], 128,
+                                 b"fatal: no multi-line comment allowed: 'a\nb'"),
+                                (["--unset", "--comment=b", "-f", "edit", "a.k"], 129,
+                                 b"error: --comment is only applicable to add/set/replace operations")):
+        change(words, status, b"[a]\n\tk = v\n", told + b"\n")
     change(["unset", "--value=zz", "-f", "edit", "a.k"], 5, b"[a]\n\tk = v\n")
     tests.write(b"held", b"[a]\n\tk = v\n")
     tests.write(b"held.lock", b"")
-    told = b"config_value: held: held.lock: the lock is held\n"
+    told = b"error: could not lock config file held: held.lock: the lock is held\n"
     change(["set", "-f", "held", "a.k", "w"], 255, b"[a]\n\tk = v\n", told, name=b"held")
     tests.write(b"kept/real", b"[a]\n\tk = v # c\n")
     os.chmod(tests.path(b"kept/real"), 0o640)
@@ -441,15 +411,17 @@ def changes(tests):
     change(["set", "-f", "link", "a.k", "w"], 0, b"[a]\n\tk = w # c\n", name=b"kept/real")
     tests.expect("nothing is written", before, os.stat(tests.path(b"kept/real")).st_ino)
     change(["set", "-f", "d/none", "a.k", "w"], 255, None, name=b"d/none",
-           told=b"config_value: d/none: No such file or directory (os error 2)\n")
+           told=b"error: could not lock config file d/none: No such file or directory (os error 2)\n")
     tests.write(b"edit", b"[a]\n\tk = v\n[b")
-    change(["set", "-f", "edit", "a.k", "w"], 3, b"[a]\n\tk = v\n[b", b"edit:4: bad config line\n")
+    change(["set", "-f", "edit", "a.k", "w"], 3, b"[a]\n\tk = v\n[b",
+           b"error: bad config line 4 in file edit\nerror: invalid config file edit\n")
     tests.write(b"edit", b"[a]\n\tk = 1\n\tk = 2\n")
     change(["set", "-f", "edit", "a.k", "w"], 5, b"[a]\n\tk = 1\n\tk = 2\n",
-           b"config_value: several entries have the key: choose one by --value, or all by --all\n")
+           b"warning: a.k has multiple values\nerror: cannot overwrite multiple values with a single value\n"
+           b"       Use --value=<pattern>, --append or --all to change a.k.\n")
     change(["set", "-f", "edit", "--type=int", "--append", "a.n", "10k"], 0, b"[a]\n\tk = 1\n\tk = 2\n\tn = 10240\n")
     change(["set", "-f", "edit", "--type=int", "a.n", "10kk"], 128, b"[a]\n\tk = 1\n\tk = 2\n\tn = 10240\n",
-           b"config_value: 10kk: it is none of its type\n")
+           b"fatal: bad numeric config value '10kk' for 'a.n': invalid unit\n")
     tests.git_dir(b"changed/.git")
     config = b"changed/.git/config"
     tests.write(config, b"[core]\n\trepositoryformatversion = 0\n")

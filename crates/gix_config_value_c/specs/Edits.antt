@@ -15,6 +15,7 @@ edit_status (error.Memory refused) = statuses.NoMemory
 edit_status (error.Key reason) = key_status reason
 edit_status error.Section = statuses.BadSection
 edit_status error.Value = statuses.BadValue
+edit_status error.Comment = statuses.BadValue
 edit_status (error.File reason) = fault_status reason.fault
 edit_status error.Several = statuses.Several
 edit_status error.Absent = statuses.Absent
@@ -27,6 +28,7 @@ told_line error.Section line = line
 told_line error.Value line = line
 told_line (error.File reason) line = reason.line
 told_line error.Several line = line
+told_line error.Comment line = line
 told_line error.Absent line = line
 
 -- the status and the line say why a text is not edited, for which these are the reasons

@@ -25,7 +25,7 @@ fn edit_status(error: &EditError) -> u32
         EditError::Memory(_) => Status::NoMemory as u32,
         EditError::Key(error) => key_status(*error),
         EditError::Section => Status::BadSection as u32,
-        EditError::Value => Status::BadValue as u32,
+        EditError::Value | EditError::Comment => Status::BadValue as u32,
         EditError::File(error) => fault_status(error.fault),
         EditError::Several => Status::Several as u32,
         EditError::Absent => Status::Absent as u32,

@@ -460,7 +460,7 @@ fn finds(rt: HostRuntime) -> Result<(), Fail> {
 
 #[test]
 fn control_characters_are_hidden(rt: HostRuntime) -> Result<(), Fail> {
-    let line = shown::line_of(rt.alloc(), "a\x1b[31m\tb\x7f\u{e9}")?;
+    let line = shown::line_of(rt.alloc(), "a\x1b[31m\tb\x7f\u{e9}".as_bytes())?;
     assert!(&rt; line.as_slice() == "a?[31m\tb?\u{e9}\n".as_bytes());
     Ok(())
 }

@@ -1,0 +1,94 @@
+//! Settings of the command line, which stand before everything else: those of `-c` and `--config-env`.
+
+use crate::output::{tell, tell_here};
+use config_file::{CommandError, push_setting};
+use config_host::environment::variable;
+use config_host::{HereError, HostError};
+
+/// A setting of the command line.
+#[derive(Clone, Copy)]
+enum Override<'a> {
+    /// A key, or a key, `=` and a value, after `-c`.
+    Given(&'a str),
+    /// A key, `=` and the name of the variable that has the value, after `--config-env`.
+    OfVariable(&'a str),
+}
+
+/// The setting with which words begin, if it is one, and the words after it.
+fn front<'w, 'a>(words: &'w [&'a str]) -> Option<(Override<'a>, &'w [&'a str])> {
+    match words {
+        ["-c", given, after @ ..] => Some((Override::Given(given), after)),
+        ["--config-env", given, after @ ..] => Some((Override::OfVariable(given), after)),
+        [option, after @ ..] => match option.strip_prefix("--config-env=") {
+            Some(given) => Some((Override::OfVariable(given), after)),
+            None => None,
+        },
+        [] => None,
+    }
+}
+
+/// Appends a setting to a text. Tells that its key is none, and then returns false.
+fn push(
+    rt: &HostRuntime,
+    text: &mut Vec<u8>,
+    key: &str,
+    value: Option<&[u8]>,
+) -> Result<bool, HostError> {
+    match push_setting(rt.alloc(), text, key.as_bytes(), value) {
+        Ok(()) => Ok(true),
+        Err(CommandError::Memory(error)) => Err(HostError::from(error)),
+        Err(error) => {
+            tell_here(rt, HereError::Command(error));
+            Ok(false)
+        }
+    }
+}
+
+/// Appends a setting of `--config-env` to a text. Tells that it is none, and then returns false.
+fn push_of_variable(rt: &HostRuntime, text: &mut Vec<u8>, given: &str) -> Result<bool, HostError> {
+    let Some((key, name)) = given.rsplit_once('=') else {
+        tell(rt, &[b"fatal: invalid config format: ", given.as_bytes()]);
+        return Ok(false);
+    };
+    if let Some(value) = variable(rt, name)? {
+        return push(rt, text, key, Some(&value));
+    }
+    let (key, name) = (key.as_bytes(), name.as_bytes());
+    let (missing, of_key) = (
+        b"fatal: missing environment variable",
+        b" for configuration '",
+    );
+    if name.is_empty() {
+        tell(rt, &[missing, b" name", of_key, key, b"'"]);
+    } else {
+        tell(rt, &[missing, b" '", name, b"'", of_key, key, b"'"]);
+    }
+    Ok(false)
+}
+
+/// Appends the settings with which words begin to a text. Returns the words after them, or `None` if one is no
+/// setting, which is told.
+pub fn take<'w, 'a>(
+    rt: &HostRuntime,
+    words: &'w [&'a str],
+    text: &mut Vec<u8>,
+) -> Result<Option<&'w [&'a str]>, HostError> {
+    let mut left = words;
+    for _ in 0..words.len() {
+        let Some((setting, after)) = front(left) else {
+            break;
+        };
+        let is_taken = match setting {
+            Override::OfVariable(given) => push_of_variable(rt, text, given)?,
+            Override::Given(given) => match given.split_once('=') {
+                Some((key, value)) => push(rt, text, key, Some(value.as_bytes()))?,
+                None => push(rt, text, given, None)?,
+            },
+        };
+        if !is_taken {
+            return Ok(None);
+        }
+        left = after;
+    }
+    Ok(Some(left))
+}
