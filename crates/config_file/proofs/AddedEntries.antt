@@ -309,6 +309,10 @@ writable_line name text key None all =
     (91 ∷ spelled_section name text, (header_spelled name text section, refl), refl)
 writable_line name text key (Some value) all =
     let section : is_section name text ≡ true = and_left _ (is_key key) (and_left _ (is_spellable value) all) in
-    let spellable : is_spellable value ≡ true = and_right (is_section name text && is_key key) _ all in
-    let header = (header_spelled name text section, refl) in
-    (91 ∷ spelled_section name text, git_spelled value, header, (git_spelling value spellable, refl), refl)
+    let spellable : is_spellable value ≡ true = and_right (is_section name text && is_key key) _ all in (
+      91 ∷ spelled_section name text,
+      git_spelled value,
+      (header_spelled name text section, refl),
+      (git_spelling value spellable, refl),
+      refl,
+    )

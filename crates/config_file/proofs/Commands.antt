@@ -27,7 +27,7 @@ use Rattle.config_file.specs.Reading.Commands.{Lacks, GoesOn, CutsSign, minus, a
 use Rattle.config_file.proofs.OneRun.{run_only}
 use Rattle.config_file.proofs.Runs.{run_split}
 use Rattle.config_file.proofs.SpelledHeaders.{header_spelled}
-use Rattle.config_file.proofs.Spellings.{value_spelled}
+use Rattle.config_file.proofs.Spellings.{git_spelling}
 
 -- a text begins with at most one quoted text
 pub quotes_only : {text q r p s : List ℕ} → Quotes text q r → Quotes text p s → (q ≡ p) × (r ≡ s)
@@ -189,7 +189,7 @@ section_writable section (Some subsection) name is nul =
 
 never_lacks : (value : Option (List ℕ)) → is_spellable_or_absent value ≡ true → ¬ (LacksSpelling value)
 never_lacks None all lacks = lacks
-never_lacks (Some value) all lacks = lacks _ (value_spelled value all).0
+never_lacks (Some value) all lacks = lacks _ (git_spelling value all).0
 
 never_without_header : (section : List ℕ) (subsection : Option (List ℕ)) → is_section section subsection ≡ true
     → ¬ (HasNoHeader section subsection)
