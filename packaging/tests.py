@@ -132,7 +132,7 @@ def programs(prefix, given, said):
         holds(f"{name} is the program given", (prefix / "bin" / NAMES[name]).read_bytes(), program.read_bytes())
     path = f"{prefix / 'bin'}:{os.environ['PATH']}"
     holds("git config-check", run("git", "config-check", "--version", PATH=path), f"config_check {VERSION}\n")
-    holds("git settings", run("git", "settings", "--version", PATH=path), f"git-settings {VERSION}\n")
+    holds("git settings", run("git", "-c", "a.b=c", "settings", "get", "a.b", PATH=path), "c\n")
     pages = sorted(it.name for it in prefix.rglob("man1/*"))
     if not shutil.which("help2man"):
         holds("the pages that are left out", (said.count("without help2man"), pages), (3, []))

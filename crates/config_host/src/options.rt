@@ -6,6 +6,14 @@ use std::alloc::{AllocError, Global};
 use std::fmt;
 
 /// What an option takes.
+///
+/// ```rust
+/// use config_host::options::{Ends, Tables, Takes, read};
+///
+/// const TABLES: Tables = &[&[("file", "f", Takes::Value("FILE", &[]), "Read this file")]];
+/// let options = read(alloc, TABLES, &["-fx"], Ends::AtWord).expect(&rt, "memory").expect(&rt, "an option");
+/// assert!(rt; options.last("file") == Some("x"));
+/// ```
 #[derive(Clone, Copy)]
 pub enum Takes {
     /// Nothing. `--no-` before its name undoes it.
@@ -33,6 +41,14 @@ pub const GENERAL: &[Row] = &[
 ];
 
 /// An option that is given.
+///
+/// ```rust
+/// use config_host::options::{Ends, GENERAL, Tables, read};
+///
+/// const TABLES: Tables = &[GENERAL];
+/// let options = read(alloc, TABLES, &["-h"], Ends::AtWord).expect(&rt, "memory").expect(&rt, "an option");
+/// assert!(rt; matches!(options.given.first(), Some(given) if given.name == "help" && !given.is_undone));
+/// ```
 #[derive(Clone, Copy)]
 pub struct Given<'a> {
     /// The name of its row.
@@ -44,6 +60,14 @@ pub struct Given<'a> {
 }
 
 /// Where options end, beside `--` and `--end-of-options`.
+///
+/// ```rust
+/// use config_host::options::{Ends, GENERAL, Tables, read};
+///
+/// const TABLES: Tables = &[GENERAL];
+/// let options = read(alloc, TABLES, &["a.b", "-h"], Ends::AtWord).expect(&rt, "memory").expect(&rt, "word");
+/// assert!(rt; options.words.len() == 2 && !options.has("help"));
+/// ```
 #[derive(Clone, Copy)]
 pub enum Ends {
     /// At the first word that is no option.
@@ -53,6 +77,14 @@ pub enum Ends {
 }
 
 /// Why options are refused, in Git's words.
+///
+/// ```rust
+/// use config_host::options::{Ends, GENERAL, Misuse, Tables, read};
+///
+/// const TABLES: Tables = &[GENERAL];
+/// let misuse = read(alloc, TABLES, &["--helpless"], Ends::AtWord).expect(&rt, "memory");
+/// assert!(rt; matches!(misuse, Err(Misuse::Unknown("helpless"))));
+/// ```
 #[derive(Clone, Copy, Debug)]
 pub enum Misuse<'a> {
     /// There is no such option.
@@ -112,6 +144,14 @@ impl fmt::Display for Misuse<'_> {
 }
 
 /// The options that are given, in order, and the other words.
+///
+/// ```rust
+/// use config_host::options::{Ends, GENERAL, Tables, read};
+///
+/// const TABLES: Tables = &[GENERAL];
+/// let options = read(alloc, TABLES, &["a", "-V"], Ends::Nowhere).expect(&rt, "memory").expect(&rt, "word");
+/// assert!(rt; options.words.len() == 1 && options.has("version"));
+/// ```
 #[derive(Drop)]
 pub struct Options<'a> {
     pub given: Vec<Given<'a>>,
@@ -394,6 +434,15 @@ pub fn read<'a>(
 }
 
 /// What the help of a program says around its options.
+///
+/// ```rust
+/// use config_host::options::{About, GENERAL, Tables, help};
+///
+/// const TABLES: Tables = &[GENERAL];
+/// let about = About { summary: "Does nothing", usage: "nothing", after: "" };
+/// let text = help(alloc, &about, TABLES).expect(&rt, "memory");
+/// assert!(rt; text.starts_with(b"Does nothing\n\nUsage: nothing\n\nOptions:\n  -h, --help "));
+/// ```
 #[derive(Clone, Copy)]
 pub struct About {
     /// What the program does.

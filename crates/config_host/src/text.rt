@@ -3,6 +3,15 @@
 use std::alloc::{AllocError, Global};
 
 /// A text of bytes to which nothing that is put fails: only its end has to be asked whether all of it is there.
+///
+/// ```rust
+/// use config_host::text::Text;
+///
+/// let mut text = Text::new(alloc);
+/// text.put(b"a");
+/// text.put_repeated(b'b', 2);
+/// assert!(rt; text.end().expect(&rt, "memory").as_slice() == b"abb".as_slice());
+/// ```
 #[derive(Drop)]
 pub struct Text {
     bytes: Vec<u8>,
