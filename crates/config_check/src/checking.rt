@@ -5,8 +5,8 @@ use crate::changes::{Mended, Mender, change_file, changed};
 use crate::diff::diff_of;
 use crate::failure::{Failure, failed, tell, written};
 use crate::options::{Asked, Format, Output};
-use crate::report::{Counting, Lines, Report};
-use crate::rows::{AllRows, Must, built_in, settings_for};
+use crate::report::{Lines, Report};
+use crate::rows::{AllRows, Must, built_in, knows_all, settings_for};
 use crate::sarif;
 use crate::source::Source;
 use bstr::BStr;
@@ -366,16 +366,10 @@ impl<'c, 't> Checking<'c, 't> {
             return Ok(None);
         };
         let rows = built_in(alloc, self.asked.git, &settings)?;
-        let options = self.options;
-        match check_file(alloc, &rows, &options, file, text, &mut Counting) {
-            Ok(counts) if counts.unknown == 0 => {
-                if counts.findings > 0 {
-                    let _ = self.look(&rows, file, text, false)?;
-                }
-                Ok(Some(counts))
-            }
-            _ => Ok(None),
+        if !knows_all(alloc, &rows, text)? {
+            return Ok(None);
         }
+        Ok(Some(self.look(&rows, file, text, false)?.counts))
     }
 
     /// Checks the text of a file, and writes its findings.

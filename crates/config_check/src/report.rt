@@ -350,22 +350,3 @@ impl<W: Write> Receiver for Lines<'_, '_, '_, '_, W> {
         }
     }
 }
-
-/// Receives the findings of a check of which the counts alone are wanted. It stops at an unknown key.
-#[derive(Drop)]
-pub(crate) struct Counting;
-
-impl Receiver for Counting {
-    ghost received = { λ _. None };
-
-    fn receive(
-        &mut self,
-        _: Option<&Setting<'_>>,
-        finding: &Finding<'_>,
-    ) -> Result<(), CheckError> {
-        match finding.code {
-            Code::UnknownKey => Err(CheckError::Memory(AllocError)),
-            _ => Ok(()),
-        }
-    }
-}

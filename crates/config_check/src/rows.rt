@@ -6,10 +6,12 @@ use crate::source::front;
 use bstr::BStr;
 use bumpalo::Bump;
 use config_checks::git::SETTINGS;
+use config_checks::lookup::{row_for, runs_of};
 use config_checks::reason::{nearest_word, outside};
 use config_checks::row::Row;
 use config_checks::table::{BadRow, RowFault, read_row, read_rows};
 use config_checks::version::Version;
+use config_file::Entries;
 use config_file::key::Key;
 use config_host::repository::find;
 use config_host::text::Text;
@@ -258,6 +260,20 @@ pub(crate) fn settings_for(alloc: Global, text: &[u8]) -> Result<Option<Vec<u8>>
         }
     }
     Ok(Some(lines.end()?))
+}
+
+/// Whether these rows have the key of each entry of a text, up to a line that Git cannot read.
+pub(crate) fn knows_all(alloc: Global, rows: &[Row<'_>], text: &[u8]) -> Result<bool, AllocError> {
+    let runs = runs_of(alloc, rows)?;
+    for entry in Entries::new(text) {
+        let Ok(entry) = entry else {
+            break;
+        };
+        if row_for(&runs, &entry.key_text(alloc)?).is_none() {
+            return Ok(false);
+        }
+    }
+    Ok(true)
 }
 
 /// The text of the file of rows at the top of the repository of the current folder, if it is there.
