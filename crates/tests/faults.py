@@ -220,8 +220,8 @@ def main():
         library = f"{work}/faults.so"
         subprocess.run([*compiler, "-shared", "-fPIC", "-O1", "-fno-builtin", "-o", library, SOURCE, "-ldl"], check=True)
         settings, value, check = sys.argv[1:]
-        # the statuses are those of a failure
-        every = {Faults(settings, (2, 3, 4, 128, 255), library, work): SETTINGS,
+        # the statuses are those of a failure; a `get` that cannot read its file says so, and ends with 1, as in Git
+        every = {Faults(settings, (1, 2, 3, 4, 128, 255), library, work): SETTINGS,
                  Lines(value, (2,), library, work): [VALUE], Checks(check, (1, 2), library, work): CHECK}
         for task in [pool.submit(*task) for one, runs in every.items() for run in runs for task in one.tasks(run)]:
             task.result()
