@@ -1,12 +1,19 @@
-"""Tries the wrong bodies: the prover has to refuse each, at the clauses that it names. wrong_bodies.py [CRATE..]
+"""Tries the wrong bodies: the prover has to refuse each, at the clauses that it names.
+
+    wrong_bodies.py [--all] [CRATE..]
 
 CONTRIBUTING.md has the form of their files. Those of a crate are put into one copy of it, in which other functions have
 no body, and the functions that they name are checked once, over the libraries that `rt check` or `rt ci` left; those
 that change a definition follow in a second check. If that opens other goals, or two are for the same function, each is
 tried by itself, and the goals that it opens are printed. The last line is 'N passed, M failed'.
+
+If all bodies of a crate are refused, out/wrong_bodies keeps a sum of all that this rests on: the folders of the crate
+and of those below it, the toolchain and this script. They are tried again if the sum has changed, or with --all.
 """
 import collections
 import concurrent.futures
+import functools
+import hashlib
 import os
 import pathlib
 import re
@@ -128,6 +135,25 @@ class Crate:
         return {edit.name: "; ".join(told) for edit in edits}
 
 
+@functools.cache
+def sum_of(name, *more):
+    """A sum of the definitions, the code and the proofs of a crate and of those below it, and of more folders of it."""
+    digest, folder = hashlib.sha256(LISTED[name][0].encode()), ROOT / "crates" / name
+    for file in sorted(it for part in ("src", "specs", "proofs", *more) for it in folder.glob(f"{part}/**/*")):
+        if file.is_file():
+            digest.update(f"{file.relative_to(ROOT)} {hashlib.sha256(file.read_bytes()).hexdigest()}\n".encode())
+    for dep in LISTED[name][1]:
+        digest.update(f"{dep} {sum_of(dep) if dep in LISTED else ''}\n".encode())
+    return digest.hexdigest()
+
+
+def verdict_of(name):
+    """The file that keeps the sum of a crate whose wrong bodies are refused, and the sum that it has to have."""
+    kit = subprocess.run(["rt", "version"], stdout=subprocess.PIPE, text=True, check=True).stdout
+    rest = hashlib.sha256(kit.encode() + pathlib.Path(__file__).read_bytes()).hexdigest()
+    return ROOT / "crates" / name / "out/wrong_bodies", f"{sum_of(name, 'wrong_bodies')} {rest}\n"
+
+
 def tried(name):
     """What is wrong with the result of each wrong body of a crate, by its name."""
     with tempfile.TemporaryDirectory() as room:
@@ -140,16 +166,33 @@ def tried(name):
         return {name: why for part in parts if part for name, why in crate.faults(part).items()}
 
 
+def judged(name, is_asked):
+    """What is wrong with each wrong body of a crate, unless the sum says that all of them have been refused."""
+    kept, wanted = verdict_of(name)
+    if not is_asked and kept.exists() and kept.read_text(encoding="utf-8") == wanted:
+        return {f"{name}/{file.stem}": "" for file in (ROOT / "crates" / name / "wrong_bodies").glob("*.edit")}, True
+    faults = tried(name)
+    kept.unlink(missing_ok=True)
+    if not any(faults.values()):
+        kept.parent.mkdir(exist_ok=True)
+        kept.write_text(wanted, encoding="utf-8")
+    return faults, False
+
+
 def main():
+    is_asked = "--all" in sys.argv
     # the crates that others use come first
-    crates = sys.argv[1:] or [name for name in LISTED if any(ROOT.glob(f"crates/{name}/wrong_bodies/*.edit"))]
+    crates = [word for word in sys.argv[1:] if word != "--all"] or [
+        name for name in LISTED if any(ROOT.glob(f"crates/{name}/wrong_bodies/*.edit"))]
+    passed = failed = 0
     with concurrent.futures.ThreadPoolExecutor(int(os.environ.get("RT_JOBS") or len(os.sched_getaffinity(0)))) as pool:
-        faults = {name: why for found in pool.map(tried, crates) for name, why in found.items()}
-    for name, why in faults.items():
-        print(f"{name}: {why or 'refused'}")
-    failed = sum(map(bool, faults.values()))
-    print(f"{len(faults) - failed} passed, {failed} failed")
-    return 1 if failed or not faults else 0
+        for faults, is_kept in pool.map(judged, crates, [is_asked] * len(crates)):
+            for name, why in sorted(faults.items()):
+                print(f"{name}: {why or 'refused' + ' before, and nothing that it rests on has changed' * is_kept}")
+            failed += sum(map(bool, faults.values()))
+            passed += sum(not why for why in faults.values())
+    print(f"{passed} passed, {failed} failed")
+    return 1 if failed or not passed else 0
 
 
 sys.exit(main())
