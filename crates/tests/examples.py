@@ -29,8 +29,8 @@ CALLS = {
 }
 # the crates that use the library
 MORE = {"config_checks": ("check_file", "Options", "Setting", "Version"),
-        "uses": ("color_of_both", "default_warning", "is_bare", "path_at_home", "path_of_user", "preview", "push_default",
-                 "read", "six_settings", "value_of")}
+        "uses": ("color_of_both", "default_warning", "is_bare", "path_at_home", "path_of_user", "preview",
+                 "push_default", "read", "six_settings", "value_of")}
 FENCED = re.compile(r"^```(\w*)\n(.*?)^```$", re.MULTILINE | re.DOTALL)
 CITED = re.compile(r"docs/GRAMMAR\.md, ([A-Z][^.]*)")
 AT_THE_ROOT = ("Boolean", "Color", "Error", "Fault", "Integer", "Path", "Returned")

@@ -1,11 +1,9 @@
-//! Refusals of what no argument and no file can have, and what `get` hands back.
+//! Refusals of what no variable can have, and what `get` hands back.
 
 use crate::support::equal;
-use bumpalo::Bump;
 use config_file::Settings;
 use config_file::command::{CommandError, push_setting};
 use config_file::settings::GetError;
-use config_host::{Disk, Locked};
 use gix_config_value::Integer;
 use std::test::Fail;
 
@@ -37,16 +35,5 @@ fn refuses_the_value_of_a_key(rt: HostRuntime) -> Result<(), Fail> {
     };
     equal(&rt, setting.entry.line, 2, "core.bare");
     equal(&rt, setting.text(), b"true".as_slice(), "core.bare");
-    Ok(())
-}
-
-#[test]
-fn refuses_the_name_of_no_file(rt: HostRuntime) -> Result<(), Fail> {
-    let texts = Bump::new(rt.alloc());
-    let told = match Locked::of(&Disk::new(&rt, &texts), b"a\0b") {
-        Ok(_) => String::new(rt.alloc()),
-        Err(error) => error.to_string(rt.alloc())?,
-    };
-    assert!(rt; told.starts_with("file name contained an unexpected NUL byte"));
     Ok(())
 }

@@ -1,5 +1,5 @@
-//! The texts of errors, which no contract states, and one text of each kind of value, since no contract says
-//! that `Display` succeeds.
+//! What `Display` writes of errors and of one value of each kind, since no contract says that it succeeds. The texts of
+//! faults are in crates/gix_config_value_c/tests/calls.c.
 
 use crate::support::equal;
 use gix_config_value::canonical::UnknownKind;
@@ -19,13 +19,6 @@ const FAULTS: [Fault; 5] = [
     Fault::OutOfRange,
     Fault::Color,
 ];
-
-const FAULT_TEXTS: &str = "\
-Booleans need to be 'no', 'off', 'false', '' or 'yes', 'on', 'true' or any number
-Integers needs to be positive or negative numbers which may have a suffix like 1k, 42, or 50G
-integer suffix multiplication overflows `i64`
-integer is out of range
-Colors are specific color values and their attributes, like 'brightred', or 'blue'";
 
 macro_rules! ill_formed {
     ($place:ident) => {
@@ -47,28 +40,17 @@ static PATH_ERRORS: [Error<'static>; 11] = [
     Error::Memory(AllocError),
 ];
 
-const PATH_TEXTS: &str = "\
-path is missing
-git install dir is missing
-home dir is missing
-home for user lookup is missing
-pwd user info is missing
-Ill-formed UTF-8 in path past %(prefix)
-Ill-formed UTF-8 in path past ~/
-Ill-formed UTF-8 in username
-Ill-formed UTF-8 in path past ~user/
-Ill-formed UTF-8 in path
-no memory";
-
 #[test]
 fn errors_have_texts(rt: HostRuntime) -> Result<(), Fail> {
-    for (fault, text) in FAULTS.iter().zip(FAULT_TEXTS.lines()) {
-        equal(&rt, fault.to_string(rt.alloc())?.as_str(), text, text);
+    for fault in FAULTS {
+        let shown = fault.to_string(rt.alloc())?;
+        equal(&rt, shown.as_str(), fault.text(), "a fault");
     }
-    assert!(rt; PATH_TEXTS.lines().count() == PATH_ERRORS.len());
-    for (error, text) in PATH_ERRORS.iter().zip(PATH_TEXTS.lines()) {
-        equal(&rt, error.to_string(rt.alloc())?.as_str(), text, text);
+    for error in &PATH_ERRORS {
+        let shown = error.to_string(rt.alloc())?;
+        equal(&rt, shown.as_str(), error.text(), "a path");
     }
+    assert!(rt; Error::Memory(AllocError).text() == "no memory");
     let (overflow, refused) = (JsonError::Overflow, JsonError::Memory(AllocError));
     let (read, write) = (RunError::Read, RunError::Write);
     let memory = RunError::Memory(AllocError);
