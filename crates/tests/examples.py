@@ -30,7 +30,9 @@ CALLS = {
     "config_host": ("settings_here", "Locked"),
 }
 # the crates that use the library
-MORE = {"config_checks": ("check_file", "Options", "Setting", "Version")}
+MORE = {"config_checks": ("check_file", "Options", "Setting", "Version"),
+        "uses": ("color_of_both", "default_warning", "is_bare", "path_at_home", "path_of_user", "preview",
+                 "push_default", "read", "six_settings", "value_of")}
 FENCED = re.compile(r"^```(\w*)\n(.*?)^```$", re.MULTILINE | re.DOTALL)
 CITED = re.compile(r"docs/GRAMMAR\.md, ([A-Z][^.]*)")
 AT_THE_ROOT = ("Boolean", "Color", "Error", "Fault", "Integer", "Path", "Returned")
@@ -61,12 +63,12 @@ def run(tests, others):
     with tempfile.TemporaryDirectory() as folder:
         root = pathlib.Path(folder)
         subprocess.run(["sh", ROOT / "vendor.sh", root], check=True)
-        for crate in ("config_checks", "uses", "tests") if others else ("config_checks",):
+        for crate in (*MORE, "tests") if others else MORE:
             shutil.copytree(ROOT / "crates" / crate, root / "crates" / crate,
                             ignore=shutil.ignore_patterns("out", "wrong_bodies"))
         used = dict.fromkeys(["bstr", "bumpalo", *CALLS, *MORE, *(line_of("tests").split()[1:] if others else [])])
         with open(root / "crates.txt", "a", encoding="utf-8") as listed:
-            listed.write(line_of("config_checks") + line_of("uses") * others + f"tests: {' '.join(used)}\n")
+            listed.write("".join(map(line_of, MORE)) + f"tests: {' '.join(used)}\n")
         (root / "crates/tests/src").mkdir(parents=True, exist_ok=True)
         with open(root / "crates/tests/src/lib.rt", "a", encoding="utf-8") as listed:
             listed.write(("" if others else "#![tactic(auto)]\n") + "#[cfg(test)]\nmod examples;\n")

@@ -1,9 +1,9 @@
 /* Lets a program's calls of the C library fail, where it is preloaded: faults.py says which.
  *
  * FAULT is the name of a function, a number and an error: the call of this function with that number, counted from 1,
- * fails with that error, or takes no byte if the error is 0. With `on` behind it all later calls fail too. Whenever one
- * fails, a byte is written to the file FAULT_FD. PIECES are two numbers: as many bytes are read and written by a call at
- * most. The functions are declared here and not by headers, which declare some of them with parameters that vary. */
+ * fails with that error, or takes no byte if the error is 0. With `on` behind it all later calls fail too. Whenever
+ * one fails, a byte is written to the file FAULT_FD. PIECES are two numbers: a call reads and writes at most so many
+ * bytes. The functions are declared here and not by headers, which declare some with parameters that vary. */
 #define _GNU_SOURCE
 #include <dlfcn.h>
 #include <errno.h>
@@ -56,7 +56,8 @@ static int fails(const char *name)
 
 CALL(int, open, "open", (const char *path, int flags, unsigned mode), (path, flags, mode), -1)
 CALL(int, open64, "open", (const char *path, int flags, unsigned mode), (path, flags, mode), -1)
-CALL(int, statx, "statx", (int folder, const char *path, int flags, unsigned mask, void *out), (folder, path, flags, mask, out), -1)
+CALL(int, statx, "statx", (int folder, const char *path, int flags, unsigned mask, void *out),
+     (folder, path, flags, mask, out), -1)
 CALL(long, readlink, "readlink", (const char *path, char *room, size_t size), (path, room, size), -1)
 CALL(char *, realpath, "realpath", (const char *path, char *room), (path, room), NULL)
 CALL(char *, getcwd, "getcwd", (char *room, size_t size), (room, size), NULL)
@@ -64,8 +65,8 @@ CALL(int, fchmod, "fchmod", (int descriptor, unsigned mode), (descriptor, mode),
 CALL(int, fsync, "fsync", (int descriptor), (descriptor), -1)
 CALL(int, rename, "rename", (const char *from, const char *to), (from, to), -1)
 CALL(int, unlink, "unlink", (const char *path), (path), -1)
-CALL(long, read, "read", (int descriptor, void *room, size_t size), (descriptor, room, size < most_read ? size : most_read),
-     error == 0 ? 0 : -1)
+CALL(long, read, "read", (int descriptor, void *room, size_t size),
+     (descriptor, room, size < most_read ? size : most_read), error == 0 ? 0 : -1)
 CALL(long, write, "write", (int descriptor, const void *bytes, size_t size),
      (descriptor, bytes, size < most_written ? size : most_written), error == 0 ? 0 : -1)
 CALL(long, __write, "write", (int descriptor, const void *bytes, size_t size),

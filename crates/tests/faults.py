@@ -1,13 +1,13 @@
 #!/usr/bin/env python3
 """Lets each call of the system by the programs fail in turn: python3 faults.py GIT_SETTINGS CONFIG_VALUE CONFIG_CHECK
 
-faults.c is compiled (CC, or cc) and preloaded. In each run one call of a function of ERRORS fails with an error, up to the
-last call that the run makes. So is each request for memory refused, alone and with all that follow. A run then ends with
-the right answer, or it says what is wrong and ends with the status of a failure. It leaves the whole old text of a file
-or the whole new one, and no lock. It also ends right if reads and writes take some bytes only.
+faults.c is compiled (CC, or cc) and preloaded. In each run one call of a function of ERRORS fails with an error, up to
+the last call that the run makes. So is each request for memory refused, alone and with all that follow. A run then ends
+with the right answer, or it says what is wrong and ends with the status of a failure. It leaves the whole old text of a
+file or the whole new one, and no lock. It also ends right if reads and writes take some bytes only.
 
-config_value has to answer each line before the one at which it fails, to ask for no memory while no line crosses the end
-of a read, and to write many answers at once.
+config_value has to answer each line before the one at which it fails, to ask for no memory while no line crosses the
+end of a read, and to write many answers at once.
 
 A program that `rt try` builds has memory of its own, of which nothing is refused, and takes about a hundred times as
 long: of its calls only every STEP-th fails, and with one error. The last line is 'N passed, M failed', in runs.
@@ -25,18 +25,20 @@ import sys
 import tempfile
 
 SOURCE = pathlib.Path(__file__).with_suffix(".c")
-LONGEST_RUN, SHOWN, STEP = 60, 20, 7
+LONGEST_RUN, SHOWN, STEP, DENSE = 60, 20, 7, 100
 ANY = (errno.ENOMEM, errno.EIO, errno.EINTR)
 # the functions, and the errors with which they fail; with 0 no byte is written
 ERRORS = {"open": ANY, "statx": ANY, "readlink": ANY, "realpath": ANY, "getcwd": ANY, "read": ANY, "close": ANY,
           "write": (*ANY, errno.ENOSPC, errno.EPIPE, 0), "fchmod": ANY, "fsync": ANY, "rename": ANY, "unlink": ANY}
-# a run: the arguments, the right output and status, the files, those that it changes with their new texts, its variables,
-# the standard input, and the errors of its calls. <F> is its folder
+# a run: the arguments, the right output and status, the files, those that it changes with their new texts, its
+# variables, the standard input, and the errors of its calls. <F> is its folder
 Run = collections.namedtuple("Run", "words output status files changed known given errors",
                              defaults=[b"", 0, {}, {}, {}, b"", ANY + (errno.ENOSPC, errno.EPIPE, 0)])
 EDITED = {"edit": b"[a]\n\tk = v # c\n\tl = 1\n"}
-URLS = {"f": b"[http \"https://h/\"]\n\tproxy = p\n[include]\n\tpath = g\n[http]\n\tproxy = q\n", "g": b"[a]\n\tb = ~/x\n"}
-# a repository behind a file, as GIT_DIR names it, with a file of its work tree, and files that are included on conditions
+URLS = {"f": b"[http \"https://h/\"]\n\tproxy = p\n[include]\n\tpath = g\n[http]\n\tproxy = q\n",
+        "g": b"[a]\n\tb = ~/x\n"}
+# a repository behind a file, as GIT_DIR names it, with a file of its work tree, and files that are included on
+# conditions
 HELD = {"held/HEAD": b"ref: refs/heads/main\n", "held/objects/x": b"", "held/refs/x": b"", "link": b"gitdir: held\n",
         "held/config": b"[core]\n\trepositoryformatversion = 0\n[extensions]\n\tworktreeConfig\n",
         "held/config.worktree": b"[a]\n\tb = 1\n[includeIf \"onbranch:main\"]\n\tpath = more\n",
@@ -78,8 +80,8 @@ VALUE = Run("", b"".join(ANSWERS), 1, given=LINES)
 # many lines, and more writes than their answers may take: nine buffers of 8,192 bytes, and each of the three reads may
 # end one early
 MANY, MOST_WRITES = Run("", b"ok 16k\n" * 10_000, given=b"integer 0x10k\n" * 10_000), 12
-# how many bytes a read returns, and how many answers are written if memory is refused to the first line that crosses the
-# end of a read
+# how many bytes a read returns, and how many answers are written if memory is refused to the first line that crosses
+# the end of a read
 GROWN = [(1, 0), (3, 0), (20, 3), (1000, 5)]
 
 
@@ -139,9 +141,16 @@ class Faults:
             self.count(right, run.words, fault, pieces, given.returncode, given.stdout, given.stderr, files)
         return has_failed
 
+    def numbers(self):
+        """The numbers of the calls that fail. From DENSE on they have gaps, since some runs ask often for memory."""
+        number = 1
+        while True:
+            yield number
+            number += STEP if self.is_checked else 1 + max(0, number - DENSE) // 20
+
     def turns(self, run, call, error, rest="", pieces=""):
         """Lets each call of a function fail in turn, up to the last one."""
-        for number in itertools.count(1, STEP if self.is_checked else 1):
+        for number in self.numbers():
             if not self.judge(run, f"{call} {number} {error}{rest}", pieces):
                 return
 
@@ -158,7 +167,7 @@ class Faults:
 
 
 class Checks(Faults):
-    """Those of config_check: a file that cannot be read is a finding, and a file is changed before it is checked again."""
+    """Those of config_check: a file that cannot be read is a finding, and one is changed before it is checked again."""
 
     def is_right(self, run, call, given, files):
         return super().is_right(run, call, given, files) or super().is_right(
@@ -176,7 +185,7 @@ class Lines(Faults):
 
     def read(self, piece, error):
         """Lets each read fail: the lines that have come before have their answers."""
-        for number in itertools.count(1, STEP if self.is_checked else 1):
+        for number in self.numbers():
             fault, pieces = f"read {number} {error}", f"{piece} 1000"
             given, _, has_failed = self.ended(VALUE, fault, pieces)
             if not has_failed:
@@ -191,7 +200,7 @@ class Lines(Faults):
         self.count((given.returncode, given.stdout, has_failed) == wanted, "memory for a line", piece, given)
 
     def whole(self):
-        """No memory is asked for while each line ends in the read in which it begins; many answers are written at once."""
+        """No memory is asked for while no line crosses the end of a read, and many answers are written at once."""
         for run, fault in ((VALUE._replace(given=LINES + b"\n"), f"malloc 1 {errno.ENOMEM} on"),
                            (MANY, f"write {MOST_WRITES + 1} {errno.EIO}")):
             given, _, has_failed = self.ended(run, fault, "")
@@ -218,10 +227,11 @@ def main():
     with tempfile.TemporaryDirectory() as work, concurrent.futures.ThreadPoolExecutor() as pool:
         work = pathlib.Path(os.path.realpath(work))
         library = f"{work}/faults.so"
-        subprocess.run([*compiler, "-shared", "-fPIC", "-O1", "-fno-builtin", "-o", library, SOURCE, "-ldl"], check=True)
+        options = ["-shared", "-fPIC", "-O1", "-fno-builtin", "-o", library]
+        subprocess.run([*compiler, *options, SOURCE, "-ldl"], check=True)
         settings, value, check = sys.argv[1:]
-        # the statuses are those of a failure
-        every = {Faults(settings, (2, 3, 4, 128, 255), library, work): SETTINGS,
+        # the statuses are those of a failure; a `get` that cannot read its file says so, and ends with 1, as in Git
+        every = {Faults(settings, (1, 2, 3, 4, 128, 255), library, work): SETTINGS,
                  Lines(value, (2,), library, work): [VALUE], Checks(check, (1, 2), library, work): CHECK}
         for task in [pool.submit(*task) for one, runs in every.items() for run in runs for task in one.tasks(run)]:
             task.result()

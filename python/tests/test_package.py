@@ -255,12 +255,17 @@ class Values(unittest.TestCase):
                 ((True, {"TERM": "linux"}), 16), ((True, {"TERM": "screen-256color"}), 256),
                 ((True, {"TERM": "xterm-direct"}), 2 ** 24), ((True, {"TERM": "xterm", "COLORTERM": "truecolor"}), 2 ** 24),
                 ((True, {"TERM": "xterm\udcff", "COLORTERM": "yes"}), 16)]
+        rows += [((True, variables), wanted) for variables, wanted in TERMINALS]
+        rows += [((False, variables), None) for variables, _ in TERMINALS]
         for given, wanted in rows:
             self.assertEqual(terminal_depth(*given), wanted, given)
+        for text, depth in itertools.product(("normal", "default", "black", "brightwhite", ""), (16, 256, 2 ** 24)):
+            color = Color.parse(text)
+            self.assertEqual(color.reduced(depth), color, text)
 
     def test_over(self):
         for base, top, wanted in [("bold red", "nobold blue", "blue nobold"), ("red", "bold", "red bold"), ("", "", ""),
-                                  ("red black ul", "normal", "normal black ul"), ("nodim", "dim reset", "dim reset")]:
+                                  ("red black ul", "normal", "normal black ul"), ("nodim", "dim reset", "dim reset"), *OVERS]:
             self.assertEqual(str(over(Color.parse(base), Color.parse(top))), wanted, (base, top))
         self.assertRaises(TypeError, over, Color.parse("red"), "blue")
 
@@ -318,6 +323,28 @@ class Values(unittest.TestCase):
         self.assertRaises(TypeError, setattr, Attribute, "BOLD", 5)
 
 
+# variables, and how many colors a terminal has with them: the first rule decides that applies
+TERMINALS = [
+    ({"NO_COLOR": "1", "TERM": "xterm", "COLORTERM": "truecolor"}, None), ({"NO_COLOR": "0", "TERM": "xterm"}, None),
+    ({"NO_COLOR": "", "TERM": "xterm"}, 16), ({"COLORTERM": "truecolor"}, None),
+    ({"TERM": "dumb", "COLORTERM": "truecolor"}, None), ({"TERM": "dumber"}, 16), ({"TERM": ""}, 16),
+    ({"TERM": "xterm", "COLORTERM": "truecolor"}, 2 ** 24), ({"TERM": "xterm", "COLORTERM": "24bit"}, 2 ** 24),
+    ({"TERM": "xterm", "COLORTERM": "Truecolor"}, 16), ({"TERM": "xterm", "COLORTERM": "1"}, 16),
+    ({"TERM": "xterm-direct"}, 2 ** 24), ({"TERM": "xterm-direct2"}, 16), ({"TERM": "xterm-256color"}, 256),
+    ({"TERM": "tmux-256color-italic", "COLORTERM": ""}, 256), ({"TERM": "256color-direct"}, 2 ** 24),
+    ({"TERM": "linux"}, 16),
+]
+# a color, what is put over it, and the result
+OVERS = [
+    ("bold red", "nobold blue", "blue nobold"), ("nobold", "bold", "bold"),
+    ("dim italic ul", "nodim noitalic noul", "nodim noitalic noul"),
+    ("blink reverse strike", "noblink noreverse nostrike", "noblink noreverse nostrike"),
+    ("nodim noitalic noul", "dim italic ul", "dim italic ul"),
+    ("noblink noreverse nostrike", "blink reverse strike", "blink reverse strike"),
+    ("red blue bold", "", "red blue bold"), ("", "red blue bold", "red blue bold"),
+    ("red blue", "green", "green blue"), ("red blue", "normal normal", "normal normal"),
+    ("reset bold", "dim", "bold dim reset"), ("bold dim", "bold nobold", "bold dim nobold"),
+]
 # what each interpreter, and each module that is imported again, has to do: its own exceptions, types and values
 AGAIN = """
 import sys

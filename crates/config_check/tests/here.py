@@ -9,6 +9,9 @@ from checking import Ended, run
 
 WRONG = "[gc]\n\tauto = wrong\n"
 PATH = "[include]\n\tpath = %s\n"
+# conditions that may hold somewhere, and some that never do
+CONDITIONS = ("gitdir:/r/", "gitdir:/R/", "gitdir/i:/R/", "gitdir:./.git", "gitdir:~/", "gitdir:r/.git", "onbranch:m*",
+              "onbranch:main/", "hasconfig:remote.*.url:**", "unknown:x")
 # the environment variables, and the folder in which both programs run
 CASES = [
     ({}, "plain"), ({}, "work"), ({}, "work/deep/er"), ({}, "work/.git"), ({}, "linked"), ({}, "linked/deep"),
@@ -81,6 +84,10 @@ def included(group, program, home, known):
     group.expect("what a named file includes", list(map(os.path.realpath, wanted)), came)
     (folder / "loop").write_text(WRONG + PATH % "../includes/loop" + PATH % "./loop")
     group.expect("a file that includes itself", [str(folder / "loop")], by_program(program, folder, known, ["loop"]))
+    for condition in CONDITIONS:
+        (folder / "on").write_text(WRONG + f"[includeIf \"{condition}\"]\n\tpath = deep-11\n")
+        came = by_program(program, folder, known, ["on"])
+        group.expect(condition, [f"{folder}/on", f"{folder}/deep-11"], came)
     data = (WRONG + PATH % "deep-11" + PATH % f"{folder}/c" + PATH % "~/b").encode()
     came = run([program.path, "-"], data, cwd=folder, env=known)
     names = list(dict.fromkeys(line.split(":")[0] for line in came.output.decode().splitlines()))

@@ -1,8 +1,8 @@
 #!/usr/bin/env python3
 """Rows of calls and answers: python3 rows.py PROGRAM [WORD..]
 
-PROGRAM is git_settings. With the words behind it, it stands for `git config`, so that a Git can be asked the same rows:
-rows.py git config. They are in rows.tsv, a row a line, whose fields are between tabs and have Python's escapes:
+PROGRAM is git_settings. With the words behind it, it stands for `git config`, so that a Git can be asked the same rows
+by `rows.py git config`. They are in rows.tsv, a row a line, whose fields are between tabs and have Python's escapes:
 
   the arguments, as a shell splits them; the exit status; the standard output, or * for any; what standard error has to
   say, in pieces between bars; and what is in the folder in which the program runs:

@@ -117,6 +117,9 @@ else
     holds "nothing is left" sh -c "[ -z \"\$(find '$work/dest' ! -type d)\" ]"
 fi
 
+# each color, with fewer colors
+holds "the nearest colors" python3 "$root/compare/depth.py" "$prefix"
+
 # tests that what pkg-config says is enough to build and run an example
 if ! command -v pkg-config > /dev/null; then
     echo "skipped: the flags of pkg-config, which is not there"

@@ -1,34 +1,19 @@
-//! Tests of what no contract says: texts of errors, operators, failing reads and writes, memory that is
-//! refused, and the callers in crates/uses. Expected values come from gix-config-value 0.21.1 or from Git, or
-//! are derived by hand from docs/GRAMMAR.md.
+//! Tests of what no contract says and no program can be asked: texts of errors, operators, values that are no text, and
+//! calls of a writer or a walk. Expected values come from gix-config-value 0.21.1 or from Git, or are derived by hand
+//! from docs/GRAMMAR.md. What a program can be asked is data, in crates/git_settings/tests/rows.tsv and in the files
+//! `stdin` and `stdout` of programs; faults.py lets calls of the programs fail.
 #![tactic(auto)]
 
 #[cfg(test)]
 mod attributes;
 #[cfg(test)]
-mod callers;
+mod colors;
 #[cfg(test)]
-mod command;
-#[cfg(test)]
-mod depth;
-#[cfg(test)]
-mod escape;
-#[cfg(test)]
-mod files;
-#[cfg(test)]
-mod here;
-#[cfg(test)]
-mod host;
-#[cfg(test)]
-mod includes;
-#[cfg(test)]
-mod keys;
-#[cfg(test)]
-mod locked;
+mod flush;
 #[cfg(test)]
 mod memory;
 #[cfg(test)]
-mod program;
+mod refusals;
 #[cfg(test)]
 mod settings;
 #[cfg(test)]
@@ -36,4 +21,4 @@ mod support;
 #[cfg(test)]
 mod texts;
 #[cfg(test)]
-mod url;
+mod walks;

@@ -2,7 +2,7 @@
 
 use crate::support::equal;
 use bstr::BStr;
-use config_file::{Scope, Setting, Settings};
+use config_file::{Scope, Settings};
 use gix_config_value::{Fault, Integer};
 use std::alloc::{AllocError, Global};
 use std::test::Fail;
@@ -27,74 +27,45 @@ fn both(alloc: Global) -> Result<Settings<'static>, Fail> {
     Ok(settings)
 }
 
-/// Appends the key of a setting, as Git lists it, and an LF.
-fn push_key(alloc: Global, keys: &mut Vec<u8>, setting: &Setting<'_>) -> Result<(), AllocError> {
-    keys.extend_from_slice(&setting.entry.key_text(alloc)?)?;
-    keys.push(b'\n')?;
-    Ok(())
-}
-
-#[test]
-fn a_file_is_that_of_a_command_at_first(rt: HostRuntime) {
-    assert!(rt; Settings::new(rt.alloc()).scope == Scope::Command);
-}
-
-/// Scopes, and the keys of their settings.
-static SCOPES: [(Scope, &str); 3] = [
-    (
-        Scope::Global,
-        "branch.main.rebase\nbranch.main.remote\nbranch.mainline.remote\nbranch.sort\n",
-    ),
-    (
-        Scope::Local,
-        "branch.Main.remote\nbranch.main.merge\nbranch.dev.remote\n",
-    ),
-    (Scope::Command, ""),
-];
-
-/// The keys of the settings of a scope.
-fn in_scope(alloc: Global, settings: &Settings<'_>, scope: Scope) -> Result<Vec<u8>, AllocError> {
+/// The keys of the settings of a scope, as Git lists them, each with a space behind it.
+fn keys(alloc: Global, settings: &Settings<'_>, scope: Scope) -> Result<Vec<u8>, AllocError> {
     let mut keys = Vec::new(alloc);
     for setting in &settings.entries {
         if setting.scope == scope {
-            push_key(alloc, &mut keys, setting)?;
+            keys.extend_from_slice(&setting.entry.key_text(alloc)?)?;
+            keys.push(b' ')?;
         }
     }
     Ok(keys)
 }
 
-#[test]
-fn lists_the_settings_of_a_scope(rt: HostRuntime) -> Result<(), Fail> {
-    let settings = both(rt.alloc())?;
-    for (scope, wanted) in &SCOPES {
-        let given = in_scope(rt.alloc(), &settings, *scope)?;
-        equal(&rt, BStr::new(&given), BStr::new(wanted.as_bytes()), *scope);
-    }
-    Ok(())
-}
-
-/// The texts, each with an LF behind it.
-fn lines(alloc: Global, texts: &[Vec<u8>]) -> Result<Vec<u8>, AllocError> {
-    let mut lines = Vec::new(alloc);
-    for text in texts {
-        lines.extend_from_slice(text)?;
-        lines.push(b'\n')?;
-    }
-    Ok(lines)
-}
+/// Scopes, and the keys of their settings.
+const SCOPES: [(Scope, &str); 3] = [
+    (
+        Scope::Global,
+        "branch.main.rebase branch.main.remote branch.mainline.remote branch.sort ",
+    ),
+    (
+        Scope::Local,
+        "branch.Main.remote branch.main.merge branch.dev.remote ",
+    ),
+    (Scope::Command, ""),
+];
 
 #[test]
-fn lists_each_subsection_once(rt: HostRuntime) -> Result<(), Fail> {
-    let settings = both(rt.alloc())?;
-    for (section, wanted) in [("BRANCH", "main\nmainline\nMain\ndev\n"), ("remote", "")] {
-        let found = settings.subsections(rt.alloc(), section.as_bytes())?;
-        let given = lines(rt.alloc(), &found)?;
-        equal(
-            &rt,
-            BStr::new(&given),
-            BStr::new(wanted.as_bytes()),
-            section,
-        );
+fn lists_settings_and_subsections(rt: HostRuntime) -> Result<(), Fail> {
+    let alloc = rt.alloc();
+    let settings = both(alloc)?;
+    assert!(rt; Settings::new(alloc).scope == Scope::Command);
+    for (scope, wanted) in SCOPES {
+        let given = keys(alloc, &settings, scope)?;
+        equal(&rt, BStr::new(&given), BStr::from(wanted), wanted);
+    }
+    assert!(rt; settings.subsections(alloc, b"remote")?.is_empty());
+    let found = settings.subsections(alloc, b"BRANCH")?;
+    assert!(rt; found.len() == 4);
+    for (given, wanted) in found.iter().zip(["main", "mainline", "Main", "dev"]) {
+        equal(&rt, BStr::new(given), BStr::from(wanted), wanted);
     }
     Ok(())
 }
@@ -109,42 +80,28 @@ fn word(alloc: Global, key: &str) -> Result<String, Fail> {
     }
 }
 
-/// Keys, and what is found among the words `o` and `q`. Control characters and what is not UTF-8 are escaped.
-static WORDS: [(&str, &str); 6] = [
-    ("branch.main.remote", "o"),
-    ("branch.Main.Remote", "q"),
-    ("branch.other.remote", ""),
-    ("branch.main.rebase", "user:2: branch.main.rebase: no value"),
-    (
-        "branch.mainline.remote",
-        "user:5: branch.mainline.remote: not one of the allowed words: \"p\"",
-    ),
-    (
-        "branch.main.merge",
-        "own:4: branch.main.merge: not one of the allowed words: \"a\\x1b\\xff\\\"\"",
-    ),
-];
+/// Keys, each before what is found among the words `o` and `q`. Control characters and what is not UTF-8 are escaped.
+const WORDS: &str = r#"branch.main.remote o
+branch.Main.Remote q
+branch.other.remote 
+branch.main.rebase user:2: branch.main.rebase: no value
+branch.mainline.remote user:5: branch.mainline.remote: not one of the allowed words: "p"
+branch.main.merge own:4: branch.main.merge: not one of the allowed words: "a\x1b\xff\"""#;
 
-#[test]
-fn takes_one_of_some_words(rt: HostRuntime) -> Result<(), Fail> {
-    for (key, wanted) in &WORDS {
-        let given = word(rt.alloc(), key)?;
-        equal(&rt, given.as_str(), *wanted, *key);
-    }
-    Ok(())
-}
-
-/// The message of the refusal of an integer, or nothing.
+/// The message of the refusal of an integer.
 fn refusal(alloc: Global, key: &str) -> Result<String, Fail> {
-    let settings = both(alloc)?;
-    match settings.get::<Integer>(key) {
+    match both(alloc)?.get::<Integer>(key) {
         Ok(_) => Ok(String::new(alloc)),
         Err(error) => Ok(error.to_string(alloc)?),
     }
 }
 
 #[test]
-fn a_refusal_escapes_control_characters(rt: HostRuntime) -> Result<(), Fail> {
+fn takes_one_of_some_words(rt: HostRuntime) -> Result<(), Fail> {
+    for row in WORDS.lines() {
+        let (key, wanted) = row.split_once(' ').ok_or("a key")?;
+        equal(&rt, word(rt.alloc(), key)?.as_str(), wanted, key);
+    }
     let alone = refusal(rt.alloc(), "branch.main.rebase")?;
     assert!(&rt; alone.as_str() == "user:2: branch.main.rebase: no value");
     let fault = Fault::Integer.text();

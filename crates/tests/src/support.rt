@@ -1,12 +1,16 @@
-//! The assertions of a row, and readers, writers and memory that fail when a test tells them to.
+//! The assertion of a row, written once, since each use of an assertion with a message has its own proof.
 
-mod hoard;
-mod reader;
-mod row;
-pub mod six_lines;
-mod writer;
+use std::fmt::Debug;
+use std::process::Abort;
 
-pub use hoard::{asks_once, can_starve, is_starved, spares, starved};
-pub use reader::Reader;
-pub use row::{equal, holds};
-pub use writer::{Turn, Writer};
+/// Asserts that both values are equal. Otherwise the test ends, and shows both values and their row.
+pub fn equal<T, R>(rt: &impl Abort, given: T, wanted: T, row: R)
+where
+    T: Copy + PartialEq + Debug,
+    R: Copy + Debug,
+{
+    assert!(rt;
+        given == wanted,
+        "{row:?}: {given:?} in place of {wanted:?}"
+    );
+}

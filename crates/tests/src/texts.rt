@@ -1,5 +1,5 @@
-//! The texts of errors, which no contract states, and one text of each kind of value, since no contract says
-//! that `Display` succeeds.
+//! What `Display` writes of errors and of one value of each kind, since no contract says that it succeeds. The texts of
+//! faults are in crates/gix_config_value_c/tests/calls.c.
 
 use crate::support::equal;
 use gix_config_value::canonical::UnknownKind;
@@ -9,41 +9,15 @@ use gix_config_value::json::JsonError;
 use gix_config_value::path::interpolate::{Class, Error, Place};
 use gix_config_value::program::RunError;
 use gix_config_value::{Boolean, Color, Fault, Integer};
-use std::alloc::{AllocError, Global};
-use std::fmt::Display;
-use std::process::Abort;
+use std::alloc::AllocError;
 use std::test::Fail;
 
-/// Asserts that each value displays its text.
-fn display<T: Display>(
-    rt: &impl Abort,
-    alloc: Global,
-    rows: &[(T, &str)],
-) -> Result<(), AllocError> {
-    for (value, text) in rows {
-        let shown = value.to_string(alloc)?;
-        equal(rt, shown.as_str(), *text, *text);
-    }
-    Ok(())
-}
-
-const OVERFLOW: &str = "integer suffix multiplication overflows `i64`";
-
-static FAULTS: [(Fault, &str); 5] = [
-    (
-        Fault::Boolean,
-        "Booleans need to be 'no', 'off', 'false', '' or 'yes', 'on', 'true' or any number",
-    ),
-    (
-        Fault::Integer,
-        "Integers needs to be positive or negative numbers which may have a suffix like 1k, 42, or 50G",
-    ),
-    (Fault::Overflow, OVERFLOW),
-    (Fault::OutOfRange, "integer is out of range"),
-    (
-        Fault::Color,
-        "Colors are specific color values and their attributes, like 'brightred', or 'blue'",
-    ),
+const FAULTS: [Fault; 5] = [
+    Fault::Boolean,
+    Fault::Integer,
+    Fault::Overflow,
+    Fault::OutOfRange,
+    Fault::Color,
 ];
 
 macro_rules! ill_formed {
@@ -52,72 +26,66 @@ macro_rules! ill_formed {
     };
 }
 
-static PATH_ERRORS: [(Error<'static>, &str); 11] = [
-    (Error::PathMissing, "path is missing"),
-    (Error::InstallDirMissing, "git install dir is missing"),
-    (Error::HomeMissing, "home dir is missing"),
-    (Error::LookupMissing, "home for user lookup is missing"),
-    (Error::UserNotFound, "pwd user info is missing"),
-    (
-        ill_formed!(PastPrefix),
-        "Ill-formed UTF-8 in path past %(prefix)",
-    ),
-    (ill_formed!(PastHome), "Ill-formed UTF-8 in path past ~/"),
-    (ill_formed!(Username), "Ill-formed UTF-8 in username"),
-    (
-        ill_formed!(PastUser),
-        "Ill-formed UTF-8 in path past ~user/",
-    ),
-    (ill_formed!(Whole), "Ill-formed UTF-8 in path"),
-    (Error::Memory(AllocError), "no memory"),
+static PATH_ERRORS: [Error<'static>; 11] = [
+    Error::PathMissing,
+    Error::InstallDirMissing,
+    Error::HomeMissing,
+    Error::LookupMissing,
+    Error::UserNotFound,
+    ill_formed!(PastPrefix),
+    ill_formed!(PastHome),
+    ill_formed!(Username),
+    ill_formed!(PastUser),
+    ill_formed!(Whole),
+    Error::Memory(AllocError),
 ];
 
 #[test]
-fn errors_have_texts(rt: HostRuntime) {
-    assert!(rt; display(&rt, rt.alloc(), &FAULTS).is_ok());
-    assert!(rt; display(&rt, rt.alloc(), &PATH_ERRORS).is_ok());
-}
-
-#[test]
-fn errors_of_calls_have_texts(rt: HostRuntime) -> Result<(), Fail> {
-    let (overflow, memory) = (JsonError::Overflow, JsonError::Memory(AllocError));
-    let shown = format!(in rt.alloc(); "{overflow}; {memory}")?;
-    assert!(rt; shown.as_str() == "integer suffix multiplication overflows `i64`; no memory");
-    let (read, write, memory) = (
-        RunError::Read,
-        RunError::Write,
-        RunError::Memory(AllocError),
-    );
-    let shown = format!(in rt.alloc(); "{read}; {write}; {memory}")?;
-    assert!(rt; shown.as_str() == "cannot read; cannot write; no memory");
-    let shown = UnknownKind.to_string(rt.alloc())?;
-    let kinds = "Kinds are suffix, integer, amount, boolean, name, attribute and color";
-    assert!(rt; shown.as_str() == kinds);
+fn errors_have_texts(rt: HostRuntime) -> Result<(), Fail> {
+    for fault in FAULTS {
+        let shown = fault.to_string(rt.alloc())?;
+        equal(&rt, shown.as_str(), fault.text(), "a fault");
+    }
+    for error in &PATH_ERRORS {
+        let shown = error.to_string(rt.alloc())?;
+        equal(&rt, shown.as_str(), error.text(), "a path");
+    }
+    assert!(rt; Error::Memory(AllocError).text() == "no memory");
+    let (overflow, refused) = (JsonError::Overflow, JsonError::Memory(AllocError));
+    let (read, write) = (RunError::Read, RunError::Write);
+    let memory = RunError::Memory(AllocError);
+    let shown = format!(in rt.alloc();
+        "{overflow}; {refused}; {read}; {write}; {memory}; {UnknownKind}"
+    )?;
+    let wanted =
+        "integer suffix multiplication overflows `i64`; no memory; cannot read; cannot write; \
+        no memory; Kinds are suffix, integer, amount, boolean, name, attribute and color";
+    equal(&rt, shown.as_str(), wanted, "errors of calls");
     Ok(())
 }
 
 #[test]
-fn numbers_and_booleans_have_texts(rt: HostRuntime) -> Result<(), Fail> {
+fn values_have_texts(rt: HostRuntime) -> Result<(), Fail> {
     let integer = Integer {
         value: 16,
         suffix: Some(Suffix::Kibi),
     };
-    let amount = Amount(-5);
-    let boolean = Boolean(true);
-    let shown = format!(in rt.alloc(); "{} {integer} {amount} {boolean}", Suffix::Mebi)?;
-    assert!(rt; shown.as_str() == "m 16k -5 true");
-    Ok(())
-}
-
-#[test]
-fn parts_of_colors_have_texts(rt: HostRuntime) -> Result<(), Fail> {
+    let (amount, boolean) = (Amount(-5), Boolean(true));
     let color = Color {
         foreground: Some(Name::Red),
         background: Some(Name::Blue),
         attributes: Attribute::BOLD,
     };
-    let name = Name::Rgb(255, 17, 187);
-    let shown = format!(in rt.alloc(); "{name} {}; {color}", Attribute::NO_UL)?;
-    assert!(rt; shown.as_str() == "#ff11bb noul; red blue bold");
+    let (name, attribute) = (Name::Rgb(255, 17, 187), Attribute::NO_UL);
+    let shown = format!(in rt.alloc();
+        "{} {integer} {amount} {boolean} {name} {attribute}; {color}",
+        Suffix::Mebi
+    )?;
+    equal(
+        &rt,
+        shown.as_str(),
+        "m 16k -5 true #ff11bb noul; red blue bold",
+        "values",
+    );
     Ok(())
 }

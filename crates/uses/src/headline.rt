@@ -96,6 +96,17 @@ pub fn color_of_joined(joined_texts: BStr<'_>) -> Option<Color>
 
 /// The color of two texts that are read one by one and composed, as if white space joined them. `compose` asks
 /// for no proof that the colors have texts.
+///
+/// ```rust
+/// use bstr::BStr;
+/// use uses::headline::color_of_both;
+///
+/// let both = |front, back| color_of_both(BStr::from(front), BStr::from(back));
+/// let color = both("bold red", "ul blue").ok_or("no color")?;
+/// assert_eq!(rt; color.shown().as_str(), "red blue bold ul");
+/// assert!(rt; both("red blue", "green").is_none());
+/// assert!(rt; both("red", "Bold").is_none());
+/// ```
 pub fn color_of_both(front: BStr<'_>, back: BStr<'_>) -> Option<Color>
     ensures { JoinedHeadline (bstr_bytes front.entry) (bstr_bytes back.entry) result }
 {

@@ -14,6 +14,13 @@ pub fn default_limit() -> usize
 }
 
 /// The color of a warning.
+///
+/// ```rust
+/// use uses::literals::{default_limit, default_warning};
+///
+/// assert_eq!(rt; default_limit(), 10_485_760);
+/// assert_eq!(rt; default_warning().shown().as_str(), "brightred bold");
+/// ```
 pub fn default_warning() -> Color
     ensures names { (result.foreground ≡ Some names.BrightRed) × (result.background ≡ None) }
     ensures attributes { result.attributes ≡ BOLD }

@@ -10,6 +10,14 @@ use gix_config_value::path::interpolate::{Context, Error, absent, home_for_user}
 use std::alloc::Global;
 
 /// The interpolated path, if `~` means this home directory and no user is looked up.
+///
+/// ```rust
+/// use gix_config_value::Path;
+/// use uses::paths::path_at_home;
+///
+/// let path = Path::from_text(alloc, "~/x")?;
+/// assert_eq!(rt; path_at_home(alloc, &path, "/h")?.as_str(), "/h/x");
+/// ```
 pub fn path_at_home<'p>(alloc: Global, path: &'p Path, home: &str) -> Result<String, Error<'p>>
     ensures { Interpolated (record { install_dir = None; home_dir = Some home.now; users = no_lookup })
         (bstring_bytes path.now.value) result }
@@ -25,6 +33,15 @@ pub fn path_at_home<'p>(alloc: Global, path: &'p Path, home: &str) -> Result<Str
 }
 
 /// The interpolated path, if `~user` means the home directory that the passwd text has for that user.
+///
+/// ```rust
+/// use gix_config_value::Path;
+/// use uses::paths::path_of_user;
+///
+/// let passwd = "a:x:1:1::/h/a\na:x:1:1:g:/h/b:/sh"; // only the second line has seven fields
+/// let path = Path::from_text(alloc, "~a/x")?;
+/// assert_eq!(rt; path_of_user(alloc, &path, passwd)?.as_str(), "/h/b/x");
+/// ```
 pub fn path_of_user<'p>(alloc: Global, path: &'p Path, passwd: &str) -> Result<String, Error<'p>>
     ensures { Interpolated
         (record { install_dir = None; home_dir = None; users = looked_up (IsHomeIn passwd.now) })

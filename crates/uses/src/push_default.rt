@@ -12,6 +12,16 @@ use gix_config_value::canonical::{CanonicalText, Value};
 use gix_config_value::settings::{Refused, lookup};
 
 /// What `git push` pushes by default, by the words of git-config(1).
+///
+/// ```rust
+/// use bstr::BStr;
+/// use gix_config_value::canonical::normalize_as;
+/// use uses::push_default::PushDefault;
+///
+/// let text = normalize_as::<PushDefault>(BStr::from("tracking")).ok_or("refused")?;
+/// assert_eq!(rt; text.as_str(), "upstream");
+/// assert!(rt; normalize_as::<PushDefault>(BStr::from("Simple")).is_none());
+/// ```
 #[derive(Clone, Copy, PartialEq, Eq, Debug)]
 pub enum PushDefault {
     Nothing,
@@ -75,6 +85,14 @@ impl Value for PushDefault {
 
 /// The value of `push.default`: that of the last entry that sets it, or `simple` if no entry does. Returns a
 /// refusal if the text of that entry has no value.
+///
+/// ```rust
+/// use uses::push_default::{PushDefault, push_default};
+///
+/// let entries: [(&[u8], &[u8]); 1] = [(b"push.default", b"matching")];
+/// assert!(rt; push_default(&entries) == Ok(PushDefault::Matching));
+/// assert!(rt; push_default(&[]) == Ok(PushDefault::Simple));
+/// ```
 pub fn push_default<'a>(entries: &[(&[u8], &'a [u8])]) -> Result<PushDefault, Refused<'a>>
     ensures { MatchResult result
         (Finds PushDefaultText (entry_texts entries.now) (codes "push.default") values.Simple)

@@ -11,6 +11,15 @@ use gix_config_value::canonical::TryRead;
 use std::alloc::Global;
 
 /// A file that is read first, and not because another file includes it.
+///
+/// ```rust
+/// use config_file::FilePlace;
+/// use uses::setting_headline::FirstFile;
+///
+/// let place = FilePlace { name: b"/etc/gitconfig", real_dir: b"/etc" };
+/// let first = FirstFile { place, text: b"[core]\n\tbare\n" };
+/// assert!(rt; first.text.starts_with(b"[core]"));
+/// ```
 #[derive(Clone, Copy)]
 pub struct FirstFile<'t> {
     /// Where the file is.
@@ -20,6 +29,17 @@ pub struct FirstFile<'t> {
 }
 
 /// Why a setting has no value of the wanted type.
+///
+/// ```rust
+/// use uses::setting_headline::NoValue;
+///
+/// let told = |none: &NoValue<'_>| match none {
+///     NoValue::Key(_) => "no key",
+///     NoValue::Stops(_) => "a file cannot be read",
+///     NoValue::Refused { .. } => "the text has no such value",
+/// };
+/// assert_eq!(rt; told(&NoValue::Key(config_file::KeyError::NoName)), "no key");
+/// ```
 #[derive(Debug, Drop)]
 pub enum NoValue<'t> {
     /// Git refuses the key.
@@ -62,6 +82,37 @@ fn read_all<'t, F: Files<'t>>(
 
 /// The value that a key has in these first files and in the files that they include, or `None` if no entry has
 /// the key.
+///
+/// ```rust
+/// use bumpalo::Bump;
+/// use config_host::surroundings::Followed;
+/// use config_host::{Disk, Surroundings};
+/// use gix_config_value::{Boolean, Fault};
+/// use std::fs;
+/// use uses::setting_headline::{FirstFile, NoValue, value_of};
+///
+/// fs::write(&rt, "headline-a", b"[core]\n\tbare = no\n\tx = 1\n[b]\n\tx")?;
+/// fs::write(&rt, "headline-b", b"[include]\n\tpath = headline-c\n[b]\n\tx = \"2 \"")?;
+/// fs::write(&rt, "headline-c", b"[core]\n\tbare")?;
+/// let texts = Bump::new(rt.alloc());
+/// let disk = Disk::new(&rt, &texts);
+/// let surroundings = Surroundings::new(&disk, Followed::AsGit)?;
+/// let known = surroundings.known();
+/// let (place, text) = disk.first(b"headline-a").expect(&rt, "a text");
+/// let first = FirstFile { place, text };
+/// let (place, text) = disk.first(b"headline-b").expect(&rt, "a text");
+/// let files = [first, FirstFile { place, text }];
+/// for (key, wanted) in [
+///     ("core.bare", Some(Boolean(true))),
+///     ("core.x", Some(Boolean(true))),
+///     ("core.y", None),
+/// ] {
+///     let found: Result<Option<Boolean>, NoValue<'_>> = value_of(alloc, &disk, &known, &files, key);
+///     assert!(rt; matches!(found, Ok(found) if found == wanted));
+/// }
+/// let found: Result<Option<Boolean>, NoValue<'_>> = value_of(alloc, &disk, &known, &files, "b.x");
+/// assert!(rt; matches!(found, Err(NoValue::Refused { file: b"headline-b", line: 4, fault: Fault::Boolean, .. })));
+/// ```
 pub fn value_of<'t, F: Files<'t>, V: TryRead>(
     alloc: Global,
     files: &F,

@@ -4,7 +4,6 @@
 use bstr::BStr;
 use bumpalo::Bump;
 use config_file::{Key, Setting};
-use config_host::environment::Host;
 use config_host::{HereError, settings_here};
 use std::io::{self, Write};
 
@@ -29,13 +28,38 @@ fn write<W: Write>(out: &mut W, key: &str, setting: Option<&Setting<'_>>) -> io:
 }
 
 /// Writes the six settings of a folder. The `main` of a program passes `&rt` and `io::writer(&rt)`.
-pub fn six_settings<'t, R: Host, W: Write>(
-    host: &'t R,
+///
+/// ```rust
+/// use bumpalo::Bump;
+/// use std::fs;
+/// use uses::six_settings::six_settings;
+///
+/// for folder in ["uses.six/objects", "uses.six/refs"] {
+///     fs::create_dir_all(&rt, folder)?;
+/// }
+/// fs::write(&rt, "uses.six/HEAD", b"ref: refs/heads/main\n")?;
+/// let own = "[core]\n\tbare = true\n\teditor = vim -c \\\"set tw=72\\\"\n[user]\n\tname = Bob\n\tname = Ann\n\
+///     [pull]\n\trebase\n[remote \"origin\"]\n\turl = https://example.com/a.git\n";
+/// fs::write(&rt, "uses.six/config", own.as_bytes())?;
+/// let texts = Bump::new(rt.alloc());
+/// let mut written = Vec::new(rt.alloc());
+/// assert!(rt; six_settings(&rt, &texts, b"uses.six", &mut written).is_ok());
+/// let first = "local\tconfig:2\tcore.bare = true\n\
+///     local\tconfig:3\tcore.editor = vim -c \"set tw=72\"\n\
+///     local\tconfig:6\tuser.name = Ann\n";
+/// let last = "local\tconfig:8\tpull.rebase = true\n\
+///     local\tconfig:10\tremote.origin.url = https://example.com/a.git\n";
+/// // between them is push.default, which no file of the repository sets
+/// assert!(rt; written.starts_with(first.as_bytes()) && written.ends_with(last.as_bytes()));
+/// fs::remove_dir_all(&rt, "uses.six")?;
+/// ```
+pub fn six_settings<'t, W: Write>(
+    rt: &'t HostRuntime,
     texts: &'t Bump,
     folder: &[u8],
     out: &mut W,
 ) -> Result<(), HereError<'t>> {
-    let settings = settings_here(host, texts, folder)?;
+    let settings = settings_here(rt, texts, folder)?;
     for key in KEYS {
         if let Ok(parsed) = Key::parse(key.as_bytes()) {
             write(out, key, settings.last(&parsed))?;

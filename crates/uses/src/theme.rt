@@ -15,6 +15,18 @@ pub fn drawn(default: Color, user: Option<Color>, depth: Depth) -> Color {
 }
 
 /// A line of a preview: the name, a sample in the color, and the end of the color.
+///
+/// ```rust
+/// use gix_config_value::Color;
+/// use gix_config_value::color::Depth;
+/// use uses::theme::{drawn, preview};
+///
+/// let (default, user) = (Color::try_from("bold red")?, Color::try_from("nobold #ff8800")?);
+/// let line = preview(alloc, "old", drawn(default, Some(user), Depth::Ansi256))?;
+/// assert_eq!(rt; line.as_str(), "old \u{1b}[22;38;5;208msample\u{1b}[m");
+/// let line = preview(alloc, "old", drawn(default, None, Depth::Ansi256))?;
+/// assert_eq!(rt; line.as_str(), "old \u{1b}[1;31msample\u{1b}[m");
+/// ```
 pub fn preview(alloc: Global, name: &str, color: Color) -> Result<String, AllocError>
     ensures { IfOk result (λ line. line.bytes.items
         ≡ name.now ++ codes " " ++ escape_sequence color ++ codes "sample\u{1b}[m") }
