@@ -127,7 +127,7 @@ pub(crate) fn changed(alloc: Global, text: &[u8], mended: &[Mended]) -> Result<V
 /// Makes these changes in the file of this name, which has this text. Returns its new text.
 pub(crate) fn change_file<'t>(
     alloc: Global,
-    disk: &Disk<'t, HostRuntime>,
+    disk: &Disk<'t>,
     name: &[u8],
     text: &[u8],
     mended: &[Mended],

@@ -99,11 +99,7 @@ fn add<'t>(names: &mut Vec<&'t [u8]>, name: &'t [u8]) -> Result<(), AllocError> 
 }
 
 /// The names of files, which are kept.
-fn named<'t>(
-    alloc: Global,
-    disk: &Disk<'t, HostRuntime>,
-    names: &[&str],
-) -> Result<Vec<&'t [u8]>, AllocError> {
+fn named<'t>(alloc: Global, disk: &Disk<'t>, names: &[&str]) -> Result<Vec<&'t [u8]>, AllocError> {
     let mut found = Vec::new(alloc);
     for name in names {
         add(&mut found, disk.kept(name.as_bytes())?)?;
@@ -124,7 +120,7 @@ struct Checking<'c, 't> {
     asked: Asked<'c, 'c>,
     options: Options<'t>,
     report: Report<'c>,
-    disk: Disk<'t, HostRuntime>,
+    disk: Disk<'t>,
     surroundings: Surroundings<'t>,
     /// The real names of the files that are checked, or named and checked later.
     seen: BTreeSet<Vec<u8>>,
@@ -739,10 +735,7 @@ impl<'c, 't> Checking<'c, 't> {
 }
 
 /// The options of a check, with the users of this system or, with `--root`, of the one in that folder.
-fn options_of<'t>(
-    disk: &Disk<'t, HostRuntime>,
-    asked: &Asked<'_, '_>,
-) -> Result<Options<'t>, AllocError> {
+fn options_of<'t>(disk: &Disk<'t>, asked: &Asked<'_, '_>) -> Result<Options<'t>, AllocError> {
     let found = Users::new(disk, asked.root.unwrap_or("").as_bytes())?;
     let has_home = found.home.is_some();
     let users = match found.passwd {

@@ -1,6 +1,6 @@
 //! The settings of a command: those of GIT_CONFIG_COUNT, and those of `git -c`.
 
-use crate::environment::{Host, variable};
+use crate::environment::variable;
 use crate::error::HereError;
 use config_file::{CommandError, count_of, push_parameters, push_setting};
 use std::alloc::AllocError;
@@ -14,14 +14,14 @@ fn told(error: CommandError) -> HereError<'static> {
 }
 
 /// The value of the variable with this name and this number, or `None` if it is not set.
-fn numbered<R: Host>(host: &R, name: &str, number: usize) -> Result<Option<Vec<u8>>, AllocError> {
+fn numbered(host: &HostRuntime, name: &str, number: usize) -> Result<Option<Vec<u8>>, AllocError> {
     let name = format!(in host.alloc(); "{name}{number}")?;
     variable(host, &name)
 }
 
 /// Appends the setting of this number.
-fn push_numbered<R: Host>(
-    host: &R,
+fn push_numbered(
+    host: &HostRuntime,
     text: &mut Vec<u8>,
     number: usize,
 ) -> Result<(), HereError<'static>> {
@@ -35,7 +35,7 @@ fn push_numbered<R: Host>(
 }
 
 /// Appends the settings of GIT_CONFIG_COUNT.
-fn push_counted<R: Host>(host: &R, text: &mut Vec<u8>) -> Result<(), HereError<'static>> {
+fn push_counted(host: &HostRuntime, text: &mut Vec<u8>) -> Result<(), HereError<'static>> {
     let Some(count) = variable(host, "GIT_CONFIG_COUNT")? else {
         return Ok(());
     };
@@ -48,7 +48,7 @@ fn push_counted<R: Host>(host: &R, text: &mut Vec<u8>) -> Result<(), HereError<'
 
 /// The settings of the command as the text of a file: first those of GIT_CONFIG_COUNT, and then those of
 /// GIT_CONFIG_PARAMETERS, in which `git -c` hands them on.
-pub fn command_text<R: Host>(host: &R) -> Result<Vec<u8>, HereError<'static>> {
+pub fn command_text(host: &HostRuntime) -> Result<Vec<u8>, HereError<'static>> {
     let mut text = Vec::new(host.alloc());
     push_counted(host, &mut text)?;
     if let Some(parameters) = variable(host, "GIT_CONFIG_PARAMETERS")? {

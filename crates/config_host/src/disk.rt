@@ -2,7 +2,7 @@
 ghost use Rattle.std.specs.Prelude.{◌≡◌, ◌⊎◌, ⊤, IfOk};
 ghost use Rattle.config_host.specs.declared.disk.ReadError.TheVariants.{Name, System};
 
-use crate::environment::{Host, current_folder};
+use crate::environment::current_folder;
 use crate::names::{answer, path_inside, real_name, split_last, text_of};
 use bstr::BStr;
 use bumpalo::Bump;
@@ -163,7 +163,7 @@ fn is_included(kind: FileType) -> bool {
 }
 
 /// Opens the file of this name, which has to be one that may be included if `is_first` is false.
-pub(crate) fn opened<R: Host>(host: &R, name: &str, is_first: bool) -> Result<R::File, ReadError> {
+pub(crate) fn opened(host: &HostRuntime, name: &str, is_first: bool) -> Result<File, ReadError> {
     if !is_first && !is_included(fs::metadata(host, name)?.file_type()) {
         return Err(ReadError::Kind);
     }
@@ -189,7 +189,7 @@ pub(crate) fn known_length<F: OpenFile>(
 }
 
 /// The name of a file from the root, without links as far as the system knows it.
-fn name_from_root<R: Host>(host: &R, name: &[u8]) -> io::Result<Vec<u8>> {
+fn name_from_root(host: &HostRuntime, name: &[u8]) -> io::Result<Vec<u8>> {
     if let Some(real) = real_name(host, name)? {
         return Ok(real);
     }
@@ -220,16 +220,16 @@ fn name_from_root<R: Host>(host: &R, name: &[u8]) -> io::Result<Vec<u8>> {
 /// assert_eq!(rt; settings.entries.len(), 2);
 /// ```
 #[derive(Drop)]
-pub struct Disk<'t, R> {
-    pub(crate) host: &'t R,
+pub struct Disk<'t> {
+    pub(crate) host: &'t HostRuntime,
     pub(crate) texts: &'t Bump,
     /// The folder in which each name begins that does not begin at the root. There is none if each has to.
     folder: Option<&'t [u8]>,
 }
 
-impl<'t, R: Host> Disk<'t, R> {
+impl<'t> Disk<'t> {
     /// The files of this host, whose texts are kept there. Names begin in the current folder.
-    pub fn new(host: &'t R, texts: &'t Bump) -> Disk<'t, R> {
+    pub fn new(host: &'t HostRuntime, texts: &'t Bump) -> Disk<'t> {
         Disk {
             host,
             texts,
@@ -238,7 +238,7 @@ impl<'t, R: Host> Disk<'t, R> {
     }
 
     /// The same files, with names that begin in this folder. An empty one is the current folder.
-    pub fn within(&self, folder: &[u8]) -> Result<Disk<'t, R>, AllocError> {
+    pub fn within(&self, folder: &[u8]) -> Result<Disk<'t>, AllocError> {
         Ok(Disk {
             host: self.host,
             texts: self.texts,
@@ -247,7 +247,7 @@ impl<'t, R: Host> Disk<'t, R> {
     }
 
     /// The same files.
-    pub fn again(&self) -> Disk<'t, R> {
+    pub fn again(&self) -> Disk<'t> {
         Disk {
             host: self.host,
             texts: self.texts,
@@ -256,7 +256,7 @@ impl<'t, R: Host> Disk<'t, R> {
     }
 
     /// The same files, each of which has to be named from the root, as in the settings of a command.
-    pub fn from_root(&self) -> Disk<'t, R> {
+    pub fn from_root(&self) -> Disk<'t> {
         Disk {
             host: self.host,
             texts: self.texts,
@@ -353,7 +353,7 @@ impl<'t, R: Host> Disk<'t, R> {
     }
 }
 
-impl<'t, R: Host> Files<'t> for Disk<'t, R> {
+impl<'t> Files<'t> for Disk<'t> {
     ghost contents = { λ _ _ _. ⊤ };
 
     /// What the file of this name holds. It is missing if it does not exist, or if its name is below a file.

@@ -5,28 +5,10 @@ ghost use Rattle.config_host.specs.declared.environment.ArgumentError.TheVariant
 
 use crate::disk::Disk;
 use bstr::BStr;
-use std::alloc::{AllocError, AllocGlobal};
+use std::alloc::AllocError;
 use std::env::{Env, FillError};
-use std::fs::Files;
 use std::io::{self, ErrorKind};
 use thiserror::Error;
-
-/// A system of files, an environment and memory: those of the program, or of a test.
-///
-/// ```rust
-/// use config_host::Host;
-/// use config_host::environment::variable;
-/// use std::alloc::AllocError;
-///
-/// // is called with the program's `rt`, and by a test with a system of its own
-/// fn has_home<R: Host>(host: &R) -> Result<bool, AllocError> {
-///     Ok(variable(host, "HOME")?.is_some())
-/// }
-/// assert!(rt; !has_home(&rt).expect(&rt, "memory"));
-/// ```
-pub trait Host: Files + Env + AllocGlobal {}
-
-impl<R: Files + Env + AllocGlobal> Host for R {}
 
 /// Why a program cannot say where it runs.
 ///
@@ -113,7 +95,7 @@ const USUAL: usize = 256;
 /// The number of bytes that is enough for the name of a folder.
 const LONGEST_FOLDER: usize = 4096;
 
-fn fill<R: Env>(host: &R, asked: Asked<'_>, buffer: &mut [u8]) -> Result<usize, FillError> {
+fn fill(host: &HostRuntime, asked: Asked<'_>, buffer: &mut [u8]) -> Result<usize, FillError> {
     match asked {
         Asked::Argument(index) => host.arg(index, buffer),
         Asked::Variable(name) => host.var(name, buffer),
@@ -121,7 +103,7 @@ fn fill<R: Env>(host: &R, asked: Asked<'_>, buffer: &mut [u8]) -> Result<usize, 
 }
 
 /// The bytes of what is asked for, or `None` if there is no such thing.
-fn bytes_of<R: Host>(host: &R, asked: Asked<'_>) -> Result<Option<Vec<u8>>, AllocError> {
+fn bytes_of(host: &HostRuntime, asked: Asked<'_>) -> Result<Option<Vec<u8>>, AllocError> {
     let mut size = USUAL;
     for _ in 0..usize::BITS {
         let mut bytes = Vec::new(host.alloc());
@@ -141,13 +123,13 @@ fn bytes_of<R: Host>(host: &R, asked: Asked<'_>) -> Result<Option<Vec<u8>>, Allo
 }
 
 /// The value of an environment variable, or `None` if it is not set.
-pub fn variable<R: Host>(host: &R, name: &str) -> Result<Option<Vec<u8>>, AllocError> {
+pub fn variable(host: &HostRuntime, name: &str) -> Result<Option<Vec<u8>>, AllocError> {
     bytes_of(host, Asked::Variable(name))
 }
 
 /// The value of an environment variable, which is kept, or `None` if it is not set.
-pub(crate) fn kept_variable<'t, R: Host>(
-    disk: &Disk<'t, R>,
+pub(crate) fn kept_variable<'t>(
+    disk: &Disk<'t>,
     name: &str,
 ) -> Result<Option<&'t [u8]>, AllocError> {
     match variable(disk.host, name)? {
@@ -157,8 +139,8 @@ pub(crate) fn kept_variable<'t, R: Host>(
 }
 
 /// The value of an environment variable that has to be UTF-8.
-pub(crate) fn text_variable<'t, R: Host>(
-    disk: &Disk<'t, R>,
+pub(crate) fn text_variable<'t>(
+    disk: &Disk<'t>,
     name: &'static str,
 ) -> Result<Option<&'t [u8]>, HostError> {
     match kept_variable(disk, name)? {
@@ -168,7 +150,7 @@ pub(crate) fn text_variable<'t, R: Host>(
 }
 
 /// The arguments of the program, which begin with its name.
-pub fn arguments<R: Host>(host: &R) -> Result<Vec<String>, ArgumentError> {
+pub fn arguments(host: &HostRuntime) -> Result<Vec<String>, ArgumentError> {
     let mut all = Vec::new(host.alloc());
     for index in 0..usize::MAX {
         let Some(argument) = bytes_of(host, Asked::Argument(index))? else {
@@ -187,7 +169,7 @@ pub fn arguments<R: Host>(host: &R) -> Result<Vec<String>, ArgumentError> {
 }
 
 /// The name of the current folder from the root, without links.
-pub(crate) fn current_folder<R: Host>(host: &R) -> io::Result<Vec<u8>> {
+pub(crate) fn current_folder(host: &HostRuntime) -> io::Result<Vec<u8>> {
     let mut bytes = Vec::new(host.alloc());
     if bytes.resize(LONGEST_FOLDER, 0).is_err() {
         return Err(io::Error::from(ErrorKind::OutOfMemory));

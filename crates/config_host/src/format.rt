@@ -1,7 +1,6 @@
 //! The format of a repository: its version, its extensions, and whether it is bare.
 
 use crate::disk::Disk;
-use crate::environment::Host;
 use crate::error::{HereError, Refusal};
 use config_file::{AddError, Setting, Settings};
 use gix_config_value::{Boolean, Integer};
@@ -77,8 +76,8 @@ fn store_in(text: &[u8]) -> &[u8] {
 }
 
 /// An error that says where a setting is, and why Git stops there.
-fn stop<'t, R: Host, F: fmt::Display + Drop>(
-    disk: &Disk<'t, R>,
+fn stop<'t, F: fmt::Display + Drop>(
+    disk: &Disk<'t>,
     setting: &Setting<'_>,
     fault: F,
 ) -> Result<HereError<'t>, AllocError> {
@@ -87,7 +86,7 @@ fn stop<'t, R: Host, F: fmt::Display + Drop>(
 }
 
 /// The boolean of a setting.
-fn boolean<'t, R: Host>(disk: &Disk<'t, R>, setting: &Setting<'_>) -> Result<bool, HereError<'t>> {
+fn boolean<'t>(disk: &Disk<'t>, setting: &Setting<'_>) -> Result<bool, HereError<'t>> {
     match setting.read::<Boolean>() {
         Ok(boolean) => Ok(boolean.0),
         Err(refused) => Err(stop(disk, setting, refused.fault)?),
@@ -95,10 +94,7 @@ fn boolean<'t, R: Host>(disk: &Disk<'t, R>, setting: &Setting<'_>) -> Result<boo
 }
 
 /// The text of a setting, which needs one.
-fn text<'s, 't, R: Host>(
-    disk: &Disk<'t, R>,
-    setting: &'s Setting<'_>,
-) -> Result<&'s [u8], HereError<'t>> {
+fn text<'s, 't>(disk: &Disk<'t>, setting: &'s Setting<'_>) -> Result<&'s [u8], HereError<'t>> {
     match setting.value.as_deref() {
         Some(text) => Ok(text),
         None => Err(stop(disk, setting, "no value")?),
@@ -106,7 +102,7 @@ fn text<'s, 't, R: Host>(
 }
 
 /// The version that a setting has.
-fn version<'t, R: Host>(disk: &Disk<'t, R>, setting: &Setting<'_>) -> Result<i32, HereError<'t>> {
+fn version<'t>(disk: &Disk<'t>, setting: &Setting<'_>) -> Result<i32, HereError<'t>> {
     match Integer::from_bytes::<i32>(setting.text()) {
         Ok(version) => Ok(version),
         Err(error) => Err(stop(disk, setting, error.fault)?),
@@ -114,8 +110,8 @@ fn version<'t, R: Host>(disk: &Disk<'t, R>, setting: &Setting<'_>) -> Result<i32
 }
 
 /// Whether an extension may have the value of this setting.
-fn is_right<'t, R: Host>(
-    disk: &Disk<'t, R>,
+fn is_right<'t>(
+    disk: &Disk<'t>,
     setting: &Setting<'_>,
     extension: Extension,
 ) -> Result<bool, HereError<'t>> {
@@ -132,8 +128,8 @@ fn is_right<'t, R: Host>(
 }
 
 /// Whether an extension is known. It then has to have a value that it may have.
-fn is_extension<'t, R: Host>(
-    disk: &Disk<'t, R>,
+fn is_extension<'t>(
+    disk: &Disk<'t>,
     setting: &Setting<'_>,
     extension: Extension,
 ) -> Result<bool, HereError<'t>> {
@@ -167,9 +163,9 @@ impl<'t> Format<'t> {
     }
 
     /// Takes an extension of this name, in lower case.
-    fn extend<R: Host>(
+    fn extend(
         &mut self,
-        disk: &Disk<'t, R>,
+        disk: &Disk<'t>,
         setting: &Setting<'_>,
         name: &[u8],
     ) -> Result<(), HereError<'t>> {
@@ -187,9 +183,9 @@ impl<'t> Format<'t> {
     }
 
     /// Takes what a setting of this key says of the work tree.
-    fn take_work_tree<R: Host>(
+    fn take_work_tree(
         &mut self,
-        disk: &Disk<'t, R>,
+        disk: &Disk<'t>,
         setting: &Setting<'_>,
         key: &[u8],
     ) -> Result<(), HereError<'t>> {
@@ -204,9 +200,9 @@ impl<'t> Format<'t> {
     }
 
     /// Takes what a setting of this key says.
-    fn take_named<R: Host>(
+    fn take_named(
         &mut self,
-        disk: &Disk<'t, R>,
+        disk: &Disk<'t>,
         setting: &Setting<'_>,
         key: &[u8],
     ) -> Result<(), HereError<'t>> {
@@ -222,21 +218,13 @@ impl<'t> Format<'t> {
     }
 
     /// Takes what a setting of the repository says.
-    fn take<R: Host>(
-        &mut self,
-        disk: &Disk<'t, R>,
-        setting: &Setting<'_>,
-    ) -> Result<(), HereError<'t>> {
+    fn take(&mut self, disk: &Disk<'t>, setting: &Setting<'_>) -> Result<(), HereError<'t>> {
         let key = setting.entry.key_text(disk.host.alloc())?;
         self.take_named(disk, setting, &key)
     }
 
     /// Takes what the settings of the repository say.
-    fn take_all<R: Host>(
-        &mut self,
-        disk: &Disk<'t, R>,
-        settings: &Settings<'_>,
-    ) -> Result<(), HereError<'t>> {
+    fn take_all(&mut self, disk: &Disk<'t>, settings: &Settings<'_>) -> Result<(), HereError<'t>> {
         for setting in &settings.entries {
             self.take(disk, setting)?;
         }
@@ -244,19 +232,15 @@ impl<'t> Format<'t> {
     }
 
     /// Takes what a setting of a work tree of its own says.
-    fn take_own<R: Host>(
-        &mut self,
-        disk: &Disk<'t, R>,
-        setting: &Setting<'_>,
-    ) -> Result<(), HereError<'t>> {
+    fn take_own(&mut self, disk: &Disk<'t>, setting: &Setting<'_>) -> Result<(), HereError<'t>> {
         let key = setting.entry.key_text(disk.host.alloc())?;
         self.take_work_tree(disk, setting, &key)
     }
 
     /// Takes what the settings of a work tree of its own say.
-    fn take_all_own<R: Host>(
+    fn take_all_own(
         &mut self,
-        disk: &Disk<'t, R>,
+        disk: &Disk<'t>,
         settings: &Settings<'_>,
     ) -> Result<(), HereError<'t>> {
         for setting in &settings.entries {
@@ -276,10 +260,7 @@ impl<'t> Format<'t> {
 }
 
 /// The entries of a file, or none if it cannot be read.
-fn settings_in<'t, R: Host>(
-    disk: &Disk<'t, R>,
-    name: &[u8],
-) -> Result<Settings<'t>, HereError<'t>> {
+fn settings_in<'t>(disk: &Disk<'t>, name: &[u8]) -> Result<Settings<'t>, HereError<'t>> {
     let mut settings = Settings::new(disk.host.alloc());
     let (place, text) = match disk.first(name) {
         Ok(found) => found,
@@ -295,10 +276,7 @@ fn settings_in<'t, R: Host>(
 
 /// The format that the file of a repository states. Git looks at no include here. A file that states no
 /// version states nothing.
-pub(crate) fn format_in<'t, R: Host>(
-    disk: &Disk<'t, R>,
-    file: &[u8],
-) -> Result<Format<'t>, HereError<'t>> {
+pub(crate) fn format_in<'t>(disk: &Disk<'t>, file: &[u8]) -> Result<Format<'t>, HereError<'t>> {
     let settings = settings_in(disk, file)?;
     let mut format = Format::new();
     format.take_all(disk, &settings)?;
@@ -309,8 +287,8 @@ pub(crate) fn format_in<'t, R: Host>(
 }
 
 /// Takes what the file of a work tree says of it.
-pub(crate) fn take_own_file<'t, R: Host>(
-    disk: &Disk<'t, R>,
+pub(crate) fn take_own_file<'t>(
+    disk: &Disk<'t>,
     format: &mut Format<'t>,
     file: &[u8],
 ) -> Result<(), HereError<'t>> {

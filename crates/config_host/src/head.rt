@@ -1,14 +1,13 @@
 //! HEAD of a git directory, and the branch that it names.
 
 use crate::disk::Disk;
-use crate::environment::Host;
 use crate::lines::line_of;
 use crate::names::{answer, path_inside, text_of};
 use crate::reftable::branch_in;
 use std::{fs, io};
 
 /// What the symbolic link of this name leads to, or `None` if this is no link.
-fn target_of<R: Host>(host: &R, name: &[u8]) -> io::Result<Option<Vec<u8>>> {
+fn target_of(host: &HostRuntime, name: &[u8]) -> io::Result<Option<Vec<u8>>> {
     match answer(fs::read_link(host, text_of(name)?))? {
         Some(target) => Ok(Some(target.as_path().as_str().as_bytes().to_vec(host.alloc())?)),
         None => Ok(None),
@@ -59,7 +58,7 @@ impl Head {
 }
 
 /// HEAD of a git directory, or `None` if it has none.
-fn head_of<R: Host>(host: &R, git_dir: &[u8]) -> io::Result<Option<Head>> {
+fn head_of(host: &HostRuntime, git_dir: &[u8]) -> io::Result<Option<Head>> {
     let name = path_inside(host.alloc(), git_dir, b"HEAD")?;
     if let Some(target) = target_of(host, &name)? {
         return Ok(Some(Head::Link(target)));
@@ -71,7 +70,7 @@ fn head_of<R: Host>(host: &R, git_dir: &[u8]) -> io::Result<Option<Head>> {
 }
 
 /// Whether a git directory has a HEAD that looks as Git's does.
-pub fn has_head<R: Host>(host: &R, git_dir: &[u8]) -> io::Result<bool> {
+pub fn has_head(host: &HostRuntime, git_dir: &[u8]) -> io::Result<bool> {
     match head_of(host, git_dir)? {
         Some(head) => Ok(head.is_valid()),
         None => Ok(false),
@@ -80,7 +79,7 @@ pub fn has_head<R: Host>(host: &R, git_dir: &[u8]) -> io::Result<bool> {
 
 /// The branch that HEAD of a git directory names, or `None` if it names no branch. If references are in a
 /// reftable, the file names `.invalid`, which no branch is called.
-pub fn branch_of<'t, R: Host>(disk: &Disk<'t, R>, git_dir: &[u8]) -> io::Result<Option<&'t [u8]>> {
+pub fn branch_of<'t>(disk: &Disk<'t>, git_dir: &[u8]) -> io::Result<Option<&'t [u8]>> {
     let Some(head) = head_of(disk.host, git_dir)? else {
         return Ok(None);
     };

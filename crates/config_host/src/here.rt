@@ -1,7 +1,7 @@
 //! All settings that Git reads in a folder, in one call.
 
 use crate::disk::Disk;
-use crate::environment::{Host, HostError};
+use crate::environment::HostError;
 use crate::error::{HereError, Refusal};
 use crate::reading::{seek_urls, settings_at};
 use crate::repository::{Location, find};
@@ -35,8 +35,8 @@ pub struct Here<'t> {
 }
 
 /// The settings that Git reads if it works in this folder, and uses this repository.
-fn settings_in<'t, R: Host>(
-    disk: &Disk<'t, R>,
+fn settings_in<'t>(
+    disk: &Disk<'t>,
     folder: &[u8],
     repository: Option<FoundRepository<'t>>,
 ) -> Result<Settings<'t>, HereError<'t>> {
@@ -45,10 +45,7 @@ fn settings_in<'t, R: Host>(
 }
 
 /// What Git reads where it works.
-fn read_at<'t, R: Host>(
-    disk: &Disk<'t, R>,
-    location: Location<'t>,
-) -> Result<Here<'t>, HereError<'t>> {
+fn read_at<'t>(disk: &Disk<'t>, location: Location<'t>) -> Result<Here<'t>, HereError<'t>> {
     let (folder, refusal) = (location.folder, location.refusal);
     Ok(Here {
         settings: settings_in(disk, folder, location.used()?)?,
@@ -59,8 +56,8 @@ fn read_at<'t, R: Host>(
 
 /// What Git reads if it is started in this folder, and why it uses no repository that is there. It fails as
 /// [`settings_here`] does.
-pub fn read_here<'t, R: Host>(
-    host: &'t R,
+pub fn read_here<'t>(
+    host: &'t HostRuntime,
     texts: &'t Bump,
     folder: &[u8],
 ) -> Result<Here<'t>, HereError<'t>> {
@@ -85,8 +82,8 @@ pub fn read_here<'t, R: Host>(
 ///     assert!(rt; !setting.file.is_empty());
 /// }
 /// ```
-pub fn settings_here<'t, R: Host>(
-    host: &'t R,
+pub fn settings_here<'t>(
+    host: &'t HostRuntime,
     texts: &'t Bump,
     folder: &[u8],
 ) -> Result<Settings<'t>, HereError<'t>> {
@@ -94,9 +91,7 @@ pub fn settings_here<'t, R: Host>(
 }
 
 /// Where Git works in the current folder, and its repository. A line at which Git stops is no error.
-fn found_here<'t, R: Host>(
-    disk: &Disk<'t, R>,
-) -> Result<(&'t [u8], Option<FoundRepository<'t>>), HostError> {
+fn found_here<'t>(disk: &Disk<'t>) -> Result<(&'t [u8], Option<FoundRepository<'t>>), HostError> {
     match find(disk, b"") {
         Ok(location) => Ok((location.folder, location.repository)),
         Err(HereError::Host(error)) => Err(error),
@@ -106,10 +101,7 @@ fn found_here<'t, R: Host>(
 }
 
 /// The name by which the system opens a file, or `None` if it is not there.
-fn opened_if_there<'t, R: Host>(
-    disk: &Disk<'t, R>,
-    name: &'t [u8],
-) -> io::Result<Option<&'t [u8]>> {
+fn opened_if_there<'t>(disk: &Disk<'t>, name: &'t [u8]) -> io::Result<Option<&'t [u8]>> {
     if !is_there(disk, name)? {
         return Ok(None);
     }
@@ -120,7 +112,7 @@ fn opened_if_there<'t, R: Host>(
 }
 
 /// The names by which the system opens those of these files that are there.
-fn those_there<'t, R: Host>(disk: &Disk<'t, R>, names: &[Named<'t>]) -> io::Result<Vec<&'t [u8]>> {
+fn those_there<'t>(disk: &Disk<'t>, names: &[Named<'t>]) -> io::Result<Vec<&'t [u8]>> {
     let mut files = Vec::new(disk.host.alloc());
     for named in names {
         if let Some(name) = opened_if_there(disk, named.name)? {
@@ -131,8 +123,8 @@ fn those_there<'t, R: Host>(disk: &Disk<'t, R>, names: &[Named<'t>]) -> io::Resu
 }
 
 /// The names by which the system opens the files that Git reads where it works.
-fn files_at<'t, R: Host>(
-    disk: &Disk<'t, R>,
+fn files_at<'t>(
+    disk: &Disk<'t>,
     folder: &[u8],
     repository: Option<FoundRepository<'t>>,
 ) -> io::Result<Vec<&'t [u8]>> {
@@ -141,14 +133,14 @@ fn files_at<'t, R: Host>(
 
 /// The names of the files that Git reads in the current folder, by which the system opens them, in the order
 /// in which Git reads them. A line at which Git stops is no error here.
-pub fn files_here<'t, R: Host>(disk: &Disk<'t, R>) -> Result<Vec<&'t [u8]>, HostError> {
+pub fn files_here<'t>(disk: &Disk<'t>) -> Result<Vec<&'t [u8]>, HostError> {
     let (folder, repository) = found_here(disk)?;
     Ok(files_at(disk, folder, repository)?)
 }
 
 /// Finds the repository of the current folder, if this text has a condition and it is not known yet.
-fn prepare_repository<'t, R: Host>(
-    disk: &Disk<'t, R>,
+fn prepare_repository<'t>(
+    disk: &Disk<'t>,
     surroundings: &mut Surroundings<'t>,
     text: &[u8],
 ) -> Result<(), HereError<'t>> {
@@ -161,8 +153,8 @@ fn prepare_repository<'t, R: Host>(
 
 /// Finds what conditions ask about, if this text has one and it is not known yet: the repository of the
 /// current folder, and the URLs of remotes in these texts. A walk over one of them comes to the text next.
-pub fn prepare<'t, R: Host>(
-    disk: &Disk<'t, R>,
+pub fn prepare<'t>(
+    disk: &Disk<'t>,
     surroundings: &mut Surroundings<'t>,
     sources: &[Source<'t>],
     text: &[u8],

@@ -37,7 +37,7 @@ pub mod text;
 pub mod users;
 
 pub use crate::disk::{Disk, ReadError};
-pub use crate::environment::{ArgumentError, Host, HostError, arguments};
+pub use crate::environment::{ArgumentError, HostError, arguments};
 pub use crate::error::{HereError, Refusal};
 pub use crate::here::{Here, files_here, read_here, settings_here};
 pub use crate::locked::{LockError, Locked};

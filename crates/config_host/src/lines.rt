@@ -1,6 +1,6 @@
 //! Files of one line, and variables that are on or off.
 
-use crate::environment::{Host, variable};
+use crate::environment::variable;
 use crate::names::{answer, is_file, path_inside, text_of, without_line_ends};
 use config_text::readers::TryRead;
 use gix_config_value::Boolean;
@@ -12,7 +12,7 @@ use std::io::{self, Read};
 const LONGEST: u64 = 1 << 16;
 
 /// The first bytes of a file, at most `longest`.
-fn first_bytes<R: Host>(host: &R, file: &str, longest: u64) -> io::Result<Vec<u8>> {
+fn first_bytes(host: &HostRuntime, file: &str, longest: u64) -> io::Result<Vec<u8>> {
     let mut text = Vec::new(host.alloc());
     File::open(host, file)?
         .take(longest)
@@ -21,8 +21,8 @@ fn first_bytes<R: Host>(host: &R, file: &str, longest: u64) -> io::Result<Vec<u8
 }
 
 /// The first bytes of a regular file, at most `longest`, or `None` if there is no such file.
-pub(crate) fn bytes_of<R: Host>(
-    host: &R,
+pub(crate) fn bytes_of(
+    host: &HostRuntime,
     file: &[u8],
     longest: u64,
 ) -> io::Result<Option<Vec<u8>>> {
@@ -33,7 +33,7 @@ pub(crate) fn bytes_of<R: Host>(
 }
 
 /// The text of a regular file without the line ends at its end, or `None` if there is no such text.
-pub fn line_of<R: Host>(host: &R, file: &[u8]) -> io::Result<Option<Vec<u8>>> {
+pub fn line_of(host: &HostRuntime, file: &[u8]) -> io::Result<Option<Vec<u8>>> {
     let Some(mut text) = bytes_of(host, file, LONGEST)? else {
         return Ok(None);
     };
@@ -43,12 +43,12 @@ pub fn line_of<R: Host>(host: &R, file: &[u8]) -> io::Result<Option<Vec<u8>>> {
 }
 
 /// The line of a file in a folder, or `None` if there is no such text.
-pub fn line_in<R: Host>(host: &R, folder: &[u8], name: &[u8]) -> io::Result<Option<Vec<u8>>> {
+pub fn line_in(host: &HostRuntime, folder: &[u8], name: &[u8]) -> io::Result<Option<Vec<u8>>> {
     line_of(host, &path_inside(host.alloc(), folder, name)?)
 }
 
 /// Whether an environment variable has a boolean text that is true.
-pub fn is_on<R: Host>(host: &R, name: &str) -> Result<bool, AllocError> {
+pub fn is_on(host: &HostRuntime, name: &str) -> Result<bool, AllocError> {
     let Some(value) = variable(host, name)? else {
         return Ok(false);
     };

@@ -7,11 +7,10 @@ ghost use Rattle.config_host.specs.declared.disk.ReadError.TheVariants.{System};
 ghost use Rattle.config_host.specs.declared.locked.LockError.TheVariants.{Held, Lock, Read};
 
 use crate::disk::{Disk, ReadError, known_length, opened};
-use crate::environment::Host;
 use crate::names::{folder_of, inside, joined, text_of};
 use bstr::BStr;
 use std::alloc::AllocError;
-use std::fs::{self, Files, OpenFile, OpenOptions, Permissions};
+use std::fs::{self, File, OpenFile, OpenOptions, Permissions};
 use std::io::{self, ErrorKind, Write};
 use std::os::unix::fs::{MetadataExt, PermissionsExt};
 use thiserror::Error;
@@ -85,7 +84,7 @@ fn refusal(lock: Vec<u8>, error: io::Error) -> LockError
 }
 
 /// What the link of this name leads to, or `None` if this is no link.
-fn target_of<'t, R: Host>(disk: &Disk<'t, R>, name: &[u8]) -> io::Result<Option<&'t [u8]>> {
+fn target_of<'t>(disk: &Disk<'t>, name: &[u8]) -> io::Result<Option<&'t [u8]>> {
     match fs::read_link(disk.host, text_of(name)?) {
         Ok(target) => Ok(Some(disk.kept(target.as_path().as_str().as_bytes())?)),
         Err(error) if matches!(error.kind(), ErrorKind::InvalidInput | ErrorKind::NotFound) => Ok(
@@ -96,7 +95,7 @@ fn target_of<'t, R: Host>(disk: &Disk<'t, R>, name: &[u8]) -> io::Result<Option<
 }
 
 /// The name of the file to which the links from this name lead. There need not be such a file.
-fn behind_links<'t, R: Host>(disk: &Disk<'t, R>, name: &'t [u8]) -> io::Result<&'t [u8]> {
+fn behind_links<'t>(disk: &Disk<'t>, name: &'t [u8]) -> io::Result<&'t [u8]> {
     let mut name = name;
     for _ in 0..LINKS {
         match target_of(disk, name)? {
@@ -108,14 +107,14 @@ fn behind_links<'t, R: Host>(disk: &Disk<'t, R>, name: &'t [u8]) -> io::Result<&
 }
 
 /// A lock: a file that is open to be written, and is removed with this value while it is held.
-struct LockFile<'t, R: Files> {
-    host: &'t R,
+struct LockFile<'t> {
+    host: &'t HostRuntime,
     name: &'t [u8],
-    file: R::File,
+    file: File,
     is_held: bool,
 }
 
-impl<R: Files> Drop for LockFile<'_, R> {
+impl Drop for LockFile<'_> {
     fn drop(self) {
         if self.is_held {
             if let Ok(name) = text_of(self.name) {
@@ -132,7 +131,7 @@ impl<R: Files> Drop for LockFile<'_, R> {
 }
 
 /// Makes the lock of the file of this name, which nobody else may hold.
-fn lock_beside<'t, R: Host>(disk: &Disk<'t, R>, name: &[u8]) -> Result<LockFile<'t, R>, LockError> {
+fn lock_beside<'t>(disk: &Disk<'t>, name: &[u8]) -> Result<LockFile<'t>, LockError> {
     let host = disk.host;
     let name = joined(disk, &[name, b".lock"])?;
     let made = OpenOptions::new()
@@ -151,7 +150,7 @@ fn lock_beside<'t, R: Host>(disk: &Disk<'t, R>, name: &[u8]) -> Result<LockFile<
 }
 
 /// The text of a regular file.
-fn text_in<'t, R: Host>(disk: &Disk<'t, R>, name: &str) -> Result<&'t [u8], ReadError> {
+fn text_in<'t>(disk: &Disk<'t>, name: &str) -> Result<&'t [u8], ReadError> {
     let file = opened(disk.host, name, false)?;
     match known_length(&file, false)? {
         Some(length) => disk.text(file, Some(length)),
@@ -160,7 +159,7 @@ fn text_in<'t, R: Host>(disk: &Disk<'t, R>, name: &str) -> Result<&'t [u8], Read
 }
 
 /// The mode of a file, or `None` if it is not there.
-fn mode_of<R: Host>(host: &R, name: &str) -> io::Result<Option<u32>> {
+fn mode_of(host: &HostRuntime, name: &str) -> io::Result<Option<u32>> {
     match fs::metadata(host, name) {
         Ok(known) => Ok(Some(known.mode() & MODE)),
         Err(error) if error.kind() == ErrorKind::NotFound => Ok(None),
@@ -169,10 +168,7 @@ fn mode_of<R: Host>(host: &R, name: &str) -> io::Result<Option<u32>> {
 }
 
 /// The text and the mode of a file, or an empty text if it is not there.
-fn old_of<'t, R: Host>(
-    disk: &Disk<'t, R>,
-    name: &str,
-) -> Result<(&'t [u8], Option<u32>), ReadError> {
+fn old_of<'t>(disk: &Disk<'t>, name: &str) -> Result<(&'t [u8], Option<u32>), ReadError> {
     match mode_of(disk.host, name)? {
         Some(mode) => Ok((text_in(disk, name)?, Some(mode))),
         None => Ok((b"", None)),
@@ -193,18 +189,18 @@ fn old_of<'t, R: Host>(
 /// locked.commit(b"[core]\n\tbare\n").expect(&rt, "a file that can be written");
 /// ```
 #[derive(Drop)]
-pub struct Locked<'t, R: Files> {
-    lock: LockFile<'t, R>,
+pub struct Locked<'t> {
+    lock: LockFile<'t>,
     name: &'t [u8],
     text: &'t [u8],
     mode: Option<u32>,
 }
 
-impl<'t, R: Host> Locked<'t, R> {
+impl<'t> Locked<'t> {
     /// Locks the file of this name, and then reads it. If the name is that of a link, this is the file to
     /// which it leads, and the lock is beside that. The file has to be a regular one of at most 1 GiB, or not
     /// there. It fails if the lock is held, and if the system does not make it or does not read the file.
-    pub fn of(disk: &Disk<'t, R>, name: &[u8]) -> Result<Locked<'t, R>, LockError> {
+    pub fn of(disk: &Disk<'t>, name: &[u8]) -> Result<Locked<'t>, LockError> {
         let name = disk.opened_name(name)?;
         let name = behind_links(disk, disk.kept(&name)?)?;
         let lock = lock_beside(disk, name)?;

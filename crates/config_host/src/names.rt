@@ -2,7 +2,6 @@
 //! kept with the texts of files.
 
 use crate::disk::Disk;
-use crate::environment::Host;
 use bstr::ByteSlice;
 use bumpalo::collections::into_bump_slice;
 use std::alloc::{AllocError, Global};
@@ -53,10 +52,7 @@ pub(crate) fn parent(folder: &[u8]) -> Option<&[u8]> {
 }
 
 /// These parts, one after the other, as a name that is kept.
-pub(crate) fn joined<'t, R: Host>(
-    disk: &Disk<'t, R>,
-    parts: &[&[u8]],
-) -> Result<&'t [u8], AllocError> {
+pub(crate) fn joined<'t>(disk: &Disk<'t>, parts: &[&[u8]]) -> Result<&'t [u8], AllocError> {
     let mut whole = Vec::new(disk.texts);
     for part in parts {
         if whole.extend_from_slice(part).is_err() {
@@ -84,8 +80,8 @@ pub(crate) fn path_inside(
 }
 
 /// The name of a file in a folder, which is kept.
-pub(crate) fn inside<'t, R: Host>(
-    disk: &Disk<'t, R>,
+pub(crate) fn inside<'t>(
+    disk: &Disk<'t>,
     folder: &[u8],
     name: &[u8],
 ) -> Result<&'t [u8], AllocError> {
@@ -93,8 +89,8 @@ pub(crate) fn inside<'t, R: Host>(
 }
 
 /// The name of a file below a folder, with a `/` between them whatever the folder is, as Git joins them.
-pub(crate) fn below<'t, R: Host>(
-    disk: &Disk<'t, R>,
+pub(crate) fn below<'t>(
+    disk: &Disk<'t>,
     folder: &[u8],
     name: &[u8],
 ) -> Result<&'t [u8], AllocError> {
@@ -102,7 +98,7 @@ pub(crate) fn below<'t, R: Host>(
 }
 
 /// What the system knows of the file of this name, which may be a link, or `None`.
-pub(crate) fn known_of_link<R: Host>(host: &R, name: &[u8]) -> io::Result<Option<Metadata>> {
+pub(crate) fn known_of_link(host: &HostRuntime, name: &[u8]) -> io::Result<Option<Metadata>> {
     answer(match text_of(name) {
         Ok(name) => fs::symlink_metadata(host, name),
         Err(error) => Err(error),
@@ -110,7 +106,7 @@ pub(crate) fn known_of_link<R: Host>(host: &R, name: &[u8]) -> io::Result<Option
 }
 
 /// What the system knows of the file of this name, or `None`.
-pub(crate) fn known_of<R: Host>(host: &R, name: &[u8]) -> io::Result<Option<Metadata>> {
+pub(crate) fn known_of(host: &HostRuntime, name: &[u8]) -> io::Result<Option<Metadata>> {
     answer(match text_of(name) {
         Ok(name) => fs::metadata(host, name),
         Err(error) => Err(error),
@@ -118,12 +114,12 @@ pub(crate) fn known_of<R: Host>(host: &R, name: &[u8]) -> io::Result<Option<Meta
 }
 
 /// Whether there is a file or a folder of this name.
-pub fn exists<R: Host>(host: &R, name: &[u8]) -> io::Result<bool> {
+pub fn exists(host: &HostRuntime, name: &[u8]) -> io::Result<bool> {
     Ok(known_of(host, name)?.is_some())
 }
 
 /// Whether there is a folder of this name.
-pub(crate) fn is_folder<R: Host>(host: &R, name: &[u8]) -> io::Result<bool> {
+pub(crate) fn is_folder(host: &HostRuntime, name: &[u8]) -> io::Result<bool> {
     Ok(match known_of(host, name)? {
         Some(known) => known.is_dir(),
         None => false,
@@ -131,7 +127,7 @@ pub(crate) fn is_folder<R: Host>(host: &R, name: &[u8]) -> io::Result<bool> {
 }
 
 /// Whether there is a regular file of this name.
-pub(crate) fn is_file<R: Host>(host: &R, name: &[u8]) -> io::Result<bool> {
+pub(crate) fn is_file(host: &HostRuntime, name: &[u8]) -> io::Result<bool> {
     Ok(match known_of(host, name)? {
         Some(known) => known.is_file(),
         None => false,
@@ -139,7 +135,7 @@ pub(crate) fn is_file<R: Host>(host: &R, name: &[u8]) -> io::Result<bool> {
 }
 
 /// The name from the root without links, or `None` if the system does not know it.
-pub(crate) fn real_name<R: Host>(host: &R, name: &[u8]) -> io::Result<Option<Vec<u8>>> {
+pub(crate) fn real_name(host: &HostRuntime, name: &[u8]) -> io::Result<Option<Vec<u8>>> {
     let real = answer(match text_of(name) {
         Ok(name) => fs::canonicalize(host, name),
         Err(error) => Err(error),
@@ -151,11 +147,7 @@ pub(crate) fn real_name<R: Host>(host: &R, name: &[u8]) -> io::Result<Option<Vec
 }
 
 /// The name from the root without links, which is kept, or the other name if the system does not know it.
-pub(crate) fn resolved<'t, R: Host>(
-    disk: &Disk<'t, R>,
-    name: &[u8],
-    other: &'t [u8],
-) -> io::Result<&'t [u8]> {
+pub(crate) fn resolved<'t>(disk: &Disk<'t>, name: &[u8], other: &'t [u8]) -> io::Result<&'t [u8]> {
     match real_name(disk.host, name)? {
         Some(real) => Ok(disk.kept(&real)?),
         None => Ok(other),

@@ -2,7 +2,7 @@
 //! can change.
 
 use crate::disk::Disk;
-use crate::environment::{Host, variable};
+use crate::environment::variable;
 use crate::error::HereError;
 use crate::lines::is_on;
 use crate::names::{known_of, known_of_link, path_inside, real_name};
@@ -19,7 +19,7 @@ use std::os::unix::fs::MetadataExt;
 const ROOT: u32 = 0;
 
 /// The number of the user whose process this is, or `None` if the system does not know it.
-fn current_user<R: Host>(host: &R) -> io::Result<Option<u32>> {
+fn current_user(host: &HostRuntime) -> io::Result<Option<u32>> {
     match known_of(host, b"/proc/self")? {
         Some(known) => Ok(Some(known.uid())),
         None => Ok(None),
@@ -27,7 +27,7 @@ fn current_user<R: Host>(host: &R) -> io::Result<Option<u32>> {
 }
 
 /// The number of the user who became root by sudo, or `None` if SUDO_UID names none.
-fn user_before_sudo<R: Host>(host: &R) -> Result<Option<u32>, AllocError> {
+fn user_before_sudo(host: &HostRuntime) -> Result<Option<u32>, AllocError> {
     let Some(text) = variable(host, "SUDO_UID")? else {
         return Ok(None);
     };
@@ -39,7 +39,7 @@ fn user_before_sudo<R: Host>(host: &R) -> Result<Option<u32>, AllocError> {
 
 /// Whether the file of this name, which may be a link, belongs to the user of this process. To root it also
 /// belongs if its owner became root by sudo.
-fn is_owned<R: Host>(host: &R, name: &[u8]) -> io::Result<bool> {
+fn is_owned(host: &HostRuntime, name: &[u8]) -> io::Result<bool> {
     let Some(known) = known_of_link(host, name)? else {
         return Ok(false);
     };
@@ -53,7 +53,7 @@ fn is_owned<R: Host>(host: &R, name: &[u8]) -> io::Result<bool> {
 
 /// Whether all files of these names belong to the user of this process. The environment may say that they do
 /// not, which Git has for tests.
-pub fn are_owned<R: Host>(host: &R, names: &[&[u8]]) -> io::Result<bool> {
+pub fn are_owned(host: &HostRuntime, names: &[&[u8]]) -> io::Result<bool> {
     if is_on(host, "GIT_TEST_ASSUME_DIFFERENT_OWNER")? {
         return Ok(false);
     }
@@ -66,18 +66,18 @@ pub fn are_owned<R: Host>(host: &R, names: &[&[u8]]) -> io::Result<bool> {
 }
 
 /// The settings of the system, of the user and of the command. No repository is known to their conditions.
-pub fn protected<'t, R: Host>(disk: &Disk<'t, R>) -> Result<Settings<'t>, HereError<'t>> {
+pub fn protected<'t>(disk: &Disk<'t>) -> Result<Settings<'t>, HereError<'t>> {
     settings_at(disk, &protected_names(disk)?, None)
 }
 
 /// Whether a setting has this key, in lower case.
-fn has_key<R: Host>(host: &R, setting: &Setting<'_>, key: &[u8]) -> Result<bool, AllocError> {
+fn has_key(host: &HostRuntime, setting: &Setting<'_>, key: &[u8]) -> Result<bool, AllocError> {
     let text = setting.entry.key_text(host.alloc())?;
     Ok(text.as_slice() == key)
 }
 
 /// The text of both.
-fn joined<R: Host>(host: &R, front: &[u8], rest: &[u8]) -> Result<Vec<u8>, AllocError> {
+fn joined(host: &HostRuntime, front: &[u8], rest: &[u8]) -> Result<Vec<u8>, AllocError> {
     let mut whole = front.to_vec(host.alloc())?;
     whole.extend_from_slice(rest)?;
     Ok(whole)
@@ -85,7 +85,7 @@ fn joined<R: Host>(host: &R, front: &[u8], rest: &[u8]) -> Result<Vec<u8>, Alloc
 
 /// The path that a value of `safe.directory` spells, or `None` if it begins with a directory that is not
 /// known.
-fn spelled<R: Host>(host: &R, value: &[u8]) -> Result<Option<Vec<u8>>, AllocError> {
+fn spelled(host: &HostRuntime, value: &[u8]) -> Result<Option<Vec<u8>>, AllocError> {
     let home = variable(host, "HOME")?;
     let directories = Directories {
         home: home.as_deref(),
@@ -98,7 +98,7 @@ fn spelled<R: Host>(host: &R, value: &[u8]) -> Result<Option<Vec<u8>>, AllocErro
 }
 
 /// Whether the folder is below the one of this name, whose links are resolved.
-fn is_below<R: Host>(host: &R, name: &[u8], folder: &[u8]) -> io::Result<bool> {
+fn is_below(host: &HostRuntime, name: &[u8], folder: &[u8]) -> io::Result<bool> {
     let above = if name.is_empty() { b"/" } else { name };
     let Some(mut real) = real_name(host, above)? else {
         return Ok(false);
@@ -111,7 +111,7 @@ fn is_below<R: Host>(host: &R, name: &[u8], folder: &[u8]) -> io::Result<bool> {
 
 /// The path from the root that a value of `safe.directory` spells, or that of the folder that is asked about
 /// if it is `.`. Any other value has none.
-fn safe_path<R: Host>(host: &R, asked: &[u8], value: &[u8]) -> io::Result<Option<Vec<u8>>> {
+fn safe_path(host: &HostRuntime, asked: &[u8], value: &[u8]) -> io::Result<Option<Vec<u8>>> {
     match spelled(host, value)? {
         Some(path) if path.as_slice() == b".".as_slice() => Ok(Some(path_inside(
             host.alloc(),
@@ -124,7 +124,7 @@ fn safe_path<R: Host>(host: &R, asked: &[u8], value: &[u8]) -> io::Result<Option
 }
 
 /// Whether a path is that of a folder, or is one above it that ends with `/*`.
-fn covers<R: Host>(host: &R, path: &[u8], folder: &[u8]) -> io::Result<bool> {
+fn covers(host: &HostRuntime, path: &[u8], folder: &[u8]) -> io::Result<bool> {
     if let Some(above) = path.strip_suffix(b"/*") {
         return is_below(host, above, folder);
     }
@@ -136,7 +136,7 @@ fn covers<R: Host>(host: &R, path: &[u8], folder: &[u8]) -> io::Result<bool> {
 
 /// Whether a value of `safe.directory` names this folder: by its path, by `.` if it is the one that is asked
 /// about, or by a path above it that ends with `/*`.
-fn names_folder<R: Host>(host: &R, asked: &[u8], value: &[u8], folder: &[u8]) -> io::Result<bool> {
+fn names_folder(host: &HostRuntime, asked: &[u8], value: &[u8], folder: &[u8]) -> io::Result<bool> {
     match safe_path(host, asked, value)? {
         Some(path) => covers(host, &path, folder),
         None => Ok(false),
@@ -144,8 +144,8 @@ fn names_folder<R: Host>(host: &R, asked: &[u8], value: &[u8], folder: &[u8]) ->
 }
 
 /// Whether these settings name this folder in `safe.directory`.
-fn name_as_safe<R: Host>(
-    host: &R,
+fn name_as_safe(
+    host: &HostRuntime,
     settings: &Settings<'_>,
     asked: &[u8],
     folder: &[u8],
@@ -166,11 +166,7 @@ fn name_as_safe<R: Host>(
 
 /// Whether `safe.directory` names this folder, whose path has no links. An empty value takes back those
 /// before it.
-pub fn is_safe<'t, R: Host>(
-    disk: &Disk<'t, R>,
-    asked: &[u8],
-    folder: &[u8],
-) -> Result<bool, HereError<'t>> {
+pub fn is_safe<'t>(disk: &Disk<'t>, asked: &[u8], folder: &[u8]) -> Result<bool, HereError<'t>> {
     Ok(name_as_safe(disk.host, &protected(disk)?, asked, folder)?)
 }
 
@@ -182,7 +178,7 @@ fn is_in_work_tree(folder: &[u8]) -> bool {
 }
 
 /// Whether these settings let Git find bare repositories.
-fn allow_bare<R: Host>(host: &R, settings: &Settings<'_>) -> Result<bool, AllocError> {
+fn allow_bare(host: &HostRuntime, settings: &Settings<'_>) -> Result<bool, AllocError> {
     let mut may_be = true;
     for setting in &settings.entries {
         if has_key(host, setting, b"safe.barerepository")? {
@@ -198,7 +194,7 @@ fn allow_bare<R: Host>(host: &R, settings: &Settings<'_>) -> Result<bool, AllocE
 }
 
 /// Whether `safe.bareRepository` lets Git find the bare repository in this folder.
-pub fn may_be_bare<'t, R: Host>(disk: &Disk<'t, R>, folder: &[u8]) -> Result<bool, HereError<'t>> {
+pub fn may_be_bare<'t>(disk: &Disk<'t>, folder: &[u8]) -> Result<bool, HereError<'t>> {
     if is_in_work_tree(folder) {
         return Ok(true);
     }

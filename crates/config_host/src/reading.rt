@@ -2,7 +2,6 @@
 //! condition asks about them.
 
 use crate::disk::Disk;
-use crate::environment::Host;
 use crate::error::HereError;
 use crate::sources::{Named, Source, sources};
 use crate::surroundings::{Followed, FoundRepository, Surroundings, has_includes};
@@ -47,10 +46,7 @@ pub struct Taken<'t> {
 }
 
 /// The files in which a walk over this text goes on.
-fn files_of<'t, R: Host>(
-    disk: &Disk<'t, R>,
-    source: &Source<'t>,
-) -> Result<Disk<'t, R>, AllocError> {
+fn files_of<'t>(disk: &Disk<'t>, source: &Source<'t>) -> Result<Disk<'t>, AllocError> {
     if source.is_file {
         Ok(disk.again())
     } else {
@@ -59,8 +55,8 @@ fn files_of<'t, R: Host>(
 }
 
 /// Goes on in the file that an entry includes. Returns its text, or why Git stops there.
-fn enter<'t, R: Host>(
-    disk: &Disk<'t, R>,
+fn enter<'t>(
+    disk: &Disk<'t>,
     walk: &mut Walk<'t>,
     include: Include,
 ) -> Result<Result<Option<&'t [u8]>, IncludeFault<'t>>, AllocError> {
@@ -80,8 +76,8 @@ fn enter<'t, R: Host>(
 /// Takes the next entry of a walk, and goes on in the file that it includes. Returns `None` at the end, and
 /// an error at a line that cannot be read.
 #[inline(always)]
-pub fn next_entry<'t, R: Host>(
-    disk: &Disk<'t, R>,
+pub fn next_entry<'t>(
+    disk: &Disk<'t>,
     known: &Known<'_>,
     walk: &mut Walk<'t>,
 ) -> Result<Option<Taken<'t>>, HereError<'t>> {
@@ -139,8 +135,8 @@ enum Asked {
 }
 
 /// What the walk comes to next.
-fn asked_next<'t, R: Host>(
-    disk: &Disk<'t, R>,
+fn asked_next<'t>(
+    disk: &Disk<'t>,
     known: &Known<'_>,
     walk: &mut Walk<'t>,
 ) -> Result<Asked, HereError<'t>> {
@@ -160,8 +156,8 @@ fn asked_next<'t, R: Host>(
 }
 
 /// Whether a walk over this text comes to a condition on the URLs of remotes before it stops.
-fn text_asks<'t, R: Host>(
-    disk: &Disk<'t, R>,
+fn text_asks<'t>(
+    disk: &Disk<'t>,
     known: &Known<'_>,
     source: &Source<'t>,
 ) -> Result<Option<bool>, HereError<'t>> {
@@ -179,8 +175,8 @@ fn text_asks<'t, R: Host>(
 }
 
 /// Whether the walks over these texts come to a condition on the URLs of remotes before one stops.
-fn ask_for_urls<'t, R: Host>(
-    disk: &Disk<'t, R>,
+fn ask_for_urls<'t>(
+    disk: &Disk<'t>,
     known: &Known<'_>,
     sources: &[Source<'t>],
 ) -> Result<bool, HereError<'t>> {
@@ -204,11 +200,7 @@ struct Search<'t> {
 
 impl<'t> Search<'t> {
     /// Takes the URL that an entry may have. A file that is included on a condition must have none.
-    fn take<R: Host>(
-        &mut self,
-        disk: &Disk<'t, R>,
-        taken: &Taken<'t>,
-    ) -> Result<(), HereError<'t>> {
+    fn take(&mut self, disk: &Disk<'t>, taken: &Taken<'t>) -> Result<(), HereError<'t>> {
         if taken.depth <= self.conditional_below {
             self.conditional_below = usize::MAX;
         }
@@ -228,9 +220,9 @@ impl<'t> Search<'t> {
     }
 
     /// Takes the next entry of a walk. Returns false at the end.
-    fn take_next<R: Host>(
+    fn take_next(
         &mut self,
-        disk: &Disk<'t, R>,
+        disk: &Disk<'t>,
         known: &Known<'_>,
         walk: &mut Walk<'t>,
     ) -> Result<bool, HereError<'t>> {
@@ -245,9 +237,9 @@ impl<'t> Search<'t> {
     }
 
     /// Takes the entries of this text and of what it includes.
-    fn take_all<R: Host>(
+    fn take_all(
         &mut self,
-        disk: &Disk<'t, R>,
+        disk: &Disk<'t>,
         known: &Known<'_>,
         source: &Source<'t>,
     ) -> Result<(), HereError<'t>> {
@@ -272,7 +264,7 @@ impl<'t> Search<'t> {
     }
 
     /// Adds the value of an entry. A key alone has no URL.
-    fn push<R: Host>(&mut self, disk: &Disk<'t, R>, entry: &Entry<'t>) -> Result<(), AllocError> {
+    fn push(&mut self, disk: &Disk<'t>, entry: &Entry<'t>) -> Result<(), AllocError> {
         let Some(value) = &entry.value else {
             return Ok(());
         };
@@ -285,8 +277,8 @@ impl<'t> Search<'t> {
 }
 
 /// The URLs of all remotes in these texts and in what they include.
-fn urls_of<'t, R: Host>(
-    disk: &Disk<'t, R>,
+fn urls_of<'t>(
+    disk: &Disk<'t>,
     known: &Known<'_>,
     sources: &[Source<'t>],
 ) -> Result<Vec<&'t [u8]>, HereError<'t>> {
@@ -301,8 +293,8 @@ fn urls_of<'t, R: Host>(
 }
 
 /// Finds the URLs of remotes if walks over these texts come to a condition on them.
-pub fn seek_urls<'t, R: Host>(
-    disk: &Disk<'t, R>,
+pub fn seek_urls<'t>(
+    disk: &Disk<'t>,
     surroundings: &mut Surroundings<'t>,
     sources: &[Source<'t>],
 ) -> Result<(), HereError<'t>> {
@@ -316,8 +308,8 @@ pub fn seek_urls<'t, R: Host>(
 }
 
 /// Adds the settings of a text and of what it includes.
-fn add<'t, R: Host>(
-    disk: &Disk<'t, R>,
+fn add<'t>(
+    disk: &Disk<'t>,
     known: &Known<'_>,
     settings: &mut Settings<'t>,
     source: &Source<'t>,
@@ -333,8 +325,8 @@ fn add<'t, R: Host>(
 }
 
 /// What includes ask about where this is the repository.
-fn around<'t, R: Host>(
-    disk: &Disk<'t, R>,
+fn around<'t>(
+    disk: &Disk<'t>,
     repository: Option<FoundRepository<'t>>,
 ) -> io::Result<Surroundings<'t>> {
     let mut surroundings = Surroundings::new(disk, Followed::AsGit)?;
@@ -344,8 +336,8 @@ fn around<'t, R: Host>(
 
 /// The settings of these files and of the command, with what they include, in order. Conditions ask about
 /// this repository.
-pub(crate) fn settings_at<'t, R: Host>(
-    disk: &Disk<'t, R>,
+pub(crate) fn settings_at<'t>(
+    disk: &Disk<'t>,
     names: &[Named<'t>],
     repository: Option<FoundRepository<'t>>,
 ) -> Result<Settings<'t>, HereError<'t>> {
@@ -354,8 +346,8 @@ pub(crate) fn settings_at<'t, R: Host>(
 }
 
 /// The settings of these texts and of what they include, in order.
-fn settings_of<'t, R: Host>(
-    disk: &Disk<'t, R>,
+fn settings_of<'t>(
+    disk: &Disk<'t>,
     surroundings: &mut Surroundings<'t>,
     sources: &[Source<'t>],
 ) -> Result<Settings<'t>, HereError<'t>> {

@@ -3,7 +3,6 @@
 //! first of them.
 
 use crate::disk::Disk;
-use crate::environment::Host;
 use crate::lines::{bytes_of, line_in};
 use crate::names::path_inside;
 use std::alloc::{AllocError, Global};
@@ -123,7 +122,7 @@ fn branch_of<'t>(head: Record<'t>) -> Option<&'t [u8]> {
 }
 
 /// The first block of a table, or less if no more than `left` bytes may be read. `None` if there is no such file.
-fn first_block<R: Host>(host: &R, file: &[u8], left: u64) -> io::Result<Option<Vec<u8>>> {
+fn first_block(host: &HostRuntime, file: &[u8], left: u64) -> io::Result<Option<Vec<u8>>> {
     let Some(table) = bytes_of(host, file, left.min(USUAL))? else {
         return Ok(None);
     };
@@ -135,8 +134,8 @@ fn first_block<R: Host>(host: &R, file: &[u8], left: u64) -> io::Result<Option<V
 
 /// The branch that HEAD names in a table, or `Some(None)` if it names no branch. `None` if the table has no HEAD.
 /// Takes what is read from what may be read.
-fn branch_in_table<'t, R: Host>(
-    disk: &Disk<'t, R>,
+fn branch_in_table<'t>(
+    disk: &Disk<'t>,
     file: &[u8],
     left: &mut u64,
 ) -> io::Result<Option<Option<&'t [u8]>>> {
@@ -155,10 +154,7 @@ fn branch_in_table<'t, R: Host>(
 
 /// The branch that HEAD names in the tables of a git directory, without `refs/heads/`, or `None` if it names no
 /// branch. A later table decides over those before it.
-pub(crate) fn branch_in<'t, R: Host>(
-    disk: &Disk<'t, R>,
-    git_dir: &[u8],
-) -> io::Result<Option<&'t [u8]>> {
+pub(crate) fn branch_in<'t>(disk: &Disk<'t>, git_dir: &[u8]) -> io::Result<Option<&'t [u8]>> {
     let alloc = disk.host.alloc();
     let folder = path_inside(alloc, git_dir, b"reftable")?;
     let Some(names) = line_in(disk.host, &folder, b"tables.list")? else {

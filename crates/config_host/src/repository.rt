@@ -1,7 +1,7 @@
 //! Finds the repository of a folder, and the folder in which Git then works.
 
 use crate::disk::{Disk, ReadError};
-use crate::environment::{Host, kept_variable, variable};
+use crate::environment::{kept_variable, variable};
 use crate::error::{HereError, Refusal};
 use crate::format::{Format, format_in, take_own_file};
 use crate::head::branch_of;
@@ -65,8 +65,8 @@ impl<'t> Location<'t> {
 }
 
 /// Takes what the file of its own says of a work tree. What it shares says nothing of its own top.
-fn take_own<'t, R: Host>(
-    disk: &Disk<'t, R>,
+fn take_own<'t>(
+    disk: &Disk<'t>,
     format: &mut Format<'t>,
     git_dir: &[u8],
     is_shared: bool,
@@ -82,8 +82,8 @@ fn take_own<'t, R: Host>(
 }
 
 /// The format of a git directory.
-fn format_of<'t, R: Host>(
-    disk: &Disk<'t, R>,
+fn format_of<'t>(
+    disk: &Disk<'t>,
     git_dir: &[u8],
     shared: Option<&[u8]>,
 ) -> Result<Format<'t>, HereError<'t>> {
@@ -95,8 +95,8 @@ fn format_of<'t, R: Host>(
 
 /// The top of the work tree that GIT_WORK_TREE or `core.worktree` names, without links. That of
 /// `core.worktree` means nothing to a bare repository.
-fn named_top<'t, R: Host>(
-    disk: &Disk<'t, R>,
+fn named_top<'t>(
+    disk: &Disk<'t>,
     asked: Folder<'t>,
     git_dir: GitDir<'t>,
     format: &Format<'t>,
@@ -121,8 +121,8 @@ fn is_below(folder: &[u8], top: &[u8]) -> bool {
 
 /// The name of a git directory in the folder that is asked about: the same as in the folder in which it is
 /// found, if that is this one, and otherwise its path.
-fn name_here<'t, R: Host>(
-    disk: &Disk<'t, R>,
+fn name_here<'t>(
+    disk: &Disk<'t>,
     asked: Folder<'t>,
     folder: Folder<'t>,
     git_dir: GitDir<'t>,
@@ -134,13 +134,13 @@ fn name_here<'t, R: Host>(
 }
 
 /// The path of a folder without links.
-fn path_of<'t, R: Host>(disk: &Disk<'t, R>, folder: Folder<'t>) -> io::Result<&'t [u8]> {
+fn path_of<'t>(disk: &Disk<'t>, folder: Folder<'t>) -> io::Result<&'t [u8]> {
     resolved(disk, opened_folder(folder.name), folder.path)
 }
 
 /// The folder in which Git works, and the name of the git directory there.
-fn workplace<'t, R: Host>(
-    disk: &Disk<'t, R>,
+fn workplace<'t>(
+    disk: &Disk<'t>,
     asked: Folder<'t>,
     folder: Folder<'t>,
     git_dir: GitDir<'t>,
@@ -162,8 +162,8 @@ fn workplace<'t, R: Host>(
 }
 
 /// The name of the folder that work trees share, as Git shows it.
-fn shown_shared<'t, R: Host>(
-    disk: &Disk<'t, R>,
+fn shown_shared<'t>(
+    disk: &Disk<'t>,
     shared: Option<&'t [u8]>,
     named: &'t [u8],
 ) -> io::Result<&'t [u8]> {
@@ -176,8 +176,8 @@ fn shown_shared<'t, R: Host>(
 }
 
 /// The repository of this git directory, which has this name in the folder of this path.
-fn repository_in<'t, R: Host>(
-    disk: &Disk<'t, R>,
+fn repository_in<'t>(
+    disk: &Disk<'t>,
     path: &[u8],
     named_dir: &'t [u8],
     git_dir: GitDir<'t>,
@@ -196,8 +196,8 @@ fn repository_in<'t, R: Host>(
 }
 
 /// Where Git works with this git directory of this folder and of this format.
-fn located<'t, R: Host>(
-    disk: &Disk<'t, R>,
+fn located<'t>(
+    disk: &Disk<'t>,
     asked: Folder<'t>,
     folder: Folder<'t>,
     git_dir: GitDir<'t>,
@@ -216,8 +216,8 @@ fn located<'t, R: Host>(
 }
 
 /// Where Git works, if the git directory of this folder may have this format.
-fn located_by<'t, R: Host>(
-    disk: &Disk<'t, R>,
+fn located_by<'t>(
+    disk: &Disk<'t>,
     asked: Folder<'t>,
     folder: Folder<'t>,
     git_dir: GitDir<'t>,
@@ -231,8 +231,8 @@ fn located_by<'t, R: Host>(
 }
 
 /// Where Git works, if it uses the git directory of this folder.
-fn locate<'t, R: Host>(
-    disk: &Disk<'t, R>,
+fn locate<'t>(
+    disk: &Disk<'t>,
     asked: Folder<'t>,
     folder: Folder<'t>,
     git_dir: GitDir<'t>,
@@ -246,7 +246,7 @@ fn locate<'t, R: Host>(
 }
 
 /// The folder of this name, which has to be there.
-fn asked_folder<'t, R: Host>(disk: &Disk<'t, R>, name: &[u8]) -> Result<Folder<'t>, HereError<'t>> {
+fn asked_folder<'t>(disk: &Disk<'t>, name: &[u8]) -> Result<Folder<'t>, HereError<'t>> {
     match Folder::new(disk, name)? {
         Some(folder) => Ok(folder),
         None => Err(HereError::File {
@@ -258,7 +258,7 @@ fn asked_folder<'t, R: Host>(disk: &Disk<'t, R>, name: &[u8]) -> Result<Folder<'
 
 /// Where Git works if it is started in the folder of this name: an empty one, or `.`, is the current folder.
 /// Names of the disk begin in the current folder.
-pub fn find<'t, R: Host>(disk: &Disk<'t, R>, name: &[u8]) -> Result<Location<'t>, HereError<'t>> {
+pub fn find<'t>(disk: &Disk<'t>, name: &[u8]) -> Result<Location<'t>, HereError<'t>> {
     let asked = asked_folder(disk, name)?;
     let inner = disk.within(asked.name)?;
     match search(&inner, asked)? {

@@ -1,7 +1,7 @@
 //! Searches the git directory of a folder, as Git does: GIT_DIR, or the first one upwards.
 
 use crate::disk::Disk;
-use crate::environment::{Host, current_folder, kept_variable, text_variable};
+use crate::environment::{current_folder, kept_variable, text_variable};
 use crate::error::{HereError, Refusal};
 use crate::head::has_head;
 use crate::lines::{is_on, line_in, line_of};
@@ -58,8 +58,8 @@ pub(crate) enum Found<'t> {
 
 /// The folder that the work trees of a git directory share: GIT_COMMON_DIR, that of its file commondir, or
 /// `None` if it shares none.
-pub(crate) fn shared_folder<'t, R: Host>(
-    disk: &Disk<'t, R>,
+pub(crate) fn shared_folder<'t>(
+    disk: &Disk<'t>,
     git_dir: &[u8],
 ) -> Result<Option<&'t [u8]>, HereError<'t>> {
     if let Some(folder) = text_variable(disk, "GIT_COMMON_DIR")? {
@@ -72,17 +72,17 @@ pub(crate) fn shared_folder<'t, R: Host>(
 }
 
 /// Whether there is a folder of this name in a folder.
-fn has_folder<R: Host>(host: &R, folder: &[u8], name: &[u8]) -> io::Result<bool> {
+fn has_folder(host: &HostRuntime, folder: &[u8], name: &[u8]) -> io::Result<bool> {
     is_folder(host, &path_inside(host.alloc(), folder, name)?)
 }
 
 /// Whether a common folder has objects and refs.
-fn has_folders<R: Host>(host: &R, common: &[u8]) -> io::Result<bool> {
+fn has_folders(host: &HostRuntime, common: &[u8]) -> io::Result<bool> {
     Ok(has_folder(host, common, b"objects")? && has_folder(host, common, b"refs")?)
 }
 
 /// Whether this is a git directory: its HEAD is Git's, and its common folder has objects and refs.
-fn is_git_dir<'t, R: Host>(disk: &Disk<'t, R>, name: &'t [u8]) -> Result<bool, HereError<'t>> {
+fn is_git_dir<'t>(disk: &Disk<'t>, name: &'t [u8]) -> Result<bool, HereError<'t>> {
     if str::from_utf8(name).is_err() || !has_head(disk.host, name)? {
         return Ok(false);
     }
@@ -92,7 +92,7 @@ fn is_git_dir<'t, R: Host>(disk: &Disk<'t, R>, name: &'t [u8]) -> Result<bool, H
 
 /// The git directory that the file of this name links to by a line `gitdir: ..`, or `None` if it links to
 /// none.
-fn linked<'t, R: Host>(disk: &Disk<'t, R>, name: &[u8]) -> io::Result<Option<&'t [u8]>> {
+fn linked<'t>(disk: &Disk<'t>, name: &[u8]) -> io::Result<Option<&'t [u8]>> {
     let Some(line) = line_of(disk.host, name)? else {
         return Ok(None);
     };
@@ -109,8 +109,8 @@ pub(crate) fn opened_folder(name: &[u8]) -> &[u8] {
 }
 
 /// The git directory, if the one whose folder this is, is safe. It is asked about in the folder `asked`.
-fn if_safe<'t, R: Host>(
-    disk: &Disk<'t, R>,
+fn if_safe<'t>(
+    disk: &Disk<'t>,
     asked: Folder<'t>,
     folder: Folder<'t>,
     git_dir: GitDir<'t>,
@@ -127,8 +127,8 @@ fn if_safe<'t, R: Host>(
 }
 
 /// The git directory of this folder, which has to be safe if it is not owned.
-fn trusted<'t, R: Host>(
-    disk: &Disk<'t, R>,
+fn trusted<'t>(
+    disk: &Disk<'t>,
     asked: Folder<'t>,
     folder: Folder<'t>,
     git_dir: GitDir<'t>,
@@ -142,8 +142,8 @@ fn trusted<'t, R: Host>(
 
 /// The git directory of this name, or to which the file of this name links. In its folder it has the other
 /// name.
-fn linked_or<'t, R: Host>(
-    disk: &Disk<'t, R>,
+fn linked_or<'t>(
+    disk: &Disk<'t>,
     name: &'t [u8],
     named: &'t [u8],
     form: Form,
@@ -156,8 +156,8 @@ fn linked_or<'t, R: Host>(
 }
 
 /// The git directory of a folder that has the name `.git` there, or that a file of that name links to.
-fn find_below<'t, R: Host>(
-    disk: &Disk<'t, R>,
+fn find_below<'t>(
+    disk: &Disk<'t>,
     asked: Folder<'t>,
     folder: Folder<'t>,
 ) -> Result<Found<'t>, HereError<'t>> {
@@ -171,7 +171,7 @@ fn find_below<'t, R: Host>(
 }
 
 /// Whether Git takes the bare repository in this folder, which it finds without GIT_DIR.
-fn takes_bare<'t, R: Host>(disk: &Disk<'t, R>, folder: Folder<'t>) -> Result<bool, HereError<'t>> {
+fn takes_bare<'t>(disk: &Disk<'t>, folder: Folder<'t>) -> Result<bool, HereError<'t>> {
     may_be_bare(
         disk,
         resolved(disk, opened_folder(folder.name), folder.path)?,
@@ -179,8 +179,8 @@ fn takes_bare<'t, R: Host>(disk: &Disk<'t, R>, folder: Folder<'t>) -> Result<boo
 }
 
 /// The folder as a bare repository.
-fn bare<'t, R: Host>(
-    disk: &Disk<'t, R>,
+fn bare<'t>(
+    disk: &Disk<'t>,
     asked: Folder<'t>,
     folder: Folder<'t>,
 ) -> Result<Found<'t>, HereError<'t>> {
@@ -195,8 +195,8 @@ fn bare<'t, R: Host>(
 }
 
 /// The git directory that a folder itself is.
-fn find_bare<'t, R: Host>(
-    disk: &Disk<'t, R>,
+fn find_bare<'t>(
+    disk: &Disk<'t>,
     asked: Folder<'t>,
     folder: Folder<'t>,
 ) -> Result<Found<'t>, HereError<'t>> {
@@ -212,8 +212,8 @@ fn find_bare<'t, R: Host>(
 }
 
 /// The git directory of a folder, if it has one or is one.
-fn find_in<'t, R: Host>(
-    disk: &Disk<'t, R>,
+fn find_in<'t>(
+    disk: &Disk<'t>,
     asked: Folder<'t>,
     folder: Folder<'t>,
 ) -> Result<Found<'t>, HereError<'t>> {
@@ -224,7 +224,7 @@ fn find_in<'t, R: Host>(
 }
 
 /// The device of a file and its number there, or `None` if the system does not know it.
-fn identity_of<R: Host>(host: &R, name: &[u8]) -> io::Result<Option<(u64, u64)>> {
+fn identity_of(host: &HostRuntime, name: &[u8]) -> io::Result<Option<(u64, u64)>> {
     match known_of(host, opened_folder(name))? {
         Some(known) => Ok(Some((known.dev(), known.ino()))),
         None => Ok(None),
@@ -232,13 +232,13 @@ fn identity_of<R: Host>(host: &R, name: &[u8]) -> io::Result<Option<(u64, u64)>>
 }
 
 /// Whether this name begins at the root, and is one of the folder.
-fn is_path_of<R: Host>(host: &R, name: &[u8], folder: &[u8]) -> io::Result<bool> {
+fn is_path_of(host: &HostRuntime, name: &[u8], folder: &[u8]) -> io::Result<bool> {
     let here = identity_of(host, folder)?;
     Ok(name.starts_with(b"/") && here.is_some() && identity_of(host, name)? == here)
 }
 
 /// The path of a folder without links, or `None` if there is no such folder.
-fn real_folder<'t, R: Host>(disk: &Disk<'t, R>, name: &[u8]) -> io::Result<Option<&'t [u8]>> {
+fn real_folder<'t>(disk: &Disk<'t>, name: &[u8]) -> io::Result<Option<&'t [u8]>> {
     if name.is_empty() {
         return Ok(Some(disk.kept(&current_folder(disk.host)?)?));
     }
@@ -252,7 +252,7 @@ fn real_folder<'t, R: Host>(disk: &Disk<'t, R>, name: &[u8]) -> io::Result<Optio
 }
 
 /// The path of a folder: the text of PWD if that is the same folder, and otherwise its path without links.
-fn named_path<'t, R: Host>(disk: &Disk<'t, R>, name: &[u8]) -> io::Result<Option<&'t [u8]>> {
+fn named_path<'t>(disk: &Disk<'t>, name: &[u8]) -> io::Result<Option<&'t [u8]>> {
     match kept_variable(disk, "PWD")? {
         Some(named) if is_path_of(disk.host, named, name)? => Ok(Some(named)),
         _ => real_folder(disk, name),
@@ -260,7 +260,7 @@ fn named_path<'t, R: Host>(disk: &Disk<'t, R>, name: &[u8]) -> io::Result<Option
 }
 
 /// These folders, between which are colons, without links. Those after an empty one are taken as they are.
-fn ceilings_in<'t, R: Host>(disk: &Disk<'t, R>, folders: &'t [u8]) -> io::Result<Vec<&'t [u8]>> {
+fn ceilings_in<'t>(disk: &Disk<'t>, folders: &'t [u8]) -> io::Result<Vec<&'t [u8]>> {
     let mut ceilings = Vec::new(disk.host.alloc());
     let mut is_resolved = true;
     for folder in folders.split_str(b":") {
@@ -271,11 +271,7 @@ fn ceilings_in<'t, R: Host>(disk: &Disk<'t, R>, folders: &'t [u8]) -> io::Result
 }
 
 /// A folder without links if it is to be resolved, and otherwise without one slash at its end.
-fn ceiling<'t, R: Host>(
-    disk: &Disk<'t, R>,
-    folder: &'t [u8],
-    is_resolved: bool,
-) -> io::Result<&'t [u8]> {
+fn ceiling<'t>(disk: &Disk<'t>, folder: &'t [u8], is_resolved: bool) -> io::Result<&'t [u8]> {
     if is_resolved {
         return resolved(disk, folder, folder);
     }
@@ -286,7 +282,7 @@ fn ceiling<'t, R: Host>(
 }
 
 /// The folders of GIT_CEILING_DIRECTORIES.
-fn ceilings<'t, R: Host>(disk: &Disk<'t, R>) -> io::Result<Vec<&'t [u8]>> {
+fn ceilings<'t>(disk: &Disk<'t>) -> io::Result<Vec<&'t [u8]>> {
     match kept_variable(disk, "GIT_CEILING_DIRECTORIES")? {
         Some(folders) => ceilings_in(disk, folders),
         None => Ok(Vec::new(disk.host.alloc())),
@@ -294,7 +290,7 @@ fn ceilings<'t, R: Host>(disk: &Disk<'t, R>) -> io::Result<Vec<&'t [u8]>> {
 }
 
 /// The device of a folder, or `None` if the system does not know it.
-fn device_of<R: Host>(host: &R, folder: &[u8]) -> io::Result<Option<u64>> {
+fn device_of(host: &HostRuntime, folder: &[u8]) -> io::Result<Option<u64>> {
     match identity_of(host, folder)? {
         Some((device, _)) => Ok(Some(device)),
         None => Ok(None),
@@ -312,7 +308,7 @@ struct Limits<'t> {
 
 impl<'t> Limits<'t> {
     /// What the environment says.
-    fn new<R: Host>(disk: &Disk<'t, R>, folder: &[u8]) -> io::Result<Limits<'t>> {
+    fn new(disk: &Disk<'t>, folder: &[u8]) -> io::Result<Limits<'t>> {
         Ok(Limits {
             crosses: is_on(disk.host, "GIT_DISCOVERY_ACROSS_FILESYSTEM")?,
             device: device_of(disk.host, folder)?,
@@ -321,25 +317,21 @@ impl<'t> Limits<'t> {
     }
 
     /// Whether the search ends before this folder.
-    fn end_at<R: Host>(&self, host: &R, folder: Folder<'_>) -> io::Result<bool> {
+    fn end_at(&self, host: &HostRuntime, folder: Folder<'_>) -> io::Result<bool> {
         let is_ceiling = self.ceilings.contains(&folder.path);
         Ok(is_ceiling || (!self.crosses && device_of(host, folder.name)? != self.device))
     }
 }
 
 /// The name of the folder that is so many steps above the one of this name.
-fn name_above<'t, R: Host>(
-    disk: &Disk<'t, R>,
-    name: &[u8],
-    steps: usize,
-) -> Result<&'t [u8], AllocError> {
+fn name_above<'t>(disk: &Disk<'t>, name: &[u8], steps: usize) -> Result<&'t [u8], AllocError> {
     let above = b"/..".as_slice().repeatn(disk.host.alloc(), steps)?;
     joined(disk, &[opened_folder(name), &above])
 }
 
 impl<'t> Folder<'t> {
     /// The folder of this name. Its path is the text of PWD, with its links, if that is the same folder.
-    pub fn new<R: Host>(disk: &Disk<'t, R>, name: &[u8]) -> io::Result<Option<Folder<'t>>> {
+    pub fn new(disk: &Disk<'t>, name: &[u8]) -> io::Result<Option<Folder<'t>>> {
         let name = if name == b".".as_slice() { b"" } else { name };
         match named_path(disk, name)? {
             Some(path) => Ok(Some(Folder {
@@ -352,9 +344,9 @@ impl<'t> Folder<'t> {
 
     /// The folder of this path, which is so many steps above this one. The system opens it by its path if
     /// that is UTF-8, and otherwise by its place above this one.
-    fn above<R: Host>(
+    fn above(
         self,
-        disk: &Disk<'t, R>,
+        disk: &Disk<'t>,
         path: &'t [u8],
         steps: usize,
     ) -> Result<Folder<'t>, AllocError> {
@@ -368,8 +360,8 @@ impl<'t> Folder<'t> {
 
 /// The git directory of the folder of this path, which is so many steps above the one that is asked about, or
 /// `None` if the search ends before it.
-fn find_at<'t, R: Host>(
-    disk: &Disk<'t, R>,
+fn find_at<'t>(
+    disk: &Disk<'t>,
     asked: Folder<'t>,
     limits: &Limits<'t>,
     path: &'t [u8],
@@ -383,8 +375,8 @@ fn find_at<'t, R: Host>(
 }
 
 /// The git directory of the first folder above this path that has one.
-fn find_upwards<'t, R: Host>(
-    disk: &Disk<'t, R>,
+fn find_upwards<'t>(
+    disk: &Disk<'t>,
     asked: Folder<'t>,
     limits: &Limits<'t>,
     path: &'t [u8],
@@ -405,10 +397,7 @@ fn find_upwards<'t, R: Host>(
 
 /// The git directory of the first folder above this one that has one. The search ends at a ceiling, and on
 /// another device unless GIT_DISCOVERY_ACROSS_FILESYSTEM says otherwise.
-fn find_above<'t, R: Host>(
-    disk: &Disk<'t, R>,
-    asked: Folder<'t>,
-) -> Result<Found<'t>, HereError<'t>> {
+fn find_above<'t>(disk: &Disk<'t>, asked: Folder<'t>) -> Result<Found<'t>, HereError<'t>> {
     let limits = Limits::new(disk, asked.name)?;
     match real_folder(disk, asked.name)? {
         Some(lowest) => find_upwards(disk, asked, &limits, lowest),
@@ -417,8 +406,8 @@ fn find_above<'t, R: Host>(
 }
 
 /// The git directory that GIT_DIR names, or to which the file of that name links.
-fn find_given<'t, R: Host>(
-    disk: &Disk<'t, R>,
+fn find_given<'t>(
+    disk: &Disk<'t>,
     asked: Folder<'t>,
     given: &'t [u8],
 ) -> Result<Found<'t>, HereError<'t>> {
@@ -432,10 +421,7 @@ fn find_given<'t, R: Host>(
 
 /// The git directory of a folder: GIT_DIR, or the first one upwards. The names of the disk begin in that
 /// folder.
-pub(crate) fn search<'t, R: Host>(
-    disk: &Disk<'t, R>,
-    asked: Folder<'t>,
-) -> Result<Found<'t>, HereError<'t>> {
+pub(crate) fn search<'t>(disk: &Disk<'t>, asked: Folder<'t>) -> Result<Found<'t>, HereError<'t>> {
     if let Some(given) = text_variable(disk, "GIT_DIR")? {
         return find_given(disk, asked, given);
     }

@@ -2,7 +2,7 @@
 
 use crate::command::command_text;
 use crate::disk::Disk;
-use crate::environment::{Host, kept_variable};
+use crate::environment::kept_variable;
 use crate::error::HereError;
 use crate::lines::is_on;
 use crate::names::{below, exists};
@@ -85,10 +85,7 @@ fn push<'t>(names: &mut Vec<Named<'t>>, scope: Scope, name: &'t [u8]) -> Result<
 }
 
 /// Adds the file of the system, unless GIT_CONFIG_NOSYSTEM says that it is not read.
-fn push_system<'t, R: Host>(
-    disk: &Disk<'t, R>,
-    names: &mut Vec<Named<'t>>,
-) -> Result<(), AllocError> {
+fn push_system<'t>(disk: &Disk<'t>, names: &mut Vec<Named<'t>>) -> Result<(), AllocError> {
     if is_on(disk.host, "GIT_CONFIG_NOSYSTEM")? {
         return Ok(());
     }
@@ -97,7 +94,7 @@ fn push_system<'t, R: Host>(
 }
 
 /// The folder XDG_CONFIG_HOME, or `None` if it is not set, or empty.
-fn own_folder<'t, R: Host>(disk: &Disk<'t, R>) -> Result<Option<&'t [u8]>, AllocError> {
+fn own_folder<'t>(disk: &Disk<'t>) -> Result<Option<&'t [u8]>, AllocError> {
     match kept_variable(disk, "XDG_CONFIG_HOME")? {
         Some(folder) if !folder.is_empty() => Ok(Some(folder)),
         _ => Ok(None),
@@ -105,8 +102,8 @@ fn own_folder<'t, R: Host>(disk: &Disk<'t, R>) -> Result<Option<&'t [u8]>, Alloc
 }
 
 /// Adds the file of this name below the home directory, if that is known.
-fn push_home<'t, R: Host>(
-    disk: &Disk<'t, R>,
+fn push_home<'t>(
+    disk: &Disk<'t>,
     names: &mut Vec<Named<'t>>,
     name: &[u8],
 ) -> Result<(), AllocError> {
@@ -117,10 +114,7 @@ fn push_home<'t, R: Host>(
 }
 
 /// Adds the files of the user.
-fn push_global<'t, R: Host>(
-    disk: &Disk<'t, R>,
-    names: &mut Vec<Named<'t>>,
-) -> Result<(), AllocError> {
+fn push_global<'t>(disk: &Disk<'t>, names: &mut Vec<Named<'t>>) -> Result<(), AllocError> {
     match kept_variable(disk, "GIT_CONFIG_GLOBAL")? {
         Some(name) => push(names, Scope::Global, name),
         None => push_own(disk, names),
@@ -128,7 +122,7 @@ fn push_global<'t, R: Host>(
 }
 
 /// Adds the files of the user that no variable names.
-fn push_own<'t, R: Host>(disk: &Disk<'t, R>, names: &mut Vec<Named<'t>>) -> Result<(), AllocError> {
+fn push_own<'t>(disk: &Disk<'t>, names: &mut Vec<Named<'t>>) -> Result<(), AllocError> {
     match own_folder(disk)? {
         Some(folder) => push(names, Scope::Global, below(disk, folder, b"git/config")?)?,
         None => push_home(disk, names, b".config/git/config")?,
@@ -137,11 +131,7 @@ fn push_own<'t, R: Host>(disk: &Disk<'t, R>, names: &mut Vec<Named<'t>>) -> Resu
 }
 
 /// The name of a file in a git directory, as Git shows it: without `./` at its start.
-fn shown_name<'t, R: Host>(
-    disk: &Disk<'t, R>,
-    folder: &[u8],
-    name: &[u8],
-) -> Result<&'t [u8], AllocError> {
+fn shown_name<'t>(disk: &Disk<'t>, folder: &[u8], name: &[u8]) -> Result<&'t [u8], AllocError> {
     let whole = below(disk, folder, name)?;
     match whole.strip_prefix(b"./") {
         Some(rest) => Ok(rest.trim_start_with(|character| character == '/')),
@@ -150,8 +140,8 @@ fn shown_name<'t, R: Host>(
 }
 
 /// Adds the files of a repository.
-fn push_repository<'t, R: Host>(
-    disk: &Disk<'t, R>,
+fn push_repository<'t>(
+    disk: &Disk<'t>,
     names: &mut Vec<Named<'t>>,
     repository: FoundRepository<'t>,
 ) -> Result<(), AllocError> {
@@ -165,9 +155,7 @@ fn push_repository<'t, R: Host>(
 }
 
 /// The files that no repository can change: those of the system and of the user.
-pub(crate) fn protected_names<'t, R: Host>(
-    disk: &Disk<'t, R>,
-) -> Result<Vec<Named<'t>>, AllocError> {
+pub(crate) fn protected_names<'t>(disk: &Disk<'t>) -> Result<Vec<Named<'t>>, AllocError> {
     let mut names = Vec::new(disk.host.alloc());
     push_system(disk, &mut names)?;
     push_global(disk, &mut names)?;
@@ -175,8 +163,8 @@ pub(crate) fn protected_names<'t, R: Host>(
 }
 
 /// The files that Git reads, whether they are there or not. They come in the order in which it reads them.
-pub fn names<'t, R: Host>(
-    disk: &Disk<'t, R>,
+pub fn names<'t>(
+    disk: &Disk<'t>,
     repository: Option<FoundRepository<'t>>,
 ) -> Result<Vec<Named<'t>>, AllocError> {
     let mut names = protected_names(disk)?;
@@ -187,7 +175,7 @@ pub fn names<'t, R: Host>(
 }
 
 /// Whether the system has a file of this name, or opens no file of such a name.
-pub fn is_there<R: Host>(disk: &Disk<'_, R>, name: &[u8]) -> io::Result<bool> {
+pub fn is_there(disk: &Disk<'_>, name: &[u8]) -> io::Result<bool> {
     match disk.opened_name(name) {
         Ok(opened) => Ok(str::from_utf8(&opened).is_err() || exists(disk.host, &opened)?),
         Err(_) => Err(io::Error::from(AllocError)),
@@ -196,10 +184,7 @@ pub fn is_there<R: Host>(disk: &Disk<'_, R>, name: &[u8]) -> io::Result<bool> {
 
 /// Reads a file. It is not read if it is not there, or if the user of this program may not read a file of the
 /// user.
-fn read_source<'t, R: Host>(
-    disk: &Disk<'t, R>,
-    named: Named<'t>,
-) -> Result<Option<Source<'t>>, HereError<'t>> {
+fn read_source<'t>(disk: &Disk<'t>, named: Named<'t>) -> Result<Option<Source<'t>>, HereError<'t>> {
     match disk.first(named.name) {
         Ok((place, text)) => Ok(Some(Source {
             scope: named.scope,
@@ -226,16 +211,13 @@ fn add<'t>(sources: &mut Vec<Source<'t>>, source: Source<'t>) -> Result<(), Allo
 }
 
 /// The settings of the command as a text that is kept.
-fn kept_command<'t, R: Host>(disk: &Disk<'t, R>) -> Result<&'t [u8], HereError<'t>> {
+fn kept_command<'t>(disk: &Disk<'t>) -> Result<&'t [u8], HereError<'t>> {
     let text = command_text(disk.host)?;
     Ok(disk.kept(&text)?)
 }
 
 /// Adds the settings of the command, if there are any.
-fn add_command<'t, R: Host>(
-    disk: &Disk<'t, R>,
-    sources: &mut Vec<Source<'t>>,
-) -> Result<(), HereError<'t>> {
+fn add_command<'t>(disk: &Disk<'t>, sources: &mut Vec<Source<'t>>) -> Result<(), HereError<'t>> {
     let text = kept_command(disk)?;
     if text.is_empty() {
         return Ok(());
@@ -252,10 +234,7 @@ fn add_command<'t, R: Host>(
 }
 
 /// The texts of these files, as far as they are there, and of the command.
-pub fn sources<'t, R: Host>(
-    disk: &Disk<'t, R>,
-    names: &[Named<'t>],
-) -> Result<Vec<Source<'t>>, HereError<'t>> {
+pub fn sources<'t>(disk: &Disk<'t>, names: &[Named<'t>]) -> Result<Vec<Source<'t>>, HereError<'t>> {
     let mut sources = Vec::new(disk.host.alloc());
     for named in names {
         if let Some(source) = read_source(disk, *named)? {

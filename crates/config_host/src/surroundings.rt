@@ -1,7 +1,7 @@
 //! What includes ask about the place in which a program runs.
 
 use crate::disk::Disk;
-use crate::environment::{Host, kept_variable};
+use crate::environment::kept_variable;
 use crate::names::resolved;
 use bstr::ByteSlice;
 use config_file::{Directories, Includes, Known, Repository, Urls};
@@ -122,10 +122,7 @@ pub struct Surroundings<'t> {
 impl<'t> Surroundings<'t> {
     /// The home directory of this run, if includes are followed. The repository is not known yet, and there
     /// is no URL.
-    pub fn new<R: Host>(
-        disk: &Disk<'t, R>,
-        followed: Followed,
-    ) -> Result<Surroundings<'t>, AllocError> {
+    pub fn new(disk: &Disk<'t>, followed: Followed) -> Result<Surroundings<'t>, AllocError> {
         let home = match followed {
             Followed::Nothing => None,
             _ => kept_variable(disk, "HOME")?,
@@ -152,9 +149,9 @@ impl<'t> Surroundings<'t> {
     }
 
     /// Takes this as the repository, or knows that there is none.
-    pub fn set_repository<R: Host>(
+    pub fn set_repository(
         &mut self,
-        disk: &Disk<'t, R>,
+        disk: &Disk<'t>,
         repository: Option<FoundRepository<'t>>,
     ) -> io::Result<()> {
         self.repository = repository;

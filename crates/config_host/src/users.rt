@@ -1,7 +1,7 @@
 //! The users of a system, whose home directories a `~` at the start of a path stands for.
 
 use crate::disk::Disk;
-use crate::environment::{Host, kept_variable};
+use crate::environment::kept_variable;
 use crate::names::joined;
 use std::alloc::AllocError;
 
@@ -26,7 +26,7 @@ pub struct Users<'t> {
 impl<'t> Users<'t> {
     /// The users in `/etc/passwd` below this folder, which is empty for the system itself. It fails only if
     /// memory is refused.
-    pub fn new<R: Host>(disk: &Disk<'t, R>, root: &[u8]) -> Result<Users<'t>, AllocError> {
+    pub fn new(disk: &Disk<'t>, root: &[u8]) -> Result<Users<'t>, AllocError> {
         let passwd = match disk.first(joined(disk, &[root, b"/etc/passwd"])?) {
             Ok((_, text)) => Some(text),
             Err(error) if error.is_memory() => return Err(AllocError),

@@ -279,7 +279,7 @@ fn tell_lock(rt: &HostRuntime, name: &[u8], error: LockError) -> Result<Ending, 
 /// Changes the file of this name. Nothing is written if nothing changes. As in Git, `-` is no file.
 fn change_file<'t>(
     rt: &'t HostRuntime,
-    disk: &Disk<'t, HostRuntime>,
+    disk: &Disk<'t>,
     name: &[u8],
     edit: &Edit<'_>,
     value: &[u8],

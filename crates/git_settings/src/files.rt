@@ -25,7 +25,7 @@ const ROOM: usize = 65536;
 pub struct Reading<'r, 't> {
     /// The system.
     pub rt: &'t HostRuntime,
-    disk: Disk<'t, HostRuntime>,
+    disk: Disk<'t>,
     /// The texts, in order.
     sources: Vec<Source<'t>>,
     homes: Homes<'t>,
@@ -162,7 +162,7 @@ impl<'t> Reading<'_, 't> {
     /// which the walk goes on, or `None` at the end.
     fn pull(
         &mut self,
-        disk: &Disk<'t, HostRuntime>,
+        disk: &Disk<'t>,
         known: &Known<'_>,
         source: &Source<'t>,
         walk: &mut Walk<'t>,

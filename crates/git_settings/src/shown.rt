@@ -87,7 +87,7 @@ pub struct Homes<'t> {
 
 impl<'t> Homes<'t> {
     /// The home directory and the list of users.
-    pub fn new(disk: &Disk<'t, HostRuntime>, shown: Shown) -> Result<Homes<'t>, HostError> {
+    pub fn new(disk: &Disk<'t>, shown: Shown) -> Result<Homes<'t>, HostError> {
         if !matches!(shown, Shown::Path) {
             return Ok(Homes {
                 home: None,

@@ -18,7 +18,7 @@ use std::io;
 #[derive(Drop)]
 pub struct Opened<'t> {
     /// The files, whose names begin in the folder in which Git works.
-    pub disk: Disk<'t, HostRuntime>,
+    pub disk: Disk<'t>,
     /// What includes ask about.
     pub surroundings: Surroundings<'t>,
     /// The texts, in order.
@@ -52,7 +52,7 @@ fn add<'t>(sources: &mut Vec<Source<'t>>, source: Source<'t>) -> Result<(), Allo
 /// The text of a file, or of standard input.
 fn text_of<'t>(
     rt: &HostRuntime,
-    disk: &Disk<'t, HostRuntime>,
+    disk: &Disk<'t>,
     scope: Scope,
     name: &[u8],
 ) -> Result<Source<'t>, ReadError> {
@@ -117,7 +117,7 @@ fn open<'t>(
 /// Nothing is opened yet.
 fn closed<'t>(
     rt: &'t HostRuntime,
-    disk: Disk<'t, HostRuntime>,
+    disk: Disk<'t>,
     request: &Request<'_>,
 ) -> Result<Opened<'t>, HostError> {
     let followed = if request.follows {
@@ -148,7 +148,7 @@ fn open_named<'t>(
 
 /// The file of this scope among those that Git reads here: the last one, unless only one before it is there.
 pub fn of_scope<'t>(
-    disk: &Disk<'t, HostRuntime>,
+    disk: &Disk<'t>,
     files: &[Named<'t>],
     scope: Scope,
 ) -> io::Result<Option<Named<'t>>> {
@@ -238,7 +238,7 @@ fn open_all<'t>(
 /// The folder in which Git works, and the repository that it uses. Tells why it uses none although one is there.
 pub fn located<'t>(
     rt: &HostRuntime,
-    disk: &Disk<'t, HostRuntime>,
+    disk: &Disk<'t>,
 ) -> Result<(&'t [u8], Option<FoundRepository<'t>>), HereError<'t>> {
     let location = find(disk, b"")?;
     if let Some(refusal) = location.refusal {
