@@ -1,8 +1,8 @@
 #!/usr/bin/env python3
 """Rows of calls and answers: python3 rows.py PROGRAM [WORD..]
 
-PROGRAM is git_settings. With the words behind it, it stands for `git config`, so that a Git can be asked the same rows
-by `rows.py git config`. They are in rows.tsv, a row a line, whose fields are between tabs and have Python's escapes:
+PROGRAM is git_settings; with words behind it, it is a Git from 2.46 on that answers the same rows: rows.py git config.
+They are in rows.tsv, a row a line, whose fields are between tabs and have Python's escapes:
 
   the arguments, as a shell splits them; the exit status; the standard output, or * for any; what standard error has to
   say, in pieces between bars; and what is in the folder in which the program runs:
@@ -13,12 +13,14 @@ by `rows.py git config`. They are in rows.tsv, a row a line, whose fields are be
     @in NAME       the program runs there        @NAME          all that the line `= NAME` of rows.tsv has
 
 <F> is the folder. No row leaves a lock. A line that begins with `#` is a comment, and one with `=` names things that
-several rows have. The last line is 'N passed, M failed'.
+several rows have. A row that begins with `!` is not asked of Git, nor what stands behind `~` in what is said. The last
+line is 'N passed, M failed'. Without PROGRAM it says `skipped`, and nothing has passed.
 """
 import concurrent.futures
 import os
 import pathlib
 import shlex
+import shutil
 import subprocess
 import sys
 import tempfile
@@ -104,12 +106,13 @@ def faults(program, row):
         place = Place(folder)
         for thing in things:
             place.make(thing)
-        asked = shlex.split(os.fsdecode(place.bytes(words)))
+        asked = shlex.split(os.fsdecode(place.bytes(words.lstrip("! "))))
         run = subprocess.run([*program, *asked], cwd=place.inside, env=place.known, stdin=subprocess.DEVNULL,
                              capture_output=True, timeout=LONGEST_RUN, check=False)
         pairs = [("status", status, run.returncode), ("locks", [], place.locks())]
         pairs += [("output", place.bytes(output), run.stdout)] if output != "*" else []
-        pairs += [(f"what is said of {piece!r}", True, piece in run.stderr) for piece in place.bytes(told).split(b"|")]
+        pieces = place.bytes("" if told.startswith("~") and program[1:] else told.lstrip("~")).split(b"|")
+        pairs += [(f"what is said of {piece!r}", True, piece in run.stderr) for piece in pieces]
         for name, text in place.after.items():
             pairs.append((name, text, pathlib.Path(os.fsdecode(place.path(name))).read_bytes()))
         return [f"line {number}, {words}: {what}: wanted {wanted!r}, got {came!r}, {run.stderr!r}"
@@ -119,9 +122,12 @@ def faults(program, row):
 def main():
     if len(sys.argv) < 2:
         sys.exit(__doc__)
-    path = pathlib.Path(sys.argv[1])
-    program = [path.resolve() if path.exists() else path, *sys.argv[2:]]
-    rows = list(read())
+    found = shutil.which(sys.argv[1])
+    if found is None:
+        print(f"skipped: the rows, since there is no {sys.argv[1]}\n0 passed, 0 failed")
+        return 0
+    program = [os.path.abspath(found), *sys.argv[2:]]
+    rows = [row for row in read() if not (row[1].startswith("!") and program[1:])]
     with concurrent.futures.ThreadPoolExecutor() as pool:
         wrong = [found for found in pool.map(lambda row: faults(program, row), rows) if found]
     for found in wrong:
