@@ -368,12 +368,34 @@ fn change_of<'a>(plain: &Plain<'a>) -> Option<Change<'a>> {
     }
 }
 
-/// What Git says to do if several entries have the key.
-fn advice_of(plain: &Plain<'_>) -> &'static str {
-    match plain.is_word {
-        true => "Use --value=<pattern>, --append or --all",
-        false => "Use a regexp, --add or --replace-all",
+/// What is changed.
+fn edit_of<'a>(
+    plain: &Plain<'a>,
+    change: Change<'a>,
+    options: &Options<'a>,
+    texts: Texts<'a>,
+    shown: Shown,
+) -> Result<Edit<'a>, Misuse<'a>> {
+    let comment = options.last("comment");
+    match comment {
+        Some(text) if text.contains('\n') => {
+            return Err(fatal("no multi-line comment allowed: '", text, "'"));
+        }
+        _ => {}
     }
+    Ok(Edit {
+        texts,
+        change,
+        name: plain.first,
+        pattern: plain.pattern,
+        is_fixed: options.has("fixed-value"),
+        comment,
+        shown,
+        advice: match plain.is_word {
+            true => "Use --value=<pattern>, --append or --all",
+            false => "Use a regexp, --add or --replace-all",
+        },
+    })
 }
 
 /// What a word, or a command line without one, asks with these options.
@@ -394,26 +416,8 @@ pub fn asked_of<'a>(word: &Word, options: &Options<'a>) -> Result<Asked<'a>, Mis
         check_older(&plain, options)?;
     }
     let texts = texts_of(options)?;
-    let Some(change) = change_of(&plain) else {
-        return Ok(Asked::Read(request_of(&plain, options, texts, shown)));
-    };
-    let comment = options.last("comment");
-    match comment {
-        Some(text) if text.contains('\n') => return Err(fatal(
-            "no multi-line comment allowed: '",
-            text,
-            "'",
-        )),
-        _ => {}
+    match change_of(&plain) {
+        Some(change) => Ok(Asked::Change(edit_of(&plain, change, options, texts, shown)?)),
+        None => Ok(Asked::Read(request_of(&plain, options, texts, shown))),
     }
-    Ok(Asked::Change(Edit {
-        texts,
-        change,
-        name: plain.first,
-        pattern: plain.pattern,
-        is_fixed: options.has("fixed-value"),
-        comment,
-        shown,
-        advice: advice_of(&plain),
-    }))
 }

@@ -58,9 +58,9 @@ fn age_of(text: &str) -> Option<u64> {
     }
 }
 
-/// The second of the epoch of a date, or `None` for a text that is no date which is read here: `never` and `false`
-/// are the first one, `all` and `now` the last one; Git's range of numbers is that of the seconds themselves; and an
-/// age is before this moment.
+/// The second of the epoch of a date, or `None` for a text that is no date which is read here. `never` and
+/// `false` are the first one, `all` and `now` the last one, a number in Git's range is the second itself, and
+/// an age is before this moment.
 pub fn read(rt: &HostRuntime, text: &str) -> io::Result<Option<u64>> {
     if let Some(second) = named(WORDS, text) {
         return Ok(Some(second));

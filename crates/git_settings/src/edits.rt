@@ -3,7 +3,7 @@
 ghost use Rattle.std.specs.Prelude.{◌≡◌, ◌⊎◌};
 ghost use Rattle.git_settings.specs.declared.edits.Refusal.TheVariants.{Edit as OfEdit, Pattern};
 
-use crate::output::{Ending, tell, tell_here};
+use crate::output::{Ending, tell, tell_error, tell_here};
 use crate::request::{Change, Chosen, Edit, Subject, Texts};
 use crate::shown::{Outcome, Wrong, put_typed, tell_wrong};
 use crate::sources::{located, named_by_variable, of_scope, tell_no_file};
@@ -263,7 +263,7 @@ fn tell_refusal(rt: &HostRuntime, file: &[u8], edit: &Edit<'_>, error: &EditErro
 }
 
 /// Tells why a file is not replaced. Returns how the run ends.
-fn tell_lock(rt: &HostRuntime, name: &[u8], error: LockError) -> Result<Ending, AllocError> {
+fn tell_lock(rt: &HostRuntime, name: &[u8], error: LockError) -> Ending {
     let (front, ending): (&[u8], Ending) = match &error {
         LockError::Held(_) | LockError::Lock(_) => {
             (b"error: could not lock config file ", Ending::Failed)
@@ -271,9 +271,8 @@ fn tell_lock(rt: &HostRuntime, name: &[u8], error: LockError) -> Result<Ending, 
         LockError::Read(_) => (b"error: invalid config file ", Ending::NoFile),
         LockError::Write(_) => (b"error: could not write config file ", Ending::NotWritten),
     };
-    let why = format!(in rt.alloc(); "{error}")?;
-    tell(rt, &[front, name, b": ", why.as_bytes()]);
-    Ok(ending)
+    tell_error(rt, [front, name, b": "], error);
+    ending
 }
 
 /// Changes the file of this name. Nothing is written if nothing changes. As in Git, `-` is no file.
@@ -286,7 +285,7 @@ fn change_file<'t>(
 ) -> Result<Ending, HostError> {
     let locked = match Locked::of(disk, name) {
         Ok(locked) => locked,
-        Err(error) => return Ok(tell_lock(rt, name, error)?),
+        Err(error) => return Ok(tell_lock(rt, name, error)),
     };
     let new = match changed(rt.alloc(), locked.text(), edit, value) {
         Ok(new) => new,
@@ -298,7 +297,7 @@ fn change_file<'t>(
     }
     match locked.commit(new.as_slice()) {
         Ok(()) => Ok(Ending::Done),
-        Err(error) => Ok(tell_lock(rt, name, error)?),
+        Err(error) => Ok(tell_lock(rt, name, error)),
     }
 }
 

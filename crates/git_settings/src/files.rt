@@ -40,8 +40,8 @@ pub struct Reading<'r, 't> {
     pub output: Text,
 }
 
-/// What an entry of a file of this scope and name is in. A file has the name of no other text: those of a command
-/// include files by whole paths.
+/// What an entry of a file of this scope and name is in. A file has the name of no other text: those of a
+/// command include files by whole paths.
 fn origin_of(sources: &[Source<'_>], scope: Scope, file: &[u8]) -> Origin {
     if scope != Scope::Command {
         return Origin::File;
@@ -88,8 +88,8 @@ impl<'t> Reading<'_, 't> {
         tell_wrong(self.rt, shown, &wrong, b"");
     }
 
-    /// Appends a setting to the output as Git writes it, or replaces the one before it if one is wanted. Returns
-    /// what becomes of its value.
+    /// Appends a setting to the output as Git writes it, or replaces the one before it if one is wanted.
+    /// Returns what becomes of its value.
     pub fn show(
         &mut self,
         setting: &Setting<'_>,
@@ -114,7 +114,8 @@ impl<'t> Reading<'_, 't> {
         Ok(outcome)
     }
 
-    /// Lists a setting, or keeps it if it is asked for. As in Git, a list leaves out what is none of its type.
+    /// Lists a setting, or keeps it if it is asked for. As in Git, a list leaves out what is none of its
+    /// type.
     fn take_setting(&mut self, setting: Setting<'t>) -> io::Result<()> {
         if self.request.lists() {
             let place = self.place(&setting);
@@ -336,15 +337,14 @@ fn answer_in<'r, 't>(
     wanted: Wanted<'r, 'r>,
     commands: &[u8],
 ) -> Result<Ending, HereError<'t>> {
+    let Some(opened) = open_texts(rt, texts, request, commands)? else {
+        return Ok(Ending::Refused);
+    };
     let Opened {
         disk,
         mut surroundings,
         sources,
-        ending,
-    } = open_texts(rt, texts, request, commands)?;
-    if !matches!(ending, Ending::Done) {
-        return Ok(ending);
-    }
+    } = opened;
     let mut reading = Reading {
         rt,
         homes: Homes::new(&disk, request.shown)?,

@@ -16,7 +16,7 @@ mod wanted;
 
 use crate::asked::{Asked, asked_of};
 use crate::options::{Word, word_of};
-use crate::output::{Ending, tell, tell_error};
+use crate::output::{Ending, tell, tell_error, tell_fatal};
 use config_host::HostError;
 use config_host::environment::arguments as arguments_of;
 use config_host::options::{Ends, Misuse, help, read};
@@ -40,7 +40,7 @@ fn words_of<'a>(alloc: Global, arguments: &'a [String]) -> Result<Vec<&'a str>, 
 
 /// Tells in Git's words how options are wrong, and where Git does so how to use them.
 fn refuse(rt: &HostRuntime, word: &Word, misuse: &Misuse<'_>) -> Result<Ending, HostError> {
-    tell_error(rt, b"error: ", misuse);
+    tell_error(rt, [b"error: ", b"", b""], misuse);
     if misuse.shows_usage() {
         tell(rt, &[&help(rt.alloc(), &word.about, word.tables)?]);
     }
@@ -86,7 +86,7 @@ fn ended(rt: &HostRuntime, outcome: Result<Ending, HostError>) -> Ending {
     match outcome {
         Ok(ending) => ending,
         Err(error) => {
-            tell_error(rt, b"fatal: ", error);
+            tell_fatal(rt, error);
             Ending::Refused
         }
     }
@@ -96,7 +96,7 @@ fn main(rt: HostRuntime) -> ExitCode {
     let ending = match arguments_of(&rt) {
         Ok(arguments) => ended(&rt, run_arguments(&rt, &arguments)),
         Err(error) => {
-            tell_error(&rt, b"fatal: ", error);
+            tell_fatal(&rt, error);
             Ending::Refused
         }
     };

@@ -85,8 +85,8 @@ const TYPE: &[Row] = &[
 ];
 
 const TYPES: &str = "\
-Read or write values as this: bool, int, bool-or-int, bool-or-str, path, expiry-date or color, as Git does; or suffix, \
-integer, amount, boolean, name or attribute";
+Read or write values as this: bool, int, bool-or-int, bool-or-str, path, expiry-date or color, as Git does; \
+or suffix, integer, amount, boolean, name or attribute";
 
 const CANONICAL: &str = "Show or write a color by its canonical text, which Git does not do";
 
@@ -127,8 +127,8 @@ const KEYS: &[Row] = &[
 ];
 
 const DECIDES: &str = "\
-Print the value that decides for the URL, as http.proxy has one for each host; KEY may be a section, all of whose \
-names are then printed";
+Print the value that decides for the URL, as http.proxy has one for each host; KEY may be a section, all of \
+whose names are then printed";
 
 /// Whether `set` adds an entry.
 const APPEND: &[Row] = &[("append", "", Nothing, "Add an entry, and keep the others")];
@@ -170,24 +170,26 @@ const OLDER: &[Row] = &[
     ),
 ];
 
-/// The statuses of what reads.
+/// What the help of the words that read ends with.
 const READING: &str = "\
-Each option has an opposite, such as --no-type. Statuses: 0 if all is printed, 1 if no entry has the key or it is \
-no key, 6 for an invalid pattern, 128 if a file, a line, a value or a URL is refused, or after an error of the \
-output or of memory, 129 for a wrong usage, and 255 for a default that is no color.
+Each option has an opposite, such as --no-type. Statuses: 0 if all is printed, 1 if no entry has the
+key or it is no key, 6 for an invalid pattern, 128 if a file, a line, a value or a URL is refused, or
+after an error of the output or of memory, 129 for a wrong usage, and 255 for a default that is no
+color.
 
-An expiry date is never, false, all or now; or the seconds since 1970, from 100000000 to 4102444799; or an age: a \
-number, a space or a dot, and a unit from second to week, perhaps with ago, as in 2.weeks.ago.";
+An expiry date is never, false, all or now; or the seconds since 1970, from 100000000 to 4102444799;
+or an age: a number, a space or a dot, and a unit from second to week, perhaps with ago, as in
+2.weeks.ago.";
 
-/// The statuses of what changes a file.
+/// What the help of the words that change a file ends with.
 const CHANGING: &str = "\
 Without a file or a scope the file of the repository changes. All bytes but those of the change stay.
 
-Each option has an opposite, such as --no-type. Statuses: 0 if the file is as asked, 1 for a key with a wrong byte, \
-2 for a key without a section or a name, 3 for a file that is no configuration file, 4 if the new file is not \
-written, 5 if several entries have the key or none, 6 for an invalid pattern, 128 if the value is none of its type, \
-the comment has a line end, no section has the name or the file is -, 129 for a wrong usage, and 255 if the file \
-cannot be locked or no section can have the name.";
+Each option has an opposite, such as --no-type. Statuses: 0 if the file is as asked, 1 for a key with
+a wrong byte, 2 for a key without a section or a name, 3 for a file that is no configuration file, 4
+if the new file is not written, 5 if several entries have the key or none, 6 for an invalid pattern,
+128 if the value is none of its type, the comment has a line end, no section has the name or the file
+is -, 129 for a wrong usage, and 255 if the file cannot be locked or no section can have the name.";
 
 /// The words.
 const WORDS: &[Word] = &[
@@ -275,10 +277,10 @@ const WITHOUT: &Word = &Word {
         summary: "Reads and changes Git's settings, as `git config` does",
         usage: "git-settings [-c KEY=VALUE]... [OPTIONS] [KEY [VALUE [PATTERN]]]",
         after: "\
-Words: list, get, set, unset, rename-section and remove-section, each of which has a --help of its own. Without a \
-word and without one of the flags from --get to --get-colorbool a key alone is read, and a key and a value are set. \
-Before them each `-c KEY=VALUE` and each `--config-env=KEY=VARIABLE` adds a setting of the command. Statuses are \
-those of the words.
+Words: list, get, set, unset, rename-section and remove-section, each of which has a --help of its
+own. Without a word and without one of the flags from --get to --get-colorbool a key alone is read,
+and a key and a value are set. Before them each `-c KEY=VALUE` and each `--config-env=KEY=VARIABLE`
+adds a setting of the command. Statuses are those of the words.
 
 Examples:
   git-settings get --type=bool --default=false core.bare

@@ -52,22 +52,32 @@ pub fn tell(rt: &HostRuntime, parts: &[&[u8]]) {
     };
 }
 
-/// Writes this front and an error on standard error.
-pub fn tell_error<E: fmt::Display + Drop>(rt: &HostRuntime, front: &[u8], error: E) {
+/// Writes these parts and an error on standard error.
+pub fn tell_error<E: fmt::Display + Drop>(rt: &HostRuntime, parts: [&[u8]; 3], error: E) {
+    let [front, name, end] = parts;
     match format!(in rt.alloc(); "{error}") {
-        Ok(text) => tell(rt, &[front, text.as_bytes()]),
+        Ok(text) => tell(rt, &[front, name, end, text.as_bytes()]),
         Err(_) => tell(rt, &[b"fatal: out of memory"]),
     }
+}
+
+/// Writes that a run ends with this error.
+pub fn tell_fatal<E: fmt::Display + Drop>(rt: &HostRuntime, error: E) {
+    tell_error(rt, [b"fatal: ", b"", b""], error);
 }
 
 /// Tells why settings are not read here.
 pub fn tell_here(rt: &HostRuntime, error: HereError<'_>) {
     match error {
         HereError::Command(error) => {
-            tell_error(rt, b"error: ", error);
+            tell_error(rt, [b"error: ", b"", b""], error);
             tell(rt, &[b"fatal: unable to parse command-line config"]);
         }
-        error => tell_error(rt, b"fatal: ", error),
+        HereError::File { file, error } => {
+            let front = b"fatal: unable to read config file '";
+            tell_error(rt, [front, file, b"': "], error);
+        }
+        error => tell_fatal(rt, error),
     }
 }
 

@@ -66,8 +66,8 @@ fn push_of_variable(rt: &HostRuntime, text: &mut Vec<u8>, given: &str) -> Result
     Ok(false)
 }
 
-/// Appends the settings with which words begin to a text. Returns the words after them, or `None` if one is no
-/// setting, which is told.
+/// Appends the settings with which words begin to a text. Returns the words after them, or `None` if one is
+/// no setting, which is told.
 pub fn take<'w, 'a>(
     rt: &HostRuntime,
     words: &'w [&'a str],

@@ -1,13 +1,13 @@
 //! Values as they are shown.
 
 use crate::dates;
-use crate::output::{Origin, Place, tell, tell_error, tell_line};
+use crate::output::{Origin, Place, tell, tell_line};
 use bstr::BStr;
 use config_file::Setting;
 use config_host::names::exists;
 use config_host::text::Text;
 use config_host::{Disk, HostError, Users};
-use gix_config_value::canonical::{Kind, TryRead, normalize, refusal};
+use gix_config_value::canonical::{Kind, TryRead, normalize};
 use gix_config_value::integer::Amount;
 use gix_config_value::path::interpolate::{Context, home_for_user};
 use gix_config_value::{Boolean, Color, Fault};
@@ -170,8 +170,8 @@ fn put_path(
     Ok(Outcome::Text)
 }
 
-/// Appends a value of one of the types whose text is the same wherever it is, unless that is its own text. Returns
-/// what became of it. A color stays as it is written.
+/// Appends a value of one of the types whose text is the same wherever it is, unless that is its own text.
+/// Returns what became of it. A color stays as it is written.
 pub fn put_typed(text: &mut Text, shown: Shown, value: &[u8]) -> Outcome {
     match shown {
         Shown::Canonical(kind) => put_canonical(text, kind, value),
@@ -243,51 +243,46 @@ fn tell_number(rt: &HostRuntime, wrong: &Wrong<'_>) {
     );
 }
 
-/// Tells in Git's words why a value is none of its type, and what follows if they have a second line: that of its
-/// place, or this one and the value.
-pub fn tell_wrong(rt: &HostRuntime, shown: Shown, wrong: &Wrong<'_>, end: &[u8]) {
-    let value = wrong.value.unwrap_or(b"true");
-    let kind = match shown {
-        Shown::Escape => Kind::Color,
-        Shown::Canonical(kind) => kind,
-        _ => Kind::Amount,
-    };
-    match (shown, kind) {
-        (Shown::Path | Shown::Date | Shown::Escape, _) if wrong.value.is_none() => {
-            tell(rt, &[b"error: missing value for '", wrong.key, b"'"]);
+/// Tells in Git's words why a value is none of its type. Returns whether they have a second line.
+fn tell_typed(rt: &HostRuntime, shown: Shown, wrong: &Wrong<'_>, value: &[u8]) -> bool {
+    let (of_key, end) = (b"' for '", b"'");
+    match shown {
+        Shown::Path => {
+            let front = b"fatal: failed to expand user dir in: '";
+            tell(rt, &[front, value, end]);
         }
-        (Shown::Path, _) => {
-            return tell(
-                rt,
-                &[b"fatal: failed to expand user dir in: '", value, b"'"],
-            );
-        }
-        (Shown::Date, _) => {
+        Shown::Date => {
             let end = b"' is not a valid timestamp";
-            tell(rt, &[b"error: '", value, b"' for '", wrong.key, end]);
+            tell(rt, &[b"error: '", value, of_key, wrong.key, end]);
         }
-        (_, Kind::Color) => tell(rt, &[b"error: invalid color value: ", value]),
-        (_, Kind::Amount) => return tell_number(rt, wrong),
-        (_, Kind::Boolean) => {
+        Shown::Escape | Shown::Canonical(Kind::Color) => {
+            tell(rt, &[b"error: invalid color value: ", value]);
+        }
+        Shown::BooleanOrAmount | Shown::Canonical(Kind::Amount) => tell_number(rt, wrong),
+        Shown::Canonical(Kind::Boolean) => {
             let front = b"fatal: bad boolean config value '";
-            return tell(rt, &[front, value, b"' for '", wrong.key, b"'"]);
+            tell(rt, &[front, value, of_key, wrong.key, end]);
         }
-        (_, kind) => {
-            tell(
-                rt,
-                &[
-                    b"fatal: bad config value '",
-                    value,
-                    b"' for '",
-                    wrong.key,
-                    b"'",
-                ],
-            );
-            if let Some(refusal) = refusal(kind, BStr::new(value)) {
-                tell_error(rt, b"fatal: ", refusal);
-            }
-            return;
+        _ => {
+            let front = b"fatal: bad config value '";
+            tell(rt, &[front, value, of_key, wrong.key, end]);
         }
+    }
+    matches!(
+        shown,
+        Shown::Date | Shown::Escape | Shown::Canonical(Kind::Color)
+    )
+}
+
+/// Tells in Git's words why a value is none of its type. If they have a second line, it is that of the place
+/// of the value, or this one and the value.
+pub fn tell_wrong(rt: &HostRuntime, shown: Shown, wrong: &Wrong<'_>, end: &[u8]) {
+    let needs_value = matches!(shown, Shown::Path | Shown::Date | Shown::Escape);
+    let value = wrong.value.unwrap_or(b"true");
+    if wrong.value.is_none() && needs_value {
+        tell(rt, &[b"error: missing value for '", wrong.key, b"'"]);
+    } else if !tell_typed(rt, shown, wrong, value) {
+        return;
     }
     match wrong.place {
         Some(place) => tell_line(rt, &place, b""),

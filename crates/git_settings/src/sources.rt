@@ -1,6 +1,6 @@
 //! The texts that a request reads.
 
-use crate::output::{Ending, tell, tell_error};
+use crate::output::{tell, tell_error};
 use crate::request::{Request, Texts};
 use bumpalo::Bump;
 use config_file::{FilePlace, Scope};
@@ -23,8 +23,6 @@ pub struct Opened<'t> {
     pub surroundings: Surroundings<'t>,
     /// The texts, in order.
     pub sources: Vec<Source<'t>>,
-    /// Whether all of them are read.
-    pub ending: Ending,
 }
 
 /// The place of settings that are in no file. No folder is above it, so that no condition on one holds.
@@ -73,45 +71,29 @@ fn text_of<'t>(
     })
 }
 
-/// Tells that a file cannot be read that is named. As in Git, a list of its entries fails, and otherwise the file
-/// counts as empty.
-fn tell_unread(
-    rt: &HostRuntime,
-    request: &Request<'_>,
-    name: &[u8],
-    error: ReadError,
-) -> Result<Ending, HostError> {
-    if error.is_memory() {
-        return Err(HostError::from(AllocError));
-    }
-    let Ok(why) = format!(in rt.alloc(); "{error}") else {
-        return Err(HostError::from(AllocError));
-    };
-    if request.lists() {
-        let front = b"fatal: unable to read config file '";
-        tell(rt, &[front, name, b"': ", why.as_bytes()]);
-        return Ok(Ending::Refused);
-    }
-    if !error.is_missing() {
-        let front = b"warning: unable to access '";
-        tell(rt, &[front, name, b"': ", why.as_bytes()]);
-    }
-    Ok(Ending::Done)
-}
-
-/// Reads the file of this name.
+/// Adds the file of this name. As in Git, a list of its entries fails if it cannot be read, and otherwise the
+/// file counts as empty.
 fn open<'t>(
     rt: &'t HostRuntime,
     request: &Request<'_>,
     opened: &mut Opened<'t>,
     scope: Scope,
     name: &[u8],
-) -> Result<(), HostError> {
+) -> Result<(), HereError<'t>> {
     match text_of(rt, &opened.disk, scope, name) {
-        Ok(source) => add(&mut opened.sources, source)?,
-        Err(error) => opened.ending = tell_unread(rt, request, name, error)?,
+        Ok(source) => Ok(add(&mut opened.sources, source)?),
+        Err(error) if error.is_memory() => Err(HereError::from(AllocError)),
+        Err(error) if request.lists() => Err(HereError::File {
+            file: opened.disk.kept(name)?,
+            error,
+        }),
+        Err(error) => {
+            if !error.is_missing() {
+                tell_error(rt, [b"warning: unable to access '", name, b"': "], error);
+            }
+            Ok(())
+        }
     }
-    Ok(())
 }
 
 /// Nothing is opened yet.
@@ -119,18 +101,16 @@ fn closed<'t>(
     rt: &'t HostRuntime,
     disk: Disk<'t>,
     request: &Request<'_>,
-) -> Result<Opened<'t>, HostError> {
+) -> Result<Opened<'t>, AllocError> {
     let followed = if request.follows {
         Followed::AsGit
     } else {
         Followed::Nothing
     };
-    let surroundings = Surroundings::new(&disk, followed)?;
     Ok(Opened {
+        surroundings: Surroundings::new(&disk, followed)?,
         disk,
-        surroundings,
         sources: Vec::new(rt.alloc()),
-        ending: Ending::Done,
     })
 }
 
@@ -140,10 +120,10 @@ fn open_named<'t>(
     texts: &'t Bump,
     request: &Request<'_>,
     file: &str,
-) -> Result<Opened<'t>, HostError> {
+) -> Result<Option<Opened<'t>>, HereError<'t>> {
     let mut opened = closed(rt, Disk::new(rt, texts), request)?;
     open(rt, request, &mut opened, Scope::Command, file.as_bytes())?;
-    Ok(opened)
+    Ok(Some(opened))
 }
 
 /// The file of this scope among those that Git reads here: the last one, unless only one before it is there.
@@ -194,26 +174,26 @@ fn has_worktree(files: &[Named<'_>]) -> bool {
     false
 }
 
-/// Adds the file of a scope. Tells that there is none outside a repository.
+/// Adds the file of a scope. Tells that there is none outside a repository, and then returns false.
 fn open_scope<'t>(
     rt: &'t HostRuntime,
     request: &Request<'_>,
     opened: &mut Opened<'t>,
     files: &[Named<'t>],
     scope: Scope,
-) -> Result<(), HostError> {
+) -> Result<bool, HereError<'t>> {
     let read = match scope {
         Scope::Worktree if !has_worktree(files) => Scope::Local,
         scope => scope,
     };
     match of_scope(&opened.disk, files, read)? {
-        Some(named) => open(rt, request, opened, read, named.name),
+        Some(named) => open(rt, request, opened, read, named.name)?,
         None => {
             tell_no_file(rt, scope);
-            opened.ending = Ending::Refused;
-            Ok(())
+            return Ok(false);
         }
     }
+    Ok(true)
 }
 
 /// Adds what Git reads here, and then the text with the settings of the command line.
@@ -235,14 +215,15 @@ fn open_all<'t>(
     Ok(add(&mut opened.sources, source)?)
 }
 
-/// The folder in which Git works, and the repository that it uses. Tells why it uses none although one is there.
+/// The folder in which Git works, and the repository that it uses. Tells why it uses none although one is
+/// there.
 pub fn located<'t>(
     rt: &HostRuntime,
     disk: &Disk<'t>,
 ) -> Result<(&'t [u8], Option<FoundRepository<'t>>), HereError<'t>> {
     let location = find(disk, b"")?;
     if let Some(refusal) = location.refusal {
-        tell_error(rt, b"warning: ", refusal);
+        tell_error(rt, [b"warning: ", b"", b""], refusal);
     }
     let folder = location.folder;
     Ok((folder, location.used()?))
@@ -261,41 +242,46 @@ fn may_include(opened: &Opened<'_>, request: &Request<'_>) -> bool {
     false
 }
 
-/// The texts that Git reads here, or the one of a scope.
+/// The texts that Git reads here, or the one of a scope, or `None` if there is none, which is told.
 fn open_here<'t>(
     rt: &'t HostRuntime,
     texts: &'t Bump,
     request: &Request<'_>,
     scope: Option<Scope>,
     commands: &[u8],
-) -> Result<Opened<'t>, HereError<'t>> {
+) -> Result<Option<Opened<'t>>, HereError<'t>> {
     let disk = Disk::new(rt, texts);
     let (folder, repository) = located(rt, &disk)?;
     let files = names(&disk, repository)?;
     let mut opened = closed(rt, disk.within(folder)?, request)?;
     opened.surroundings.set_repository(&disk, repository)?;
     match scope {
-        Some(scope) => open_scope(rt, request, &mut opened, &files, scope)?,
+        Some(scope) => {
+            if !open_scope(rt, request, &mut opened, &files, scope)? {
+                return Ok(None);
+            }
+        }
         None => open_all(&mut opened, &files, commands)?,
     }
     if may_include(&opened, request) {
         seek_urls(&opened.disk, &mut opened.surroundings, &opened.sources)?;
     }
-    Ok(opened)
+    Ok(Some(opened))
 }
 
-/// The texts of a request, after which these settings of the command line come. Tells which files cannot be read.
+/// The texts of a request, after which these settings of the command line come, or `None` if there are none,
+/// which is told.
 pub fn open_texts<'t>(
     rt: &'t HostRuntime,
     texts: &'t Bump,
     request: &Request<'_>,
     commands: &[u8],
-) -> Result<Opened<'t>, HereError<'t>> {
+) -> Result<Option<Opened<'t>>, HereError<'t>> {
     match request.texts {
-        Texts::Named(file) => Ok(open_named(rt, texts, request, file)?),
+        Texts::Named(file) => open_named(rt, texts, request, file),
         Texts::OfScope(scope) => open_here(rt, texts, request, Some(scope), commands),
         Texts::Here => match named_by_variable(rt)? {
-            Some(file) => Ok(open_named(rt, texts, request, &file)?),
+            Some(file) => open_named(rt, texts, request, &file),
             None => open_here(rt, texts, request, None, commands),
         },
     }
