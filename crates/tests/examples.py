@@ -25,7 +25,7 @@ CALLS = {
     "config_path": ("interpolate", "home_for_user"),
     "gix_config_value": ("from_str", "normalize", "same", "refusal", "run"),
     "config_file": ("text", "get", "spell_value", "is_remote_url"),
-    "config_edit": ("set", "add", "unset", "rename_section", "change_entries"),
+    "config_edit": ("set", "add", "unset", "rename_section"),
     "config_url": ("last_for_url",),
     "config_host": ("settings_here", "Locked"),
 }

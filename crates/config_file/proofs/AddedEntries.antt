@@ -110,7 +110,8 @@ line_ends front (k ∷ key) (Some value) is =
     let stays = continued_by_last (k ∷ key) 61 raw no_backslash no_return after in
     record {
       line = front ++ (k ∷ key ++ 61 ∷ raw);
-      joined = ap (λ l. front ++ l) (sym (append_assoc (k ∷ key) (61 ∷ raw) (10 ∷ []))) ∙ sym (append_assoc front (k ∷ key ++ 61 ∷ raw) (10 ∷ []));
+      joined =
+          ap (λ l. front ++ l) (sym (append_assoc (k ∷ key) (61 ∷ raw) (10 ∷ []))) ∙ sym (append_assoc front (k ∷ key ++ 61 ∷ raw) (10 ∷ []));
       not_continued = line_stays front k (key ++ 61 ∷ raw) letter stays;
     }
 
@@ -141,7 +142,8 @@ line_taken k key (Some value) is spellable =
     let all : list_all is_key_byte (k ∷ key) ≡ true = grind (arith, nat_tests) in
     let raw = git_spelled value in
     let after = raw ++ 10 ∷ [] in
-    let taken : TakesValue after raw (line_feeds raw) (10 ∷ []) = closed refl (git_spelling value spellable).0 (inl refl) in
+    let taken : TakesValue after raw (line_feeds raw) (10 ∷ []) =
+    closed refl (git_spelling value spellable).0 (inl refl) in
     let none = value_lines value in
     valued (key_then k key after 61 all refl refl) refl (subst (λ l. TakesValue after raw l (10 ∷ [])) none taken)
 
@@ -163,13 +165,15 @@ line_reads section (k ∷ key) None line is spellable =
     let letter : is_ascii_alphabetic k ≡ true = grind (arith, nat_tests) in
     let same : line + 0 ≡ line = omega arith in
     let left : Reads (Some section) (line + 0) (10 ∷ []) [] None = file.line_end refl file.ends in
-    let read = file.entry {section = Some section} {line = line} letter (line_taken k key None is spellable) left in
+    let read =
+    file.entry {section = Some section} {line = line} letter (line_taken k key None is spellable) left in
     rw same at read
 line_reads section (k ∷ key) (Some value) line is spellable =
     let letter : is_ascii_alphabetic k ≡ true = grind (arith, nat_tests) in
     let same : line + 0 ≡ line = omega arith in
     let left : Reads (Some section) (line + 0) (10 ∷ []) [] None = file.line_end refl file.ends in
-    let read = file.entry {section = Some section} {line = line} letter (line_taken k key (Some value) is spellable) left in
+    let read =
+    file.entry {section = Some section} {line = line} letter (line_taken k key (Some value) is spellable) left in
     rw same at read
 
 -- how a text begins, and how it begins after bytes are appended to it
@@ -212,7 +216,9 @@ mark_is (a ∷ b ∷ c ∷ text) rest e =
 marked_ends : {text : List ℕ} (rest : List ℕ) → text ≡ 0xef ∷ 0xbb ∷ 0xbf ∷ rest → EndsLine text
     → EndsLine rest
 marked_ends rest same (inl none) = cc
-marked_ends rest same (inr h) = let other : 0xbf ≢ 92 = omega arith in ends_line (after_front (0xef ∷ 0xbb ∷ []) 0xbf rest other same h)
+marked_ends rest same (inr h) =
+    let other : 0xbf ≢ 92 = omega arith in
+    ends_line (after_front (0xef ∷ 0xbb ∷ []) 0xbf rest other same h)
 
 module _ (bytes : List ℕ) (last : List Entry) (end : ℕ) (reads : (section : Option Section) → Reads section end (91 ∷ bytes) last None) where
   unmarked_more : (text : List ℕ) (entries : List Entry) → Reads None 1 text entries None → EndsLine text
@@ -244,11 +250,13 @@ module _ (bytes : List ℕ) (last : List Entry) (end : ℕ) (reads : (section : 
   begun_more (part_of_mark {text = []} part) h ends e = absurd part
   begun_more (part_of_mark {text = b ∷ []} part) h ends e = absurd (begins_no_mark h part)
   begun_more (part_of_mark {text = b ∷ c ∷ text} part) h ends e = absurd (begins_no_mark h part.0)
-  begun_more {entries = entries} (unmarked {text = text} none other) h ends e = unmarked_more text entries h ends e
+  begun_more {entries = entries} (unmarked {text = text} none other) h ends e =
+      unmarked_more text entries h ends e
 
 pub entry_added : (bytes name : List ℕ) (text : Option (List ℕ)) (key : List ℕ) (value : Option (List ℕ))
     → IsHeader bytes name text
-    → is_key key ≡ true → is_spellable_or_absent value ≡ true → AddsEntry (bytes ++ spelled_line key value) name text key value
+    → is_key key ≡ true → is_spellable_or_absent value ≡ true
+    → AddsEntry (bytes ++ spelled_line key value) name text key value
 unfolding entry_on
 entry_added bytes name text key value (inner, section, same, names, header) is spellable file_text entries is_file ends =
     let end = 1 + line_feeds file_text in
@@ -298,7 +306,8 @@ writable_added name text key value all =
     let first = and_left _ (is_spellable_or_absent value) all in
     let section : is_section name text ≡ true = and_left _ (is_key key) first in
     let is : is_key key ≡ true = and_right (is_section name text) _ first in
-    let spellable : is_spellable_or_absent value ≡ true = and_right (is_section name text && is_key key) _ all in
+    let spellable : is_spellable_or_absent value ≡ true =
+    and_right (is_section name text && is_key key) _ all in
     entry_added (91 ∷ spelled_section name text) name text key value (header_spelled name text section) is spellable
 
 pub writable_line : (name : List ℕ) (text : Option (List ℕ)) (key : List ℕ) (value : Option (List ℕ))
@@ -308,7 +317,8 @@ writable_line name text key None all =
     let section : is_section name text ≡ true = and_left _ (is_key key) (and_left _ true all) in
     (91 ∷ spelled_section name text, (header_spelled name text section, refl), refl)
 writable_line name text key (Some value) all =
-    let section : is_section name text ≡ true = and_left _ (is_key key) (and_left _ (is_spellable value) all) in
+    let section : is_section name text ≡ true =
+    and_left _ (is_key key) (and_left _ (is_spellable value) all) in
     let spellable : is_spellable value ≡ true = and_right (is_section name text && is_key key) _ all in (
       91 ∷ spelled_section name text,
       git_spelled value,

@@ -48,7 +48,8 @@ file_adds_more file entries entry old new newer adds one =
 
 pub file_more : (text : List ℕ) (entries left : List Entry) (entry : Entry) (error : Option FileError)
     → IsFile text (entries ++ entry ∷ left) error → IsFile text ((entries ++ entry ∷ []) ++ left) error
-file_more text entries left entry error file = subst (λ e. IsFile text e error) (sym (append_assoc entries (entry ∷ []) left)) file
+file_more text entries left entry error file =
+    subst (λ e. IsFile text e error) (sym (append_assoc entries (entry ∷ []) left)) file
 
 pub first_of : (text : List ℕ) (entries : List Entry) (reader : Entries)
     → ((left : List Entry) (error : Option FileError) → HasLeft reader left error → IsFile text (entries ++ left) error)

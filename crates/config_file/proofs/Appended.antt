@@ -1,18 +1,22 @@
 -- A configuration file, and a line that is appended to it.
-use Rattle.std.proofs.Common.{◌≡◌, ◌≢◌, ℕ, ◌+◌, Bool, true, List, [], ◌∷◌, ◌++◌, Option, None, refl, sym, ap, ◌∙◌, subst, append_assoc, append-nil, arith, inl, inr, ◌⊎◌}
+use Rattle.std.proofs.Common.{◌≡◌, ◌≢◌, ℕ, ◌+◌, Bool, true, List, [], ◌∷◌, ◌++◌, Option, None, refl, sym, ap}
+use Rattle.std.proofs.Common.{◌∙◌, subst, append_assoc, append-nil, arith, inl, inr, ◌⊎◌}
 use Rattle.std.specs.List.{list_all}
 use Rattle.std.proofs.lemmas.List.Folds.{list_all-append}
 use Rattle.std.proofs.lemmas.Bool.Decides.{nat_tests}
-use Rattle.config_file.specs.Bytes.{is_comment_byte, is_comment_sign, is_name_byte, is_blank, is_key_byte, is_space, is_text_byte, is_plain_in_quotes, IsAtLineEnd}
+use Rattle.config_file.specs.Bytes.{is_comment_byte, is_comment_sign, is_name_byte, is_blank, is_key_byte}
+use Rattle.config_file.specs.Bytes.{is_space, is_text_byte, is_plain_in_quotes, IsAtLineEnd}
 use Rattle.config_file.specs.Runs.{Run, StopsRun}
 use Rattle.config_file.specs.Subsection as sub
 use Rattle.config_file.specs.Subsection.{SpellsSubsection}
 use Rattle.config_file.specs.Header.{Section, Header, plain, quoted, closes}
 use Rattle.config_file.specs.Value.{TakesValue, closed, open_end, EndsValue, line_feeds}
 use Rattle.config_file.specs.File as file
-use Rattle.config_file.specs.File.{Entry, TakesKey, TakesEntry, alone, valued, Reads, Begins, marked, part_of_mark, unmarked, after_mark, IsPartOfMark, IsFile}
+use Rattle.config_file.specs.File.{Entry, TakesKey, TakesEntry, alone, valued, Reads}
 use Rattle.config_file.specs.Spelling.{HasLineEnd, EndsLine}
-use Rattle.config_file.proofs.LineEnds.{line_feeds_append, line_feeds_more, line_feeds_after, all_more, not_none, rest_none, tail_or_last, after_front, ends_at_byte, ends_line, has_end, no_line_end, value_has_no_end}
+use Rattle.config_file.proofs.LineEnds.{line_feeds_append, line_feeds_more, line_feeds_after, all_more}
+use Rattle.config_file.proofs.LineEnds.{not_none, rest_none, tail_or_last, after_front, ends_at_byte}
+use Rattle.config_file.proofs.LineEnds.{ends_line, has_end, no_line_end, value_has_no_end}
 
 -- names, blanks and keys have no LF
 name_other : (b : ℕ) → is_name_byte b ≡ true → is_comment_byte b ≡ true
@@ -56,9 +60,11 @@ run_more {test = test} {run = run} rest more some h =
 -- headers
 header_more : {text rest : List ℕ} {section : Section} (more : List ℕ) → Header text section rest
     → Header (text ++ more) section (rest ++ more)
-header_more more (plain {b = b} {rest = rest} run some e) = plain (run_more (b ∷ rest) more (λ no. cc) run) some e
+header_more more (plain {b = b} {rest = rest} run some e) =
+    plain (run_more (b ∷ rest) more (λ no. cc) run) some e
 header_more more (quoted {inner = inner} opens (closes {b = b} {raw = raw} {rest = rest} takes e)) =
-    let some : opens.blanked ≢ [] = λ none. not_none opens.blanks inner opens.quote (sym opens.blank_run.joined ∙ none) in
+    let some : opens.blanked ≢ [] =
+    λ none. not_none opens.blanks inner opens.quote (sym opens.blank_run.joined ∙ none) in
     quoted
     (record {
       blanks = opens.blanks;
@@ -102,7 +108,8 @@ key_bytes {key = key} rest takes = (
 key_more : {text key : List ℕ} (rest more : List ℕ) → rest ≢ [] → TakesKey text key rest
     → TakesKey (text ++ more) key (rest ++ more)
 key_more rest more some takes =
-    let some_spaced : takes.spaced ≢ [] = λ none. some (rest_none takes.spaces rest (sym takes.space_run.joined ∙ none)) in
+    let some_spaced : takes.spaced ≢ [] =
+    λ none. some (rest_none takes.spaces rest (sym takes.space_run.joined ∙ none)) in
     record {
       spaced = takes.spaced ++ more;
       spaces = takes.spaces;
@@ -135,7 +142,8 @@ value_end_is_no_backslash b (inr is) e = grind (arith, nat_tests)
 value_ends : {after : List ℕ} (raw rest : List ℕ) → rest ≢ [] → EndsValue rest → after ≡ raw ++ rest
     → HasLineEnd after → EndsLine rest
 value_ends raw [] some ends joined h = inl refl
-value_ends raw (b ∷ rest) some ends joined h = inr (ends_at_byte raw b rest (value_end_is_no_backslash b ends) joined h)
+value_ends raw (b ∷ rest) some ends joined h =
+    inr (ends_at_byte raw b rest (value_end_is_no_backslash b ends) joined h)
 
 value_lines : {after raw rest : List ℕ} {lines : ℕ} → HasLineEnd after → TakesValue after raw lines rest
     → (line_feeds after ≡ lines + line_feeds rest) × EndsLine rest
@@ -169,7 +177,8 @@ entry_more : {text key rest : List ℕ} {value : Option (List ℕ)} {lines : ℕ
     → HasLineEnd text → TakesEntry text key value lines rest
     → TakesEntry (text ++ more) key value lines (rest ++ more)
 entry_more more h (alone {rest = rest} takes end) =
-    let some = alone_some rest h takes in alone (key_more rest more some takes) (at_line_end_more rest more some end)
+    let some = alone_some rest h takes in
+    alone (key_more rest more some takes) (at_line_end_more rest more some end)
 entry_more more h (valued {b = b} {after = after} takes e taken) =
     valued (key_more (b ∷ after) more (λ no. cc) takes) e (value_more more (after_equals h takes e) taken)
 
@@ -177,8 +186,11 @@ line_ends : {text : List ℕ} (front rest : List ℕ) → IsAtLineEnd rest → t
     → HasLineEnd text → EndsLine rest
 line_ends front [] end joined h = inl refl
 line_ends front (a ∷ []) end joined h = inr (ends_at_byte front a [] (omega arith) joined h)
-line_ends front (a ∷ b ∷ rest) (inl is) joined h = inr (ends_at_byte front a (b ∷ rest) (omega arith) joined h)
-line_ends front (a ∷ b ∷ rest) (inr is) joined h = let e = is.0 in inr (ends_at_byte front a (b ∷ rest) (omega arith) joined h)
+line_ends front (a ∷ b ∷ rest) (inl is) joined h =
+    inr (ends_at_byte front a (b ∷ rest) (omega arith) joined h)
+line_ends front (a ∷ b ∷ rest) (inr is) joined h =
+    let e = is.0 in
+    inr (ends_at_byte front a (b ∷ rest) (omega arith) joined h)
 
 comment_ends : {text : List ℕ} (front rest : List ℕ) → StopsRun is_comment_byte rest → text ≡ front ++ rest
     → HasLineEnd text → EndsLine rest
@@ -216,7 +228,8 @@ blank_alone b is = rw (blank_other b is)
 module _ (more : List ℕ) (last : List Entry) (end : ℕ) (then : (section : Option Section) → Reads section end more last None) where
   pub reads_more : {section : Option Section} {line : ℕ} {text : List ℕ} {entries : List Entry}
       → Reads section line text entries None
-      → EndsLine text → line + line_feeds text ≡ end → Reads section line (text ++ more) (entries ++ last) None
+      → EndsLine text → line + line_feeds text ≡ end
+      → Reads section line (text ++ more) (entries ++ last) None
   reads_more {section = section} {line = line} file.ends ends e =
       let same : end ≡ line = omega arith in subst (λ l. Reads section l more last None) same (then section)
   reads_more (file.blank {b = b} {text = text} is h) ends e =

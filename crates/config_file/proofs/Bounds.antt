@@ -1,5 +1,6 @@
 -- How many bytes of a text are left, and how many lines have been passed.
-use Rattle.std.proofs.Common.{◌≡◌, ℕ, ◌+◌, ◌≤◌, ◌<◌, Bool, true, List, [], ◌∷◌, ◌++◌, Option, length, sym, ap, ◌∙◌, subst, arith, length-append, ◌==◌}
+use Rattle.std.proofs.Common.{◌≡◌, ℕ, ◌+◌, ◌≤◌, ◌<◌, Bool, true, List, [], ◌∷◌, ◌++◌, Option, length, sym, ap}
+use Rattle.std.proofs.Common.{◌∙◌, subst, arith, length-append, ◌==◌}
 use Rattle.std.proofs.lemmas.Bool.{true≢false}
 use Rattle.std.proofs.lemmas.List.Sums.{count_by-le-length}
 use Rattle.std.proofs.lemmas.Bool.Decides.{nat_tests}
@@ -8,7 +9,7 @@ use Rattle.config_file.specs.declared.errors.FileFault.{FileFault}
 use Rattle.config_file.specs.Bytes.{is_key_byte}
 use Rattle.config_file.specs.Runs.{Run, StopsRun}
 use Rattle.config_file.specs.Header as header
-use Rattle.config_file.specs.Header.{Section, Header, HeaderStops, ClosesSubsection, SubsectionStops, NameStops, OpensSubsection}
+use Rattle.config_file.specs.Header.{Section, Header, HeaderStops}
 use Rattle.config_file.specs.Value as value
 use Rattle.config_file.specs.Value.{TakesValue, ValueStops, line_feeds}
 use Rattle.config_file.specs.File as file
@@ -20,7 +21,9 @@ length_joined text front rest e = ap length e ∙ length-append front rest
 
 pub run_shortens : {test : ℕ → Bool} {text run rest : List ℕ} → Run test text run rest
     → length rest ≤ length text
-run_shortens {text = text} {run = run} {rest = rest} h = let e = length_joined text run rest h.joined in omega arith
+run_shortens {text = text} {run = run} {rest = rest} h =
+    let e = length_joined text run rest h.joined in
+    omega arith
 
 pub header_shortens : {text rest : List ℕ} {section : Section} → Header text section rest
     → length rest < length text
@@ -32,7 +35,8 @@ header_shortens (header.quoted {text = text} {name = name} {inner = inner} opens
     let third = length_joined inner raw (34 ∷ b ∷ rest) takes.joined in
     omega arith
 
-pub header_stops_soon : {text : List ℕ} {lines : ℕ} {fault : FileFault} → HeaderStops text lines fault → lines ≤ 1
+pub header_stops_soon : {text : List ℕ} {lines : ℕ} {fault : FileFault} → HeaderStops text lines fault
+    → lines ≤ 1
 header_stops_soon (header.name run none header.at_end) = omega arith
 header_stops_soon (header.name run none header.empty) = omega arith
 header_stops_soon (header.name run none (header.not_closed e)) = omega arith
@@ -53,7 +57,8 @@ value_bound (value.open_end {raw = raw} spells) = omega (arith, line_feeds_fit r
 
 value_shortens : {text raw rest : List ℕ} {lines : ℕ} → TakesValue text raw lines rest
     → length rest ≤ length text
-value_shortens (value.closed {raw = raw} {text = text} {rest = rest} joined spells ends) = omega (arith, length_joined text raw rest joined)
+value_shortens (value.closed {raw = raw} {text = text} {rest = rest} joined spells ends) =
+    omega (arith, length_joined text raw rest joined)
 value_shortens (value.open_end {raw = raw} spells) = omega arith
 
 pub value_stops_bound : {text : List ℕ} {lines : ℕ} {fault : FileFault} → ValueStops text lines fault
@@ -77,31 +82,42 @@ letter_is_key_byte b h = grind (arith, nat_tests)
 key_taken : {test : ℕ → Bool} {b : ℕ} {text rest : List ℕ} (run : List ℕ) → test b ≡ true
     → Run test (b ∷ text) run rest → length rest ≤ length text
 key_taken {test = test} {b = b} {text = text} {rest = rest} [] pass h =
-    let stops = subst (λ x. StopsRun test x) (sym h.joined) h.longest in absurd (true≢false (sym pass ∙ stops))
-key_taken {b = b} {text = text} {rest = rest} (r ∷ run) pass h = let e = length_joined (b ∷ text) (r ∷ run) rest h.joined in omega arith
+    let stops = subst (λ x. StopsRun test x) (sym h.joined) h.longest in
+    absurd (true≢false (sym pass ∙ stops))
+key_taken {b = b} {text = text} {rest = rest} (r ∷ run) pass h =
+    let e = length_joined (b ∷ text) (r ∷ run) rest h.joined in
+    omega arith
 
 pub entry_bound : {b lines : ℕ} {text key rest : List ℕ} {v : Option (List ℕ)}
     → is_ascii_alphabetic b ≡ true → TakesEntry (b ∷ text) key v lines rest
     → lines + length rest ≤ length text
 entry_bound {b = b} letter (file.alone {key = key} takes end) =
-    let f = key_taken key (letter_is_key_byte b letter) takes.key_run in let g = run_shortens takes.space_run in omega arith
+    let f = key_taken key (letter_is_key_byte b letter) takes.key_run in
+    let g = run_shortens takes.space_run in
+    omega arith
 entry_bound {b = b} letter (file.valued {key = key} takes e taken) =
-    let f = key_taken key (letter_is_key_byte b letter) takes.key_run in let g = run_shortens takes.space_run in
+    let f = key_taken key (letter_is_key_byte b letter) takes.key_run in
+    let g = run_shortens takes.space_run in
     omega (arith, value_bound taken)
 
 entry_shorter : {b lines : ℕ} {text key rest : List ℕ} {v : Option (List ℕ)} → is_ascii_alphabetic b ≡ true
     → TakesEntry (b ∷ text) key v lines rest
     → length rest < length (b ∷ text)
 entry_shorter {b = b} letter (file.alone {key = key} takes end) =
-    let f = key_taken key (letter_is_key_byte b letter) takes.key_run in let g = run_shortens takes.space_run in omega arith
+    let f = key_taken key (letter_is_key_byte b letter) takes.key_run in
+    let g = run_shortens takes.space_run in
+    omega arith
 entry_shorter {b = b} letter (file.valued {key = key} takes e taken) =
-    let f = key_taken key (letter_is_key_byte b letter) takes.key_run in let g = run_shortens takes.space_run in
+    let f = key_taken key (letter_is_key_byte b letter) takes.key_run in
+    let g = run_shortens takes.space_run in
     omega (arith, value_shortens taken)
 
 pub entry_stops_bound : {text : List ℕ} {lines : ℕ} {fault : FileFault} → EntryStops text lines fault
     → lines ≤ length text
 entry_stops_bound (file.key takes h l) = omega arith
-entry_stops_bound (file.value takes e stops) = let f = key_shortens takes in omega (arith, value_stops_bound stops)
+entry_stops_bound (file.value takes e stops) =
+    let f = key_shortens takes in
+    omega (arith, value_stops_bound stops)
 
 pub entry_bound_at : {b lines : ℕ} {text key rest : List ℕ} {v : Option (List ℕ)} (at : List ℕ)
     → at ≡ b ∷ text → is_ascii_alphabetic b ≡ true → TakesEntry at key v lines rest

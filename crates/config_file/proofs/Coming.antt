@@ -1,13 +1,15 @@
 -- A loop over the steps of a walk, which adds settings.
-use Rattle.std.proofs.Common.{arith, inl, inr, ◌≡◌, ◌≤◌, ◌++◌, ◌∙◌, ℕ, Bool, true, false, List, [], ◌∷◌, subst, refl, sym, length, map}
+use Rattle.std.proofs.Common.{arith, inl, inr, ◌≡◌, ◌≤◌, ◌++◌, ◌∙◌, ℕ, Bool, true, false, List, [], ◌∷◌}
+use Rattle.std.proofs.Common.{subst, refl, sym, length, map}
 use Rattle.std.specs.Prelude.{Ok, Err}
 use Rattle.std.proofs.lemmas.Bool.{true≢false, false≢true}
 use Rattle.std.proofs.lemmas.List.{append_assoc, append-nil, map-append}
 use Rattle.std.proofs.lemmas.List.Elements.{Contains-push, Contains-append_left, Contains-append_right}
 use Rattle.std.proofs.lemmas.List.Elements.{Contains-append_cases, Contains-push_cases}
 use Rattle.config_file.specs.File.{Entry}
-use Rattle.config_file.specs.Settings.{AddsEach, AddsWalk, IsFaultOf, TellsStop, found_item, IsPassed, IsEntered, IsStop}
-use Rattle.config_file.specs.Walk.{Content, Item, Found, Stops, Stop, Walks, WalksText}
+use Rattle.config_file.specs.Settings.{AddsEach, AddsWalk, IsFaultOf, TellsStop, found_item, IsPassed}
+use Rattle.config_file.specs.Settings.{IsEntered, IsStop}
+use Rattle.config_file.specs.Walk.{Content, Item, Stops, Stop, Walks, WalksText}
 use Rattle.config_file.specs.Walk as w
 use Rattle.config_file.specs.Reading.Adds.{Within, Comes, AddsNext}
 use Rattle.config_file.specs.Reading.Walks.{Left, nothing, Enters, Passes, Said, Takes}
@@ -15,7 +17,8 @@ use Rattle.config_file.specs.Views.{entry_of}
 use Rattle.config_file.specs.declared.entry.Entry as code
 use Rattle.config_file.specs.declared.errors.FileError.{FileError}
 use Rattle.config_file.specs.declared.walk.Include.{Include}
-use Rattle.config_file.specs.declared.walk.Include.TheVariants.{NotFollowed, MissingValue, UnknownDirectory, Named}
+use Rattle.config_file.specs.declared.walk.Include.TheVariants.{NotFollowed, MissingValue, UnknownDirectory}
+use Rattle.config_file.specs.declared.walk.Include.TheVariants.{Named}
 use Rattle.config_file.specs.declared.walk.Step.TheVariants as step
 use Rattle.config_file.specs.declared.settings.AddError.{AddError}
 use Rattle.config_file.specs.declared.settings.AddError.TheVariants as error
@@ -31,7 +34,8 @@ use Rattle.config_file.proofs.Steps.{all_of, cut_here}
 -- a walk over some contents is one over more
 walks_more : (some all : List ℕ → Content → Type 0) {known : Known} {depth : ℕ} {place : FilePlace} {entries : List Entry}
     {error : _} {items : List (List ℕ × Item)} {whole : Bool} → Within some all
-    → Walks some known depth place entries error items whole → Walks all known depth place entries error items whole
+    → Walks some known depth place entries error items whole
+    → Walks all known depth place entries error items whole
 walks_more some all more w.cut = w.cut
 walks_more some all more w.ends = w.ends
 walks_more some all more w.line = w.line
@@ -86,7 +90,8 @@ comes_both contents known old mid new items more (said, among, passes) (said2, a
 )
 
 -- what the loop keeps: the entries that are added are those that the walk has come to
-abbrev pub Keeps : (List ℕ → Content → Type 0) → Known → FilePlace → List ℕ → List Setting → List Setting → List Frame
+abbrev pub Keeps : (List ℕ → Content → Type 0) → Known → FilePlace → List ℕ → List Setting → List Setting
+    → List Frame
     → Type 0
 Keeps contents known place text start now frames = (first : List Frame) × Enters [] place text first
     × ((found : List (List ℕ × Entry)) × AddsEach found start now × Comes contents known first (map found_item found) frames)
@@ -97,7 +102,8 @@ all_come : (contents : List ℕ → Content → Type 0) (known : Known) (place :
     → ((answers : List (List ℕ × Content)) → Left (Said answers) known frames left whole)
     → WalksText contents known place text (items ++ left) whole
 all_come contents known place text first frames items left whole enters (said, among, passes) rest =
-    let (entries, error, reads, walks) = all_of (Said said) known place text first (items ++ left) whole enters
+    let (entries, error, reads, walks) =
+    all_of (Said said) known place text first (items ++ left) whole enters
     (passes said (λ n c is. is) left whole (rest said)) in
     (entries, error, reads, walks_more (Said said) contents among walks)
 
@@ -159,13 +165,15 @@ keeps_memory contents known place text start now newer frames refused fits same
     )
 
 -- what a loop gives that stops at an error
-abbrev pub Stopped : (List ℕ → Content → Type 0) → Known → FilePlace → List ℕ → List Setting → List Setting → AddError → Type 0
+abbrev pub Stopped : (List ℕ → Content → Type 0) → Known → FilePlace → List ℕ → List Setting → List Setting
+    → AddError → Type 0
 Stopped contents known place text start newer e =
     (found : List (List ℕ × Entry)) × (file : List ℕ) × (stop : Stop) × AddsEach found start newer × TellsStop file stop e
     × WalksText contents known place text (map found_item found ++ (file, Stops stop) ∷ []) false
 
 -- what the step gives that stops at an error
-abbrev pub StopsNext : (List ℕ → Content → Type 0) → Known → List Frame → List Setting → List Setting → AddError → Type 0
+abbrev pub StopsNext : (List ℕ → Content → Type 0) → Known → List Frame → List Setting → List Setting
+    → AddError → Type 0
 StopsNext contents known from old new e =
     (found : List (List ℕ × Entry)) × (file : List ℕ) × (stop : Stop) × AddsEach found old new × TellsStop file stop e
     × ((frames : List Frame) × (length frames ≤ 11)
@@ -268,7 +276,8 @@ deep_next contents known old new place at entry UnknownDirectory text takes is f
 pub stop_comes : (contents : List ℕ → Content → Type 0) (known : Known) (old new : List Frame) (place : FilePlace)
     (entry : code.Entry) (include : Include) (why : IncludeFault)
     → ((answers : List (List ℕ × Content)) → Takes answers known old (step.Entry place entry include) new)
-    → IsStop contents include why → (stop : Stop) × TellsStop place.name.now stop (error.Include place.name entry.line why)
+    → IsStop contents include why
+    → (stop : Stop) × TellsStop place.name.now stop (error.Include place.name entry.line why)
     × Comes contents known old (found_item (place.name.now, entry_of entry) ∷ (place.name.now, Stops stop) ∷ []) new
 stop_comes contents known old new place entry NotFollowed why takes is = absurd is
 stop_comes contents known old new place entry MissingValue why takes is = (

@@ -1,5 +1,8 @@
 -- The settings of a command.
-use Rattle.std.proofs.Common.{◌≡◌, ◌≢◌, ℕ, ◌+◌, ◌-◌, ◌*◌, ◌^◌, ◌<◌, ◌≤◌, Bool, true, false, not, ◌||◌, List, [], ◌∷◌, ◌++◌, Option, Some, None, take, drop, get_or, Result, Ok, Err, MatchResult, IsTrue, ◌↔◌, length, refl, sym, ap, ◌∙◌, subst, append_assoc, append-nil, arith, inl, inr, ◌⊎◌, ◌==◌}
+use Rattle.std.proofs.Common.{◌≡◌, ◌≢◌, ℕ, ◌+◌, ◌-◌, ◌*◌, ◌^◌, ◌<◌, ◌≤◌, Bool, true, false, not, ◌||◌, List}
+use Rattle.std.proofs.Common.{[], ◌∷◌, ◌++◌, Option, Some, None, take, drop, get_or, Result, Ok, Err}
+use Rattle.std.proofs.Common.{MatchResult, IsTrue, ◌↔◌, length, refl, sym, ap, ◌∙◌, subst, append_assoc}
+use Rattle.std.proofs.Common.{append-nil, arith, inl, inr, ◌⊎◌, ◌==◌}
 use Rattle.std.specs.List.{list_all, list_any, prefix_len, AllZip}
 use Rattle.std.specs.Char.{is_ascii_digit, is_ascii_alphabetic, digit_value}
 use Rattle.std.specs.Int.{IsInRange}
@@ -19,11 +22,18 @@ use Rattle.config_file.specs.Runs.{Run}
 use Rattle.config_file.specs.Header.{Section, BeginsWithout}
 use Rattle.config_file.specs.File.{IsFile}
 use Rattle.config_file.specs.Key.{Key, key, IsKey, IsAccepted, dotted, is_name}
-use Rattle.config_file.specs.Spelling.{SpellsSection, HasNoHeader, IsNoKey, LacksSpelling, IsEntry, AddsEntry, EndsLine}
+use Rattle.config_file.specs.Spelling.{SpellsSection, HasNoHeader, IsNoKey, LacksSpelling, IsEntry, AddsEntry}
+use Rattle.config_file.specs.Spelling.{EndsLine}
 use Rattle.config_file.specs.Reading.Spellings.{is_section, is_key, is_spellable, is_spellable_or_absent}
-use Rattle.config_file.specs.Command.{goes_on, Quotes, closes, escaped, plain, TakesQuoted, opens, EndsParameter, AfterEquals, absent, present, TakesParameter, text_alone, key_and_value, Parameter, whole, pair, KeyValue, IsSetting, AddsSettings, Accepts, has_nul, some_has_nul, LacksParameter}
-use Rattle.config_file.specs.Command.{key_value, is_no_equals, value_after, Says, cut, as_given, RefusesSetting, RefusesParameter, of_text, of_pair, is_c_space, IsNumber, in_64_bits, Counts, is_white, SettingsOf, RefusesParameters, later, RefusesFormat}
-use Rattle.config_file.specs.Reading.Commands.{Lacks, GoesOn, CutsSign, minus, after_plus, empty, no_sign, Limits, PushesParameter}
+use Rattle.config_file.specs.Command.{goes_on, Quotes, closes, escaped, plain, TakesQuoted, opens}
+use Rattle.config_file.specs.Command.{EndsParameter, AfterEquals, absent, present, TakesParameter, text_alone}
+use Rattle.config_file.specs.Command.{key_and_value, Parameter, whole, pair, KeyValue, IsSetting}
+use Rattle.config_file.specs.Command.{AddsSettings, Accepts, has_nul, some_has_nul, LacksParameter}
+use Rattle.config_file.specs.Command.{key_value, is_no_equals, value_after, Says, cut, as_given}
+use Rattle.config_file.specs.Command.{RefusesSetting, of_text, of_pair, is_c_space, IsNumber, in_64_bits}
+use Rattle.config_file.specs.Command.{Counts, is_white, SettingsOf, RefusesParameters, later, RefusesFormat}
+use Rattle.config_file.specs.Reading.Commands.{Lacks, GoesOn, CutsSign, minus, after_plus, empty, no_sign}
+use Rattle.config_file.specs.Reading.Commands.{Limits, PushesParameter}
 use Rattle.config_file.proofs.OneRun.{run_only}
 use Rattle.config_file.proofs.Runs.{run_split}
 use Rattle.config_file.proofs.SpelledHeaders.{header_spelled}
@@ -47,7 +57,8 @@ pub quoted_only : {text q r p s : List ℕ} → TakesQuoted text q r → TakesQu
 quoted_only (opens is more) (opens so others) = quotes_only more others
 
 -- what follows a piece of a quoted text
-after_plain : {b : ℕ} {text q r : List ℕ} → b ≢ 39 → Quotes (b ∷ text) q r → (more : List ℕ) × Quotes text more r
+after_plain : {b : ℕ} {text q r : List ℕ} → b ≢ 39 → Quotes (b ∷ text) q r
+    → (more : List ℕ) × Quotes text more r
 after_plain other (closes is stop) = absurd (other is)
 after_plain other (escaped is on more) = absurd (other is)
 after_plain other (plain {quoted = quoted} so more) = (quoted, more)
@@ -88,7 +99,8 @@ pub run_after : (test : ℕ → Bool) (text rest : List ℕ) (n : ℕ) → n ≡
     → (front : List ℕ) × Run test text front rest
 run_after test text rest n e f = (take n text, rw (f, e) (run_split test text))
 
-pub run_both : (test : ℕ → Bool) (text front rest : List ℕ) (n : ℕ) → n ≡ prefix_len test text → front ≡ take n text
+pub run_both : (test : ℕ → Bool) (text front rest : List ℕ) (n : ℕ) → n ≡ prefix_len test text
+    → front ≡ take n text
     → rest ≡ drop n text → Run test text front rest
 run_both test text front rest n e f g = rw (f, g, e) (run_split test text)
 
@@ -108,7 +120,8 @@ adds_none text entries file ends = (
   subst EndsLine (sym (append-nil text)) ends,
 )
 
-pub adds_both : (first second : List ℕ) (some more : List KeyValue) → AddsSettings first some → AddsSettings second more
+pub adds_both : (first second : List ℕ) (some more : List KeyValue) → AddsSettings first some
+    → AddsSettings second more
     → AddsSettings (first ++ second) (some ++ more)
 adds_both first second some more adds also text entries file ends =
     let (added, are, now, end) = adds text entries file ends in
@@ -179,7 +192,8 @@ key_writable (b ∷ name) is =
     let first : is_key_byte b ≡ true = grind (arith, nat_tests) in rw (letter, first, rest) refl
 
 section_writable : (section : List ℕ) (subsection : Option (List ℕ)) (name : List ℕ)
-    → IsAccepted (key section subsection name) → has_nul (dotted subsection) ≡ false → is_section section subsection ≡ true
+    → IsAccepted (key section subsection name) → has_nul (dotted subsection) ≡ false
+    → is_section section subsection ≡ true
 section_writable section None name is nul =
     let some = is.some_section in
     let bytes = name_bytes section is.section in rw (bytes, some) refl
@@ -191,7 +205,8 @@ never_lacks : (value : Option (List ℕ)) → is_spellable_or_absent value ≡ t
 never_lacks None all lacks = lacks
 never_lacks (Some value) all lacks = lacks _ (git_spelling value all).0
 
-never_without_header : (section : List ℕ) (subsection : Option (List ℕ)) → is_section section subsection ≡ true
+never_without_header : (section : List ℕ) (subsection : Option (List ℕ))
+    → is_section section subsection ≡ true
     → ¬ (HasNoHeader section subsection)
 never_without_header section subsection is lacks =
     let (inner, named, e, names, header) = header_spelled section subsection is in
@@ -208,7 +223,8 @@ pub never_refused : (text : List ℕ) (value : Option (List ℕ)) (k : Key) (sec
     → has_nul text ≡ false → some_has_nul value ≡ false
     → ¬ (HasNoHeader section subsection ⊎ IsNoKey name ⊎ LacksSpelling value)
 never_refused text value k section name subsection is e f g nul also refused =
-    let (front, last) = nul_parts (k.section ++ dotted k.subsection) (46 ∷ k.name) (sym (ap has_nul is.cut.joined) ∙ nul) in
+    let (front, last) =
+    nul_parts (k.section ++ dotted k.subsection) (46 ∷ k.name) (sym (ap has_nul is.cut.joined) ∙ nul) in
     let (first, middle) = nul_parts k.section (dotted k.subsection) front in
     let header : is_section section subsection ≡ true =
     rw (e, f) (section_writable k.section k.subsection k.name is.accepted middle) in
@@ -234,7 +250,8 @@ digit_is b is = grind (arith, nat_tests)
 all_digits : (text : List ℕ) → list_all is_ascii_digit text ≡ true → AllDigits 10 text
 all_digits [] all = tt
 all_digits (b ∷ text) all =
-    let (here, rest) = and_parts (is_ascii_digit b) (list_all is_ascii_digit text) all in (digit_small b here, all_digits text rest)
+    let (here, rest) = and_parts (is_ascii_digit b) (list_all is_ascii_digit text) all in
+    (digit_small b here, all_digits text rest)
 
 digits_pass : (text : List ℕ) → AllDigits 10 text → list_all is_ascii_digit text ≡ true
 digits_pass [] all = refl
@@ -250,13 +267,15 @@ pub digit_low : (digits : List ℕ) (i : ℕ) → AllDigits 10 digits → i < le
 digit_low digits i all lt = (digit_at digits i all lt).0
 
 pub number_more : (digits : List ℕ) (i n : ℕ) → AllDigits 10 digits → i < length digits
-    → n ≡ digits_value 10 (take i digits) → n * 10 + (get_or digits i 0 - 48) ≡ digits_value 10 (take (i + 1) digits)
+    → n ≡ digits_value 10 (take i digits)
+    → n * 10 + (get_or digits i 0 - 48) ≡ digits_value 10 (take (i + 1) digits)
 number_more digits i n all lt is =
     let e = digits_value_more 10 digits i lt in
     let v = digit_is (get_or digits i 0) (digit_at digits i all lt) in omega (arith, e, v, is)
 
 pub too_large : (digits : List ℕ) (i n : ℕ) → AllDigits 10 digits → i < length digits
-    → n ≡ digits_value 10 (take i digits) → 2 ^ 64 ≤ n * 10 + (get_or digits i 0 - 48) → 2 ^ 64 ≤ digits_value 10 digits
+    → n ≡ digits_value 10 (take i digits) → 2 ^ 64 ≤ n * 10 + (get_or digits i 0 - 48)
+    → 2 ^ 64 ≤ digits_value 10 digits
 too_large digits i n all lt is large =
     let e = number_more digits i n all lt is in
     let le = digits_value-take-le 10 digits (i + 1) (omega arith) in omega (arith, e, le, large)
@@ -283,12 +302,14 @@ sign_cut (after_plus is) = command.after_plus is
 sign_cut empty = command.no_sign
 sign_cut (no_sign other others) = command.no_sign
 
-pub number_here : (text rest digits : List ℕ) (is_negative : Bool) → (spaces : List ℕ) × Run is_c_space text spaces rest
+pub number_here : (text rest digits : List ℕ) (is_negative : Bool)
+    → (spaces : List ℕ) × Run is_c_space text spaces rest
     → CutsSign rest is_negative digits → IsNumeral 10 digits → IsNumber text is_negative digits
 number_here text rest digits is_negative (spaces, run) cuts numeral =
     record { spaces = spaces; signed = rest; space_run = run; sign = sign_cut cuts; numeral = numeral }
 
-pub no_number : (text rest digits : List ℕ) (is_negative : Bool) → (spaces : List ℕ) × Run is_c_space text spaces rest
+pub no_number : (text rest digits : List ℕ) (is_negative : Bool)
+    → (spaces : List ℕ) × Run is_c_space text spaces rest
     → CutsSign rest is_negative digits → ¬ (IsNumeral 10 digits)
     → (other : Bool) (others : List ℕ) → ¬ (IsNumber text other others)
 no_number text rest digits is_negative (spaces, run) cuts none other others number =
@@ -322,16 +343,19 @@ counted text digits is_negative number count (Err error.Nul) is e small f many =
 counted text digits is_negative number count (Err (error.Memory refused)) is e small f many = absurd many
 
 -- quoted texts and parameters
-closed_inner : {b : ℕ} (inner : List ℕ) → Lacks Quotes inner → (q r : List ℕ) → ¬ (TakesQuoted (b ∷ inner) q r)
+closed_inner : {b : ℕ} (inner : List ℕ) → Lacks Quotes inner → (q r : List ℕ)
+    → ¬ (TakesQuoted (b ∷ inner) q r)
 closed_inner inner lacks q r (opens is more) = lacks q r more
 
 pub nothing_quoted : (text q r : List ℕ) → text ≡ [] → ¬ (Quotes text q r)
 nothing_quoted text q r e h = none_quoted (subst (λ t. Quotes t q r) e h)
 
 pub not_opened : (text inner : List ℕ) → text ≡ 39 ∷ inner → Lacks Quotes inner → Lacks TakesQuoted text
-not_opened text inner e lacks q r takes = closed_inner inner lacks q r (subst (λ t. TakesQuoted t q r) e takes)
+not_opened text inner e lacks q r takes =
+    closed_inner inner lacks q r (subst (λ t. TakesQuoted t q r) e takes)
 
-pub no_value : (text value rest : List ℕ) → ¬ (EndsParameter text) → TakesQuoted text value rest → ¬ (EndsParameter rest)
+pub no_value : (text value rest : List ℕ) → ¬ (EndsParameter text) → TakesQuoted text value rest
+    → ¬ (EndsParameter rest)
     → Lacks AfterEquals text
 no_value text value rest going taken other _ _ (absent ends) = going ends
 no_value text value rest going taken other _ _ (present also ends) =
@@ -346,11 +370,13 @@ no_parameter text key rest taken going lacks _ _ (key_and_value {b = b} {after =
     let (e, f) = quoted_only taken also in lacks b after next value f is follows
 
 pub no_equals : (rest : List ℕ) → BeginsWithout 61 rest
-    → (b : ℕ) (after next : List ℕ) (value : Option (List ℕ)) → rest ≡ b ∷ after → b ≡ 61 → ¬ (AfterEquals after value next)
+    → (b : ℕ) (after next : List ℕ) (value : Option (List ℕ)) → rest ≡ b ∷ after → b ≡ 61
+    → ¬ (AfterEquals after value next)
 no_equals rest other b after next value e is follows = subst (λ r. BeginsWithout 61 r) e other is
 
 pub no_value_after : (rest here : List ℕ) → rest ≡ 61 ∷ here → Lacks AfterEquals here
-    → (b : ℕ) (after next : List ℕ) (value : Option (List ℕ)) → rest ≡ b ∷ after → b ≡ 61 → ¬ (AfterEquals after value next)
+    → (b : ℕ) (after next : List ℕ) (value : Option (List ℕ)) → rest ≡ b ∷ after → b ≡ 61
+    → ¬ (AfterEquals after value next)
 no_value_after rest here e lacks b after next value f is follows =
     let same : after ≡ here = cc in lacks value next (subst (λ t. AfterEquals t value next) same follows)
 
@@ -360,7 +386,8 @@ pub pair_pushed : (key old new : List ℕ) (value : Option (List ℕ)) (result :
     (λ _. Accepts (key_value key value) × ((line : List ℕ) × AddsSettings line (key_value key value ∷ []) × (new ≡ old ++ line)))
     (λ error. RefusesSetting (key_value key value) error × (new ≡ old))
     → PushesParameter (pair key value) old new result
-pair_pushed key old new value (Ok done) (accepts, (line, adds, e)) = (key_value key value, as_given, accepts, (line, adds, e))
+pair_pushed key old new value (Ok done) (accepts, (line, adds, e)) =
+    (key_value key value, as_given, accepts, (line, adds, e))
 pair_pushed key old new value (Err error) (refuses, same) = of_pair refuses
 
 pub whole_pushed : (text key rest old new : List ℕ) (value : Option (List ℕ)) (result : Result (Unit {0}) CommandError)
@@ -370,14 +397,16 @@ pub whole_pushed : (text key rest old new : List ℕ) (value : Option (List ℕ)
     (λ error. RefusesSetting (key_value key value) error × (new ≡ old))
     → PushesParameter (whole text) old new result
 whole_pushed text key rest old new value (Ok done) run is some (accepts, (line, adds, e)) =
-    let says : Says (whole text) (key_value key value) = subst (λ v. Says (whole text) (key_value key v)) (sym is) (cut run) in
+    let says : Says (whole text) (key_value key value) =
+    subst (λ v. Says (whole text) (key_value key v)) (sym is) (cut run) in
     (key_value key value, says, accepts, (line, adds, e))
 whole_pushed text key rest old new value (Err error) run is some (refuses, same) =
     of_text run some (subst (λ v. RefusesSetting (key_value key v) error) is refuses)
 
 pub keyless : (text key rest bytes : List ℕ) → Run is_no_equals bytes key rest → key ≡ [] → bytes ≡ text
     → Run is_no_equals text [] rest
-keyless text key rest bytes run e f = subst (λ b. Run is_no_equals b [] rest) f (subst (λ k. Run is_no_equals bytes k rest) e run)
+keyless text key rest bytes run e f =
+    subst (λ b. Run is_no_equals b [] rest) f (subst (λ k. Run is_no_equals bytes k rest) e run)
 
 -- each parameter shortens what is left
 quotes_shorten : {text q r : List ℕ} → Quotes text q r → length r < length text
@@ -388,7 +417,8 @@ quotes_shorten (plain other more) = let le = quotes_shorten more in omega (arith
 quoted_shortens : {text q r : List ℕ} → TakesQuoted text q r → length r < length text
 quoted_shortens (opens is more) = let le = quotes_shorten more in omega (arith, le)
 
-value_shortens : {text rest : List ℕ} {value : Option (List ℕ)} → AfterEquals text value rest → length rest ≤ length text
+value_shortens : {text rest : List ℕ} {value : Option (List ℕ)} → AfterEquals text value rest
+    → length rest ≤ length text
 value_shortens (absent ends) = omega arith
 value_shortens (present takes ends) = let le = quoted_shortens takes in omega (arith, le)
 
@@ -418,7 +448,8 @@ module _ (text at rest white next : List ℕ) (parameter : Parameter) (takes : T
       → ((error : CommandError) → RefusesParameters at error → RefusesParameters text error)
       → PushesParameter parameter old new (Ok tt)
       → (error : CommandError) → RefusesParameters next error → RefusesParameters text error
-  refused_later old new refused (setting, says, accepts, adds) error h = refused error (later takes says accepts run h)
+  refused_later old new refused (setting, says, accepts, adds) error h =
+      refused error (later takes says accepts run h)
 
 pub all_settings : (text at lines : List ℕ) → at ≡ []
     → (settings : List KeyValue) × AddsSettings lines settings
@@ -445,10 +476,12 @@ pub passed_on : {T E : Type 0} {R : E → Type 0} (P : T → Type 0) (Q : E → 
 passed_on P Q (Ok x) h each = absurd (true≢false (sym h.0))
 passed_on P Q (Err e) h each = each e h.1
 
-pub memory_of_setting : (setting : KeyValue) (refusal : CommandError) (refused : AllocError) → refusal ≡ error.Memory refused
+pub memory_of_setting : (setting : KeyValue) (refusal : CommandError) (refused : AllocError)
+    → refusal ≡ error.Memory refused
     → RefusesSetting setting refusal
 memory_of_setting setting refusal refused is = rw is tt
 
-pub memory_of_format : (text : List ℕ) (refusal : CommandError) (refused : AllocError) → refusal ≡ error.Memory refused
+pub memory_of_format : (text : List ℕ) (refusal : CommandError) (refused : AllocError)
+    → refusal ≡ error.Memory refused
     → RefusesFormat text refusal
 memory_of_format text refusal refused is = rw is tt

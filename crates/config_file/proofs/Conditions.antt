@@ -1,8 +1,10 @@
 -- What conditions on the git directory match.
-use Rattle.std.proofs.Common.{◌≡◌, ◌≢◌, ℕ, ◌<◌, Bool, true, false, List, ◌++◌, take, drop, length, codes, IsTrue, ◌↔◌, ◌⊎◌}
+use Rattle.std.proofs.Common.{◌≡◌, ◌≢◌, ℕ, ◌<◌, Bool, true, false, List, ◌++◌, take, drop, length, codes}
+use Rattle.std.proofs.Common.{IsTrue, ◌↔◌, ◌⊎◌}
 use Rattle.std.specs.Prelude.{Result, Ok, Err, IfOk}
 use Rattle.std.specs.declared.alloc.AllocError.{AllocError}
-use Rattle.std.proofs.Common.{inl, inr, rules, refl, [], ◌∷◌, sym, ap, ◌∙◌, subst, arith, Option, None, Some, map}
+use Rattle.std.proofs.Common.{inl, inr, rules, refl, [], ◌∷◌, sym, ap, ◌∙◌, subst, arith, Option, None, Some}
+use Rattle.std.proofs.Common.{map}
 use Rattle.std.proofs.lemmas.Option.{same_Some, none-some}
 use Rattle.std.specs.List.{IsSplitAt}
 use Rattle.std.specs.Char.{to_ascii_lowercase}
@@ -12,7 +14,8 @@ use Rattle.config_text.specs.Bytes.{LacksFront}
 use Rattle.config_file.specs.File.{Entry}
 use Rattle.config_file.specs.Header.{Section}
 use Rattle.config_file.specs.Subsection.{SpellsSubsection}
-use Rattle.config_file.specs.Include.{below, anywhere, at_home, IsSameName, MatchesBelow, MatchesDir, near, other}
+use Rattle.config_file.specs.Include.{below, anywhere, at_home, IsSameName, MatchesBelow, MatchesDir, near}
+use Rattle.config_file.specs.Include.{other}
 use Rattle.config_file.specs.Include.{SpellsCondition, Holds, IsPathIn, EntryFollows}
 use Rattle.config_file.specs.Include as follows
 use Rattle.config_file.specs.Pattern.{MatchesText}
@@ -33,7 +36,8 @@ same_length false a b e = ap length e
 -- a name has only one front of this many bytes, and only one rest after it
 fronts : (front left name : List ℕ) (n : ℕ) → name ≡ front ++ left → length front ≡ n
     → (front ≡ take n name) × (left ≡ drop n name)
-fronts front left name n e l = rw (sym l, e) (sym (take-append_seam front left), sym (drop-append_seam front left))
+fronts front left name n e l =
+    rw (sym l, e) (sym (take-append_seam front left), sym (drop-append_seam front left))
 
 pub too_short : (i : Bool) (dir pattern name : List ℕ) → length name < length dir
     → ¬ (MatchesBelow i dir pattern name)
@@ -112,7 +116,8 @@ other_subsection entry section subsection is differs (key, (written, some, named
     differs (ap (λ s. s.1) (same_Some _ _ (sym is ∙ some)))
 
 other_name : {name : List ℕ} {subsection : Option (List ℕ)} (entry : Entry) (section : Section)
-    → entry.section ≡ Some section → ¬ (map to_ascii_lowercase section.0 ≡ name) → ¬ (IsPathIn name subsection entry)
+    → entry.section ≡ Some section → ¬ (map to_ascii_lowercase section.0 ≡ name)
+    → ¬ (IsPathIn name subsection entry)
 other_name {name = name} entry section is differs (key, (written, some, named)) =
     differs (subst (λ s. map to_ascii_lowercase s ≡ name) (sym (ap (λ s. s.0) (same_Some _ _ (sym is ∙ some)))) named)
 
@@ -163,8 +168,10 @@ unknown_text home install value text same is = subst (λ v. BeginsUnknown home i
 pub if_always : (includes : Includes) (dir : List ℕ) (entry : Entry) (name : List ℕ) (result : Result Bool AllocError)
     → map to_ascii_lowercase entry.key ≡ codes "path" → entry.section ≡ Some (name, None)
     → map to_ascii_lowercase name ≡ codes "include"
-    → IfOk result (λ b. IsTrue b ↔ (Holds includes dir Always)) → IfOk result (EntryFollows includes dir entry)
-if_always includes dir entry name (Ok b) key is named iff = followed_always includes dir entry name b key is named iff
+    → IfOk result (λ b. IsTrue b ↔ (Holds includes dir Always))
+    → IfOk result (EntryFollows includes dir entry)
+if_always includes dir entry name (Ok b) key is named iff =
+    followed_always includes dir entry name b key is named iff
 if_always includes dir entry name (Err e) key is named iff = tt
 
 pub if_named : (includes : Includes) (dir : List ℕ) (entry : Entry) (name raw text : List ℕ) (c : Condition)

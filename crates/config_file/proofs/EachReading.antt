@@ -1,5 +1,6 @@
 -- Each text has a reading.
-use Rattle.std.proofs.Common.{◌≡◌, ◌≢◌, ℕ, zero, suc, ◌+◌, ◌≤◌, true, ◌==◌, List, [], ◌∷◌, Option, Some, None, Result, Ok, Err, length, take, drop, refl, arith, eqb-true, inl, inr, ◌⊎◌}
+use Rattle.std.proofs.Common.{◌≡◌, ◌≢◌, ℕ, zero, suc, ◌+◌, ◌≤◌, true, ◌==◌, List, [], ◌∷◌, Option, Some, None}
+use Rattle.std.proofs.Common.{Result, Ok, Err, length, take, drop, refl, arith, eqb-true, inl, inr, ◌⊎◌}
 use Rattle.std.specs.List.{prefix_len}
 use Rattle.std.specs.Char.{is_ascii_alphabetic}
 use Rattle.config_file.proofs.Runs.{run_split}
@@ -18,7 +19,8 @@ use Rattle.config_file.proofs.OneEntry.{EntryHas}
 use Rattle.config_file.specs.declared.errors.FileError.{FileError}
 use Rattle.config_file.specs.declared.errors.FileFault.{FileFault}
 use Rattle.config_file.specs.declared.errors.FileFault.TheVariants.{BadLine}
-use Rattle.config_file.specs.Bytes.{is_name_byte, is_key_byte, is_blank, is_space, is_comment_sign, is_comment_byte, IsAtLineEnd}
+use Rattle.config_file.specs.Bytes.{is_name_byte, is_key_byte, is_blank, is_space, is_comment_sign}
+use Rattle.config_file.specs.Bytes.{is_comment_byte, IsAtLineEnd}
 use Rattle.config_file.specs.Runs.{Run, StopsRun}
 use Rattle.config_file.specs.Header as header
 use Rattle.config_file.specs.Header.{Section, ClosesSubsection, SubsectionStops, fault_at}
@@ -30,16 +32,19 @@ not_empty b rest e = cc
 
 abbrev line_end_decided : (rest : List ℕ) → IsAtLineEnd rest ⊎ (IsAtLineEnd rest → ⊥)
 line_end_decided [] = inl tt
-line_end_decided (a ∷ []) = elim (cases (a == 10)) [ inl is ↦ inl (eqb-true a 10 is) | inr off ↦ inr (test_not a 10 off) ]
+line_end_decided (a ∷ []) =
+    elim (cases (a == 10)) [ inl is ↦ inl (eqb-true a 10 is) | inr off ↦ inr (test_not a 10 off) ]
 line_end_decided (a ∷ b ∷ rest) =
     elim (cases (a == 10)) [
       | inl is ↦ inl (inl (eqb-true a 10 is))
       | inr off ↦ elim (cases (a == 13)) [
         | inl return ↦ elim (cases (b == 10)) [
           | inl next ↦ inl (inr (eqb-true a 13 return, eqb-true b 10 next))
-          | inr no_line ↦ inr (λ h. elim h [ inl is ↦ test_not a 10 off is | inr both ↦ test_not b 10 no_line both.1 ])
+          | inr no_line ↦
+              inr (λ h. elim h [ inl is ↦ test_not a 10 off is | inr both ↦ test_not b 10 no_line both.1 ])
         ]
-        | inr no_return ↦ inr (λ h. elim h [ inl is ↦ test_not a 10 off is | inr both ↦ test_not a 13 no_return both.0 ])
+        | inr no_return ↦
+            inr (λ h. elim h [ inl is ↦ test_not a 10 off is | inr both ↦ test_not a 13 no_return both.0 ])
       ]
     ]
 
@@ -47,7 +52,8 @@ abbrev ClosingIs : List ℕ → Result (List ℕ × List ℕ) (ℕ × FileFault)
 ClosingIs text (Ok p) = ClosesSubsection text p.0 p.1
 ClosingIs text (Err stop) = SubsectionStops text stop.0 stop.1
 
-abbrev closing_of : (text : List ℕ) (o : Result (List ℕ × List ℕ) (List ℕ)) → SubsectionHas text o → (c : Result (List ℕ × List ℕ) (ℕ × FileFault)) × ClosingIs text c
+abbrev closing_of : (text : List ℕ) (o : Result (List ℕ × List ℕ) (List ℕ)) → SubsectionHas text o
+    → (c : Result (List ℕ × List ℕ) (ℕ × FileFault)) × ClosingIs text c
 closing_of text (Err rest) place = (Err (0, fault_at rest), header.within place)
 closing_of text (Ok (raw, [])) takes = (Err (1, BadLine), header.closed_at_line_end takes tt)
 closing_of text (Ok (raw, b ∷ rest)) takes =
@@ -62,29 +68,36 @@ closing_of text (Ok (raw, b ∷ rest)) takes =
 abbrev HasHeader : List ℕ → Type 0
 HasHeader text = (o : one_header.Outcome) × HeaderHas text o
 
-abbrev named : {text : List ℕ} (name after : List ℕ) → Run is_name_byte text name after → StopsRun is_blank after → HasHeader text
+abbrev named : {text : List ℕ} (name after : List ℕ) → Run is_name_byte text name after
+    → StopsRun is_blank after → HasHeader text
 named name [] run none = (Err (1, BadLine), header.name run none header.at_end)
 named [] (b ∷ rest) run none = (Err (0, fault_at (b ∷ rest)), header.name run none header.empty)
 named (n ∷ name) (b ∷ rest) run none =
     elim (cases (b == 93)) [
       | inl is ↦ (Ok ((n ∷ name, None), rest), header.plain run (not_empty n name) (eqb-true b 93 is))
-      | inr other ↦ (Err (0, fault_at (b ∷ rest)), header.name run none (header.not_closed (test_not b 93 other)))
+      | inr other ↦
+          (Err (0, fault_at (b ∷ rest)), header.name run none (header.not_closed (test_not b 93 other)))
     ]
 
-abbrev with_subsection : {text inner : List ℕ} (name : List ℕ) → header.OpensSubsection text name inner → (c : Result (List ℕ × List ℕ) (ℕ × FileFault)) → ClosingIs inner c → HasHeader text
+abbrev with_subsection : {text inner : List ℕ} (name : List ℕ) → header.OpensSubsection text name inner
+    → (c : Result (List ℕ × List ℕ) (ℕ × FileFault)) → ClosingIs inner c → HasHeader text
 with_subsection name opens (Ok (raw, rest)) closed = (Ok ((name, Some raw), rest), header.quoted opens closed)
-with_subsection name opens (Err (lines, fault)) stopped = (Err (lines, fault), header.subsection opens stopped)
+with_subsection name opens (Err (lines, fault)) stopped =
+    (Err (lines, fault), header.subsection opens stopped)
 
-abbrev blanked : {text : List ℕ} (name after blanks more : List ℕ) → Run is_name_byte text name after → Run is_blank after blanks more → HasHeader text
+abbrev blanked : {text : List ℕ} (name after blanks more : List ℕ) → Run is_name_byte text name after
+    → Run is_blank after blanks more → HasHeader text
 blanked name after [] more run blank_run = named name after run (no_blanks [] blank_run refl)
-blanked name after (x ∷ blanks) [] run blank_run = (Err (0, BadLine), header.blanks run blank_run (not_empty x blanks) tt)
+blanked name after (x ∷ blanks) [] run blank_run =
+    (Err (0, BadLine), header.blanks run blank_run (not_empty x blanks) tt)
 blanked name after (x ∷ blanks) (b ∷ inner) run blank_run =
     elim (cases (b == 34)) [
       | inl is ↦
           let o = subsection_of inner in
           let (c, closing) = closing_of inner o (subsection_holds inner) in
           with_subsection name (record { blanks = x ∷ blanks; blanked = after; quote = b; name_run = run; blank_run = blank_run; some_blank = (not_empty x blanks); is_quote = eqb-true b 34 is }) c closing
-      | inr other ↦ (Err (0, fault_at (b ∷ inner)), header.blanks run blank_run (not_empty x blanks) (test_not b 34 other))
+      | inr other ↦
+          (Err (0, fault_at (b ∷ inner)), header.blanks run blank_run (not_empty x blanks) (test_not b 34 other))
     ]
 
 abbrev each_header : (text : List ℕ) → HasHeader text
@@ -97,11 +110,15 @@ each_header text =
 abbrev HasEntry : List ℕ → Type 0
 HasEntry text = (o : one_entry.Outcome) × EntryHas text o
 
-abbrev with_value : {text : List ℕ} (key : List ℕ) (b : ℕ) (after : List ℕ) → TakesKey text key (b ∷ after) → b ≡ 61 → (o : one_value.Outcome) → ValueHas after o → HasEntry text
-with_value key b after takes is (Ok (raw, lines, rest)) taken = (Ok (key, Some raw, lines, rest), file.valued takes is taken)
-with_value key b after takes is (Err (lines, fault)) stopped = (Err (lines, fault), file.value takes is stopped)
+abbrev with_value : {text : List ℕ} (key : List ℕ) (b : ℕ) (after : List ℕ) → TakesKey text key (b ∷ after)
+    → b ≡ 61 → (o : one_value.Outcome) → ValueHas after o → HasEntry text
+with_value key b after takes is (Ok (raw, lines, rest)) taken =
+    (Ok (key, Some raw, lines, rest), file.valued takes is taken)
+with_value key b after takes is (Err (lines, fault)) stopped =
+    (Err (lines, fault), file.value takes is stopped)
 
-abbrev after_key : {text : List ℕ} (key rest : List ℕ) → TakesKey text key rest → IsAtLineEnd rest ⊎ (IsAtLineEnd rest → ⊥) → HasEntry text
+abbrev after_key : {text : List ℕ} (key rest : List ℕ) → TakesKey text key rest
+    → IsAtLineEnd rest ⊎ (IsAtLineEnd rest → ⊥) → HasEntry text
 after_key key rest takes (inl end) = (Ok (key, None, 0, rest), file.alone takes end)
 after_key key [] takes (inr not_end) = absurd (not_end tt)
 after_key key (b ∷ after) takes (inr not_end) =
@@ -119,46 +136,63 @@ each_entry text =
     after_key (take n text) rest (record { spaced = spaced; spaces = take m spaced; key_run = run_split is_key_byte text; space_run = run_split is_space spaced }) (line_end_decided rest)
 
 abbrev HasReading : Option Section → ℕ → List ℕ → Type 0
-HasReading section line text = (entries : List Entry) × (error : Option FileError) × Reads section line text entries error
+HasReading section line text =
+    (entries : List Entry) × (error : Option FileError) × Reads section line text entries error
 
 -- each text of at most n bytes has a reading
 abbrev pub AreRead : ℕ → Type 0
-AreRead n = (section : Option Section) (line : ℕ) (text : List ℕ) → length text ≤ n → HasReading section line text
+AreRead n =
+    (section : Option Section) (line : ℕ) (text : List ℕ) → length text ≤ n → HasReading section line text
 
-abbrev after_header : (n : ℕ) → AreRead n → (section : Option Section) (line b : ℕ) (text : List ℕ) → length text ≤ n → b ≡ 91 → (o : one_header.Outcome) → HeaderHas text o
+abbrev after_header : (n : ℕ) → AreRead n → (section : Option Section) (line b : ℕ) (text : List ℕ)
+    → length text ≤ n → b ≡ 91 → (o : one_header.Outcome) → HeaderHas text o
     → HasReading section line (b ∷ text)
 after_header n more section line b text room is (Ok (next, rest)) has =
     let shorter = header_shortens has in
     let (entries, error, reads) = more (Some next) line rest (omega arith) in
     (entries, error, file.header is has reads)
-after_header n more section line b text room is (Err (lines, fault)) has = ([], Some (file.error_at (line + lines) fault), file.header_refused is has)
+after_header n more section line b text room is (Err (lines, fault)) has =
+    ([], Some (file.error_at (line + lines) fault), file.header_refused is has)
 
-abbrev after_entry : (n : ℕ) → AreRead n → (section : Option Section) (line b : ℕ) (text : List ℕ) → length text ≤ n → is_ascii_alphabetic b ≡ true → (o : one_entry.Outcome)
+abbrev after_entry : (n : ℕ) → AreRead n → (section : Option Section) (line b : ℕ) (text : List ℕ)
+    → length text ≤ n → is_ascii_alphabetic b ≡ true → (o : one_entry.Outcome)
     → EntryHas (b ∷ text) o → HasReading section line (b ∷ text)
 after_entry n more section line b text room is (Ok (key, v, lines, rest)) has =
     let shorter = entry_shortens (b ∷ text) refl is has in
     let (entries, error, reads) = more section (line + lines) rest (omega arith) in
     (file.entry_at section key v (line + lines) ∷ entries, error, file.entry is has reads)
-after_entry n more section line b text room is (Err (lines, fault)) has = ([], Some (file.error_at (line + lines) fault), file.entry_refused is has)
+after_entry n more section line b text room is (Err (lines, fault)) has =
+    ([], Some (file.error_at (line + lines) fault), file.entry_refused is has)
 
-abbrev after_byte : (n : ℕ) → AreRead n → (section : Option Section) (line b : ℕ) (text : List ℕ) → length text ≤ n → HasReading section line (b ∷ text)
+abbrev after_byte : (n : ℕ) → AreRead n → (section : Option Section) (line b : ℕ) (text : List ℕ)
+    → length text ≤ n → HasReading section line (b ∷ text)
 after_byte n more section line b text room =
     elim (cases (is_blank b)) [
-      | inl is ↦ let (entries, error, reads) = more section line text room in (entries, error, file.blank is reads)
+      | inl is ↦
+          let (entries, error, reads) = more section line text room in
+          (entries, error, file.blank is reads)
       | inr not_blank ↦ elim (cases (b == 10)) [
-        | inl is ↦ let (entries, error, reads) = more section (line + 1) text room in (entries, error, file.line_end (eqb-true b 10 is) reads)
+        | inl is ↦
+            let (entries, error, reads) = more section (line + 1) text room in
+            (entries, error, file.line_end (eqb-true b 10 is) reads)
         | inr not_line ↦ elim (cases (is_comment_sign b)) [
           | inl is ↦
               let run = run_split is_comment_byte text in
               let shorter = run_shortens run in
-              let (entries, error, reads) = more section line (drop (prefix_len is_comment_byte text) text) (omega arith) in
+              let (entries, error, reads) =
+              more section line (drop (prefix_len is_comment_byte text) text) (omega arith) in
               (entries, error, file.comment is run reads)
           | inr not_sign ↦ elim (cases (b == 91)) [
-            | inl is ↦ let (o, has) = each_header text in after_header n more section line b text room (eqb-true b 91 is) o has
+            | inl is ↦
+                let (o, has) = each_header text in
+                after_header n more section line b text room (eqb-true b 91 is) o has
             | inr not_bracket ↦ elim (cases (is_ascii_alphabetic b)) [
-              | inl is ↦ let (o, has) = each_entry (b ∷ text) in after_entry n more section line b text room is o has
+              | inl is ↦
+                  let (o, has) = each_entry (b ∷ text) in
+                  after_entry n more section line b text room is o has
               | inr not_letter ↦
-                  let none = begins_none b not_blank (test_not b 10 not_line) not_sign (test_not b 91 not_bracket) not_letter in
+                  let none =
+                  begins_none b not_blank (test_not b 10 not_line) not_sign (test_not b 91 not_bracket) not_letter in
                   ([], Some (file.error_at line (fault_at (b ∷ text))), file.no_item none)
             ]
           ]
@@ -173,14 +207,16 @@ are_read (suc n) section line (b ∷ text) room = after_byte n (are_read n) sect
 
 abbrev part_decided : (text : List ℕ) → IsPartOfMark text ⊎ (IsPartOfMark text → ⊥)
 part_decided [] = inr (λ h. h)
-part_decided (a ∷ []) = elim (cases (a == 0xef)) [ inl is ↦ inl (eqb-true a 0xef is) | inr off ↦ inr (test_not a 0xef off) ]
+part_decided (a ∷ []) =
+    elim (cases (a == 0xef)) [ inl is ↦ inl (eqb-true a 0xef is) | inr off ↦ inr (test_not a 0xef off) ]
 part_decided (a ∷ b ∷ rest) =
     elim (cases (a == 0xef)) [
       | inr off ↦ inr (λ h. test_not a 0xef off h.0)
       | inl is ↦ elim (line_end_decided (b ∷ rest)) [
         | inl end ↦ inl (eqb-true a 0xef is, inl end)
         | inr not_end ↦ elim (cases (b == 0xbb)) [
-          | inr other ↦ inr (λ h. elim h.1 [ inl end ↦ not_end end | inr both ↦ test_not b 0xbb other both.0 ])
+          | inr other ↦
+              inr (λ h. elim h.1 [ inl end ↦ not_end end | inr both ↦ test_not b 0xbb other both.0 ])
           | inl next ↦ elim (line_end_decided rest) [
             | inl end ↦ inl (eqb-true a 0xef is, inr (eqb-true b 0xbb next, end))
             | inr no_end ↦ inr (λ h. elim h.1 [ inl end ↦ not_end end | inr both ↦ no_end both.1 ])
@@ -202,7 +238,8 @@ each_beginning text =
       ]
     ]
 
-abbrev pub each_is_read : (text : List ℕ) → (entries : List Entry) × (error : Option FileError) × IsFile text entries error
+abbrev pub each_is_read : (text : List ℕ)
+    → (entries : List Entry) × (error : Option FileError) × IsFile text entries error
 each_is_read text =
     let (line, rest, begins) = each_beginning text in
     let (entries, error, reads) = are_read (length rest) None line rest (omega arith) in

@@ -1,5 +1,7 @@
 -- After an `=`, each text has a value or a place at which the reading stops. The same holds after a quote.
-use Rattle.std.proofs.Common.{◌≡◌, ◌≢◌, ℕ, zero, suc, ◌+◌, ◌≤◌, Bool, true, false, not, ◌==◌, List, [], ◌∷◌, None, Result, Ok, Err, length, refl, ap, subst, arith, eqb-true, if◌then◌else◌, inl, inr}
+use Rattle.std.proofs.Common.{◌≡◌, ◌≢◌, ℕ, zero, suc, ◌+◌, ◌≤◌, Bool, true, false, not, ◌==◌, List, [], ◌∷◌}
+use Rattle.std.proofs.Common.{None, Result, Ok, Err, length, refl, ap, subst, arith, eqb-true, if◌then◌else◌}
+use Rattle.std.proofs.Common.{inl, inr}
 use Rattle.std.proofs.lemmas.Bool.{cases_Bool}
 use Rattle.std.proofs.lemmas.Bool.Decides.{nat_tests}
 use Rattle.config_file.proofs.Pick.{option_cases}
@@ -12,7 +14,8 @@ use Rattle.config_file.specs.declared.errors.FileFault.TheVariants.{BadLine, Nul
 use Rattle.config_file.specs.Bytes.{is_text_byte}
 use Rattle.config_file.specs.Header.{fault_at}
 use Rattle.config_file.specs.Value.{escape, line_feeds, IsNoEscape}
-use Rattle.config_file.specs.Reading.Scans.{PassedValue, PassedSubsection, Escapes, letter, line, line_after_return, goes_on, EndsScan}
+use Rattle.config_file.specs.Reading.Scans.{PassedValue, PassedSubsection, Escapes, letter, line}
+use Rattle.config_file.specs.Reading.Scans.{line_after_return, goes_on, EndsScan}
 
 pub test_not : (b c : ℕ) → (b == c) ≡ false → b ≢ c
 test_not b c off = grind (arith, nat_tests)
@@ -21,8 +24,10 @@ abbrev HasValue : List ℕ → Type 0
 HasValue text = (o : one_value.Outcome) × ValueHas text o
 
 value_ends : {text : List ℕ} (q : Bool) (at : List ℕ) → PassedValue text q at → EndsScan q at → HasValue text
-value_ends true at passed ends = (Err (line_feeds passed.raw, fault_at at), values.ends_in_quotes true passed.raw passed ends refl passed.joined)
-value_ends false [] passed ends = (Ok (passed.raw, line_feeds passed.raw, []), values.ends_closed false [] passed.raw passed ends refl refl passed.joined)
+value_ends true at passed ends =
+    (Err (line_feeds passed.raw, fault_at at), values.ends_in_quotes true passed.raw passed ends refl passed.joined)
+value_ends false [] passed ends =
+    (Ok (passed.raw, line_feeds passed.raw, []), values.ends_closed false [] passed.raw passed ends refl refl passed.joined)
 value_ends false (b ∷ rest) passed ends =
     elim (cases_Bool (b == 0)) [
       | inl is ↦
@@ -61,7 +66,8 @@ after_backslash (e ∷ rest) =
       ]
     ]
 
-value_at_end : {text rest : List ℕ} (q : Bool) (b : ℕ) → PassedValue text q (b ∷ rest) → b ≡ 92 → rest ≡ [] → HasValue text
+value_at_end : {text rest : List ℕ} (q : Bool) (b : ℕ) → PassedValue text q (b ∷ rest) → b ≡ 92 → rest ≡ []
+    → HasValue text
 value_at_end {rest = rest} true b passed is none =
     (Err (line_feeds passed.raw + 1, BadLine), values.stops_at_open_end true (b ∷ rest) passed.raw passed refl (rw is refl) none passed.joined)
 value_at_end {text = text} {rest = rest} false b passed is none =
@@ -71,21 +77,25 @@ value_at_end {text = text} {rest = rest} false b passed is none =
 abbrev Finds : ℕ → List ℕ → Type 0
 Finds n text = (q : Bool) (at : List ℕ) → length at ≤ n → PassedValue text q at → HasValue text
 
-value_backslash : (n : ℕ) {text : List ℕ} → Finds n text → (q : Bool) (b : ℕ) (rest : List ℕ) → length rest ≤ n → PassedValue text q (b ∷ rest) → b ≡ 92
+value_backslash : (n : ℕ) {text : List ℕ} → Finds n text → (q : Bool) (b : ℕ) (rest : List ℕ)
+    → length rest ≤ n → PassedValue text q (b ∷ rest) → b ≡ 92
     → AfterBackslash rest → HasValue text
-value_backslash n more q b rest room passed is (goes after escapes shorter) = more q after (omega arith) (values.passed_escape (b ∷ rest) passed refl is escapes)
+value_backslash n more q b rest room passed is (goes after escapes shorter) =
+    more q after (omega arith) (values.passed_escape (b ∷ rest) passed refl is escapes)
 value_backslash n more q b rest room passed is (ends none) = value_at_end q b passed is none
 value_backslash n more q b rest room passed is (stops none) =
     (Err (line_feeds passed.raw, fault_at rest), values.stops_after_backslash q (b ∷ rest) passed.raw passed (rw is refl) none passed.joined)
 
-value_turn : (n : ℕ) {text : List ℕ} → Finds n text → (q : Bool) (b : ℕ) (rest : List ℕ) → length rest ≤ n → PassedValue text q (b ∷ rest) → HasValue text
+value_turn : (n : ℕ) {text : List ℕ} → Finds n text → (q : Bool) (b : ℕ) (rest : List ℕ) → length rest ≤ n
+    → PassedValue text q (b ∷ rest) → HasValue text
 value_turn n more q b rest room passed =
     elim (cases_Bool (b == 34)) [
       | inl is ↦ more (not q) rest room (values.passed_quote (b ∷ rest) passed refl (eqb-true b 34 is))
       | inr no_quote ↦ elim (cases_Bool (b == 92)) [
         | inl is ↦ value_backslash n more q b rest room passed (eqb-true b 92 is) (after_backslash rest)
         | inr no_backslash ↦ elim (cases_Bool (goes_on q b)) [
-          | inl on ↦ more q rest room (values.passed_byte q (b ∷ rest) passed refl on (test_not b 34 no_quote) (test_not b 92 no_backslash))
+          | inl on ↦
+              more q rest room (values.passed_byte q (b ∷ rest) passed refl on (test_not b 34 no_quote) (test_not b 92 no_backslash))
           | inr off ↦ value_ends q (b ∷ rest) passed off
         ]
       ]
@@ -94,7 +104,8 @@ value_turn n more q b rest room passed =
 value_from : (n : ℕ) (text : List ℕ) → Finds n text
 value_from n text q [] room passed = value_ends q [] passed tt
 value_from zero text q (b ∷ rest) room passed = absurd (omega arith)
-value_from (suc n) text q (b ∷ rest) room passed = value_turn n (value_from n text) q b rest (omega arith) passed
+value_from (suc n) text q (b ∷ rest) room passed =
+    value_turn n (value_from n text) q b rest (omega arith) passed
 
 pub value_holds : (text : List ℕ) → ValueHas text (value_of text)
 value_holds text =
@@ -107,22 +118,28 @@ HasSubsection text = (o : Result (List ℕ × List ℕ) (List ℕ)) × Subsectio
 abbrev FindsSubsection : ℕ → List ℕ → Type 0
 FindsSubsection n text = (at : List ℕ) → length at ≤ n → PassedSubsection text at → HasSubsection text
 
-subsection_escaped : (n : ℕ) {text : List ℕ} → FindsSubsection n text → (b : ℕ) (rest : List ℕ) → length rest ≤ n → PassedSubsection text (b ∷ rest) → b ≡ 92 → HasSubsection text
-subsection_escaped n more b [] room passed is = (Err [], subsections.stops_after_backslash (b ∷ []) passed refl is tt)
+subsection_escaped : (n : ℕ) {text : List ℕ} → FindsSubsection n text → (b : ℕ) (rest : List ℕ)
+    → length rest ≤ n → PassedSubsection text (b ∷ rest) → b ≡ 92 → HasSubsection text
+subsection_escaped n more b [] room passed is =
+    (Err [], subsections.stops_after_backslash (b ∷ []) passed refl is tt)
 subsection_escaped n more b (e ∷ after) room passed is =
     elim (cases_Bool (is_text_byte e)) [
-      | inl text ↦ more after (omega arith) (subsections.passed_escaped (b ∷ e ∷ after) passed refl refl is text)
+      | inl text ↦
+          more after (omega arith) (subsections.passed_escaped (b ∷ e ∷ after) passed refl refl is text)
       | inr off ↦ (Err (e ∷ after), subsections.stops_after_backslash (b ∷ e ∷ after) passed refl is off)
     ]
 
-subsection_turn : (n : ℕ) {text : List ℕ} → FindsSubsection n text → (b : ℕ) (rest : List ℕ) → length rest ≤ n → PassedSubsection text (b ∷ rest) → HasSubsection text
+subsection_turn : (n : ℕ) {text : List ℕ} → FindsSubsection n text → (b : ℕ) (rest : List ℕ) → length rest ≤ n
+    → PassedSubsection text (b ∷ rest) → HasSubsection text
 subsection_turn n more b rest room passed =
     elim (cases_Bool (b == 34)) [
-      | inl is ↦ (Ok (passed.raw, rest), subsections.takes (b ∷ rest) passed.raw passed refl (eqb-true b 34 is) passed.joined)
+      | inl is ↦
+          (Ok (passed.raw, rest), subsections.takes (b ∷ rest) passed.raw passed refl (eqb-true b 34 is) passed.joined)
       | inr no_quote ↦ elim (cases_Bool (is_text_byte b)) [
         | inl text ↦ elim (cases_Bool (b == 92)) [
           | inl is ↦ subsection_escaped n more b rest room passed (eqb-true b 92 is)
-          | inr no_backslash ↦ more rest room (subsections.passed_plain (b ∷ rest) passed refl (subsections.plain_byte b text (test_not b 34 no_quote) (test_not b 92 no_backslash)))
+          | inr no_backslash ↦
+              more rest room (subsections.passed_plain (b ∷ rest) passed refl (subsections.plain_byte b text (test_not b 34 no_quote) (test_not b 92 no_backslash)))
         ]
         | inr off ↦ (Err (b ∷ rest), subsections.stops_here (b ∷ rest) passed off)
       ]
@@ -131,7 +148,8 @@ subsection_turn n more b rest room passed =
 subsection_from : (n : ℕ) (text : List ℕ) → FindsSubsection n text
 subsection_from n text [] room passed = (Err [], subsections.stops_here [] passed tt)
 subsection_from zero text (b ∷ rest) room passed = absurd (omega arith)
-subsection_from (suc n) text (b ∷ rest) room passed = subsection_turn n (subsection_from n text) b rest (omega arith) passed
+subsection_from (suc n) text (b ∷ rest) room passed =
+    subsection_turn n (subsection_from n text) b rest (omega arith) passed
 
 pub subsection_holds : (text : List ℕ) → SubsectionHas text (subsection_of text)
 subsection_holds text =

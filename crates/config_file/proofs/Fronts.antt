@@ -11,7 +11,8 @@ pub goes_on : (front text rest more : List ℕ) (i : ℕ) → i < length front
     → text ≡ str_to_ascii_lowercase (take i front) ++ rest → text ≡ str_to_ascii_lowercase front ++ more
     → (others : List ℕ) × (rest ≡ to_ascii_lowercase (get_or front i 0) ∷ others)
 goes_on [] text rest more i within part whole = absurd (omega arith)
-goes_on (f ∷ front) text rest more zero within part whole = (str_to_ascii_lowercase front ++ more, sym part ∙ whole)
+goes_on (f ∷ front) text rest more zero within part whole =
+    (str_to_ascii_lowercase front ++ more, sym part ∙ whole)
 goes_on (f ∷ front) text rest more (suc i) within part whole =
     goes_on front (str_to_ascii_lowercase (take i front) ++ rest) rest more i (omega arith) refl (ap (drop 1) (sym part ∙ whole))
 

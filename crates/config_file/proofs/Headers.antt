@@ -4,7 +4,8 @@ use Rattle.config_file.specs.declared.errors.FileFault.TheVariants.{BadLine}
 use Rattle.config_file.specs.Bytes.{is_name_byte, is_blank}
 use Rattle.config_file.specs.Runs.{Run, StopsRun}
 use Rattle.config_file.specs.Subsection.{TakesSubsection}
-use Rattle.config_file.specs.Header.{fault_at, BeginsWithout, ClosesSubsection, closes, OpensSubsection, Header, plain, NameStops, at_end, empty, not_closed}
+use Rattle.config_file.specs.Header.{fault_at, BeginsWithout, ClosesSubsection, closes, OpensSubsection}
+use Rattle.config_file.specs.Header.{Header, plain, NameStops, at_end, empty, not_closed}
 
 pub closes_at : {text raw rest : List ℕ} (at : List ℕ) → TakesSubsection text raw at → at ≡ 93 ∷ rest
     → ClosesSubsection text raw rest
@@ -31,7 +32,8 @@ no_blanks (b ∷ run) h e = cc
 
 pub named : {text name rest : List ℕ} (after : List ℕ) → Run is_name_byte text name after → name ≢ []
     → after ≡ 93 ∷ rest → Header text (name, None) rest
-named {text = text} {name = name} after run some e = plain (subst (λ x. Run is_name_byte text name x) e run) some refl
+named {text = text} {name = name} after run some e =
+    plain (subst (λ x. Run is_name_byte text name x) e run) some refl
 
 pub opened : {text name inner : List ℕ} (after blanks quoted : List ℕ) → Run is_name_byte text name after
     → Run is_blank after blanks quoted

@@ -17,7 +17,8 @@ le_cases : (i k : ℕ) → i ≤ k → (i ≡ k) ⊎ (i < k)
 le_cases zero zero h = inl refl
 le_cases zero (suc k) h = inr (omega arith)
 le_cases (suc i) zero h = absurd (omega arith)
-le_cases (suc i) (suc k) h = elim (le_cases i k (omega arith)) [ inl e ↦ inl (ap suc e) | inr l ↦ inr (omega arith) ]
+le_cases (suc i) (suc k) h =
+    elim (le_cases i k (omega arith)) [ inl e ↦ inl (ap suc e) | inr l ↦ inr (omega arith) ]
 
 pub at_index : {X : Type 0} (xs : List X) (i : ℕ) (x : X) → i < length xs → x ≡ get_or xs i x
     → slice_get xs i ≡ Some x
@@ -56,7 +57,8 @@ found settings key i low setting b at within above is_true tests later listed = 
 )
 
 pub not_found : (settings : List Setting) (key : Key) (i low : ℕ) (setting : Setting) (b : Bool)
-    → slice_get settings i ≡ Some setting → i < length settings → low ≡ i + 1 → b ≡ false → Tests setting key b
+    → slice_get settings i ≡ Some setting → i < length settings → low ≡ i + 1 → b ≡ false
+    → Tests setting key b
     → (AreListed settings
     → AllWithin (λ later. ¬ (HasKey (entry_of later.entry) key)) settings low (length settings))
     → AreListed settings
@@ -78,7 +80,8 @@ all_next settings i setting next b at within tests either before listed =
     let (text, is) = listed_at settings i setting at within listed in
     picks_next settings i setting next b at within (tests text is) either (before listed)
 
-pub picks_done : {P : Setting → Type 0} {all : List Setting} (settings : List Setting) (i : ℕ) → length settings ≤ i
+pub picks_done : {P : Setting → Type 0} {all : List Setting} (settings : List Setting) (i : ℕ)
+    → length settings ≤ i
     → (AreListed settings → Picks P (take i settings) all) → AreListed settings → Picks P settings all
 picks_done {P = P} {all = all} settings i past is listed =
     subst (λ s. Picks P s all) (take_all i settings past) (is listed)

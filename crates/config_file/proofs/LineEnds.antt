@@ -1,11 +1,13 @@
 -- Texts that end in a line end, and how many LFs they have.
-use Rattle.std.proofs.Common.{◌≡◌, ◌≢◌, ℕ, ◌+◌, Bool, true, false, cond, List, [], ◌∷◌, ◌++◌, refl, sym, ap, ◌∙◌, arith, inl, inr, ◌⊎◌, ◌==◌}
+use Rattle.std.proofs.Common.{◌≡◌, ◌≢◌, ℕ, ◌+◌, Bool, true, false, cond, List, [], ◌∷◌, ◌++◌, refl, sym, ap}
+use Rattle.std.proofs.Common.{◌∙◌, arith, inl, inr, ◌⊎◌, ◌==◌}
 use Rattle.std.specs.List.{list_all}
 use Rattle.std.proofs.lemmas.List.Sums.{sum_by-cons, sum_by-append}
 use Rattle.std.proofs.lemmas.Bool.{cases_Bool, true≢false}
 use Rattle.std.proofs.lemmas.Bool.Decides.{nat_tests}
 use Rattle.config_file.specs.Bytes.{is_comment_byte, is_plain, is_blank}
-use Rattle.config_file.specs.Value.{Ending, Spells, ends_outside, ends_inside, ends_at_backslash, quote, escaped, continued, continued_after_return, blank, plain, line_feeds}
+use Rattle.config_file.specs.Value.{Ending, Spells, ends_outside, ends_inside, ends_at_backslash, quote}
+use Rattle.config_file.specs.Value.{escaped, continued, continued_after_return, blank, plain, line_feeds}
 use Rattle.config_file.specs.Spelling.{is_continued, HasLineEnd, EndsLine}
 
 -- how many LFs a text has, by its parts
@@ -53,8 +55,12 @@ rest_none (x ∷ front) rest e = cc
 -- lines that are continued
 pub continued_tail : (a : ℕ) (line : List ℕ) → a ≢ 92 → is_continued (a ∷ line) ≡ is_continued line
 continued_tail a [] other = grind (arith, nat_tests)
-continued_tail a (b ∷ []) other = let no_backslash : (a == 92) ≡ false = grind (arith, nat_tests) in rw no_backslash
-continued_tail a (b ∷ c ∷ line) other = let no_backslash : (a == 92) ≡ false = grind (arith, nat_tests) in rw no_backslash
+continued_tail a (b ∷ []) other =
+    let no_backslash : (a == 92) ≡ false = grind (arith, nat_tests) in
+    rw no_backslash
+continued_tail a (b ∷ c ∷ line) other =
+    let no_backslash : (a == 92) ≡ false = grind (arith, nat_tests) in
+    rw no_backslash
 
 continued_pair : (a e : ℕ) (line : List ℕ) → a ≡ 92 → is_continued (a ∷ e ∷ line) ≡ false
     → is_continued line ≡ false
@@ -73,7 +79,8 @@ continued_after_front (x ∷ []) b line other h =
     ]
 continued_after_front (x ∷ y ∷ front) b line other h =
     elim (cases_Bool (x == 92)) [
-      | inl is ↦ continued_after_front front b line other (continued_pair x y (front ++ b ∷ line) (grind (arith, nat_tests)) h)
+      | inl is ↦
+          continued_after_front front b line other (continued_pair x y (front ++ b ∷ line) (grind (arith, nat_tests)) h)
       | inr no_backslash ↦
           let no_escape : x ≢ 92 = grind (arith, nat_tests) in
           continued_after_front (y ∷ front) b line other (sym (continued_tail x (y ∷ (front ++ b ∷ line)) no_escape) ∙ h)
@@ -126,7 +133,10 @@ pair_of : (b e : ℕ) (rest line : List ℕ) → b ≡ 92 → b ∷ e ∷ rest �
     → is_continued line ≡ false → HasLineEnd rest
 pair_of b e rest [] is joined h = cc
 pair_of b e rest (x ∷ []) is joined h =
-    let same : b ≡ x = cc in let backslash : x ≡ 92 = rw same at is in let yes : true ≡ false = rw backslash at h in absurd (true≢false yes)
+    let same : b ≡ x = cc in
+    let backslash : x ≡ 92 = rw same at is in
+    let yes : true ≡ false = rw backslash at h in
+    absurd (true≢false yes)
 pair_of b e rest (x ∷ y ∷ line) is joined h =
     let more : rest ≡ line ++ 10 ∷ [] = cc in
     let same : b ≡ x = cc in let backslash : x ≡ 92 = rw same at is in
@@ -140,7 +150,9 @@ splits : (front : List ℕ) (b : ℕ) (rest line : List ℕ) → front ++ b ∷ 
     → ((rest ≡ []) × (b ≡ 10)) ⊎ ((more : List ℕ) × (rest ≡ more ++ 10 ∷ []) × (line ≡ front ++ b ∷ more))
 splits [] b rest [] e = let none : rest ≡ [] = cc in let is : b ≡ 10 = cc in inl (none, is)
 splits [] b rest (x ∷ line) e =
-    let joined : rest ≡ line ++ 10 ∷ [] = cc in let same : x ∷ line ≡ b ∷ line = cc in inr (line, joined, same)
+    let joined : rest ≡ line ++ 10 ∷ [] = cc in
+    let same : x ∷ line ≡ b ∷ line = cc in
+    inr (line, joined, same)
 splits (f ∷ front) b rest [] e = let none : front ++ b ∷ rest ≡ [] = cc in absurd (not_none front rest b none)
 splits (f ∷ front) b rest (x ∷ line) e =
     let tails : front ++ b ∷ rest ≡ line ++ 10 ∷ [] = cc in
@@ -163,7 +175,8 @@ after_front_of front b rest line other e h =
 
 pub after_front : {text : List ℕ} (front : List ℕ) (b : ℕ) (rest : List ℕ) → b ≢ 92
     → text ≡ front ++ b ∷ rest → HasLineEnd text → ((rest ≡ []) × (b ≡ 10)) ⊎ HasLineEnd rest
-after_front front b rest other joined h = after_front_of front b rest h.line other (sym joined ∙ h.joined) h.not_continued
+after_front front b rest other joined h =
+    after_front_of front b rest h.line other (sym joined ∙ h.joined) h.not_continued
 
 cons_end : (b : ℕ) (rest : List ℕ) → b ≢ 92 → ((rest ≡ []) × (b ≡ 10)) ⊎ HasLineEnd rest
     → HasLineEnd (b ∷ rest)
@@ -191,7 +204,8 @@ line_feed_is_last [] = refl
 line_feed_is_last (b ∷ line) = let more = line_feed_is_last line in grind (arith, nat_tests)
 
 pub no_line_end : (text : List ℕ) → list_all is_comment_byte text ≡ true → HasLineEnd text → ⊥
-no_line_end text all h = true≢false (sym all ∙ ap (list_all is_comment_byte) h.joined ∙ line_feed_is_last h.line)
+no_line_end text all h =
+    true≢false (sym all ∙ ap (list_all is_comment_byte) h.joined ∙ line_feed_is_last h.line)
 
 one_end : (b : ℕ) (line : List ℕ) → b ∷ [] ≡ line ++ 10 ∷ [] → b ≡ 10
 one_end b [] e = cc
@@ -204,7 +218,9 @@ return_end b e f (x ∷ []) joined h is next = cc
 return_end b e f (x ∷ y ∷ []) joined h is next =
     let same : x ≡ 92 = cc in let same_next : y ≡ 13 = cc in
     let yes : true ≡ false = rw (same, same_next) at h in true≢false yes
-return_end b e f (x ∷ y ∷ z ∷ line) joined h is next = let more : line ++ 10 ∷ [] ≡ [] = cc in not_none line [] 10 more
+return_end b e f (x ∷ y ∷ z ∷ line) joined h is next =
+    let more : line ++ 10 ∷ [] ≡ [] = cc in
+    not_none line [] 10 more
 
 blank_is_no_backslash : (b : ℕ) → is_blank b ≡ true → b ≢ 92
 blank_is_no_backslash b is e = grind (arith, nat_tests)
@@ -229,7 +245,8 @@ value_has_no_end (ends_at_backslash {b = b} is) h = let e = one_end b h.line h.j
 value_has_no_end (quote {b = b} {raw = raw} is s) h =
     elim (tail_or_last b raw (omega arith) h) [ inl p ↦ let e = p.1 in omega arith | inr k ↦ value_has_no_end s k ]
 value_has_no_end (escaped {b = b} {e = e} {raw = raw} is l s) h = value_has_no_end s (after_pair b e raw is h)
-value_has_no_end (continued {b = b} {e = e} {raw = raw} is l s) h = value_has_no_end s (after_pair b e raw is h)
+value_has_no_end (continued {b = b} {e = e} {raw = raw} is l s) h =
+    value_has_no_end s (after_pair b e raw is h)
 value_has_no_end (continued_after_return {b = b} {e = e} {f = f} {raw = raw} is l n s) h =
     elim (tail_or_last f raw (omega arith) (after_pair b e (f ∷ raw) is h)) [
       | inl p ↦ return_end b e f h.line (ap (λ r. b ∷ e ∷ f ∷ r) (sym p.0) ∙ h.joined) h.not_continued is l

@@ -1,5 +1,7 @@
--- How Git lists the entries of a literal text: functions that compute it, with the proofs of what they return.
-use Rattle.std.proofs.Common.{◌≡◌, ℕ, suc, zero, Bool, true, false, not, ◌==◌, List, [], ◌∷◌, ◌++◌, Option, Some, None, map, length, refl, subst, eqb-true, inl, inr}
+-- How Git lists the entries of a literal text: functions that compute it, with the proofs of what they
+-- return.
+use Rattle.std.proofs.Common.{◌≡◌, ℕ, suc, zero, Bool, true, false, not, ◌==◌, List, [], ◌∷◌, ◌++◌, Option}
+use Rattle.std.proofs.Common.{Some, None, map, length, refl, subst, eqb-true, inl, inr}
 use Rattle.std.specs.Prelude.{⊤}
 use Rattle.std.specs.List.{AllByRecursion, AllZip}
 use Rattle.config_file.proofs.Pick.{cases, option_cases}
@@ -38,7 +40,8 @@ spell_return go q v held b e [] is = None
 spell_return go q v held b e (f ∷ raw) is =
     elim (cases (e == 13)) [
       | inl return ↦ elim (cases (f == 10)) [
-        | inl line ↦ carry (λ x. x) (λ x s. value.continued_after_return is (eqb-true e 13 return) (eqb-true f 10 line) s) (go q (kept v held) [] raw)
+        | inl line ↦
+            carry (λ x. x) (λ x s. value.continued_after_return is (eqb-true e 13 return) (eqb-true f 10 line) s) (go q (kept v held) [] raw)
         | inr other ↦ None
       ]
       | inr other ↦ None
@@ -50,9 +53,11 @@ spell_escape go true v held b [] is = None
 spell_escape go false v held b [] is = Some ((kept v held, value.at_backslash), value.ends_at_backslash is)
 spell_escape go q v held b (e ∷ raw) is =
     elim (option_cases (escape e)) [
-      | inl letter ↦ carry (λ x. x) (λ x s. value.escaped is letter.1 s) (go q (kept v held ++ letter.0 ∷ []) [] raw)
+      | inl letter ↦
+          carry (λ x. x) (λ x s. value.escaped is letter.1 s) (go q (kept v held ++ letter.0 ∷ []) [] raw)
       | inr none ↦ elim (cases (e == 10)) [
-        | inl line ↦ carry (λ x. x) (λ x s. value.continued is (eqb-true e 10 line) s) (go q (kept v held) [] raw)
+        | inl line ↦
+            carry (λ x. x) (λ x s. value.continued is (eqb-true e 10 line) s) (go q (kept v held) [] raw)
         | inr other ↦ spell_return go q v held b e raw is
       ]
     ]
@@ -81,7 +86,8 @@ spell n false v held [] = Some ((v, value.outside), value.ends_outside)
 spell zero q v held (b ∷ raw) = None
 spell (suc n) q v held (b ∷ raw) =
     elim (cases (b == 34)) [
-      | inl is ↦ carry (λ x. x) (λ x s. value.quote (eqb-true b 34 is) s) (spell n (not q) (kept v held) [] raw)
+      | inl is ↦
+          carry (λ x. x) (λ x s. value.quote (eqb-true b 34 is) s) (spell n (not q) (kept v held) [] raw)
       | inr other ↦ elim (cases (b == 92)) [
         | inl is ↦ spell_escape (spell n) q v held b raw (eqb-true b 92 is)
         | inr plain ↦ spell_byte (spell n) q v held b raw
@@ -122,7 +128,8 @@ subsection_of zero (b ∷ raw) = None
 subsection_of (suc n) (b ∷ raw) =
     elim (cases (is_plain_in_quotes b)) [
       | inl is ↦ carry (λ t. b ∷ t) (λ t s. sub.plain is s) (subsection_of n raw)
-      | inr other ↦ elim (cases (b == 92)) [ inl is ↦ escaped_of (subsection_of n) b raw (eqb-true b 92 is) | inr none ↦ None ]
+      | inr other ↦
+          elim (cases (b == 92)) [ inl is ↦ escaped_of (subsection_of n) b raw (eqb-true b 92 is) | inr none ↦ None ]
     ]
 
 abbrev section_of : (section : Section) → Known (IsListedSection section)
@@ -137,7 +144,8 @@ abbrev row_of : (entry : Entry) → Known (IsRow entry)
 row_of entry =
     elim (key_of entry.section entry.key) [
       | None ↦ None
-      | Some k ↦ carry (λ t. (k.0, t, entry.line)) (λ t is. record { key = k.1; value = is; line = refl }) (text_of entry.value)
+      | Some k ↦
+          carry (λ t. (k.0, t, entry.line)) (λ t is. record { key = k.1; value = is; line = refl }) (text_of entry.value)
     ]
 
 abbrev rows_of : (entries : List Entry) → Known (AllZip IsRow entries)
@@ -169,7 +177,9 @@ shown (Some found) = Some found.0
 told : {text : List ℕ} (found : Listing text) (rows : List Row) (error : Option FileError)
     → shown found ≡ Some (rows, error) → Lists text rows error
 told None rows error e = cc
-told {text = text} (Some found) rows error e = let same : found.0 ≡ (rows, error) = cc in subst (λ (l : List Row × Option FileError). Lists text l.0 l.1) same found.1
+told {text = text} (Some found) rows error e =
+    let same : found.0 ≡ (rows, error) = cc in
+    subst (λ (l : List Row × Option FileError). Lists text l.0 l.1) same found.1
 
 pub lists : (text : List ℕ) (rows : List Row) (error : Option FileError)
     → shown (listing text) ≡ Some (rows, error) → Lists text rows error
@@ -177,7 +187,8 @@ lists text rows error e = told (listing text) rows error e
 
 -- each text is listed in its rows
 abbrev pub AreListed : List (List ℕ × List Row × Option FileError) → Type 0
-AreListed table = AllByRecursion (λ (row : List ℕ × List Row × Option FileError). Lists row.0 row.1 row.2) table
+AreListed table =
+    AllByRecursion (λ (row : List ℕ × List Row × Option FileError). Lists row.0 row.1 row.2) table
 
 pub all_listed : (table : List (List ℕ × List Row × Option FileError))
     → map (λ row. shown (listing row.0)) table ≡ map (λ row. Some (row.1, row.2)) table

@@ -1,5 +1,6 @@
 -- At the start of a text there is at most one entry or place at which the reading stops.
-use Rattle.std.proofs.Common.{◌≡◌, ℕ, List, [], ◌∷◌, Option, Some, None, Result, Ok, Err, refl, ap, subst, arith, inl, inr}
+use Rattle.std.proofs.Common.{◌≡◌, ℕ, List, [], ◌∷◌, Option, Some, None, Result, Ok, Err, refl, ap, subst}
+use Rattle.std.proofs.Common.{arith, inl, inr}
 use Rattle.config_file.proofs.OneRun.{run_only}
 use Rattle.config_file.proofs.OneValue as one_value
 use Rattle.config_file.proofs.OneValue.{ValueHas, value_only}
@@ -34,7 +35,8 @@ ends_only (alone h) (alone k) = refl
 ends_only (alone h) (valued {b = b} {after = after} o is has) = absurd (no_line_end b after is h)
 ends_only (alone h) (stops other k) = absurd (k h)
 ends_only (valued {b = b} {after = after} o is has) (alone h) = absurd (no_line_end b after is h)
-ends_only (valued {key = key} {after = after} o is has) (valued p so also) = ap (with_key key) (value_only after o p has also)
+ends_only (valued {key = key} {after = after} o is has) (valued p so also) =
+    ap (with_key key) (value_only after o p has also)
 ends_only (valued o is has) (stops other k) = absurd (other is)
 ends_only (stops other k) (alone h) = absurd (k h)
 ends_only (stops other k) (valued o is has) = absurd (other is)
@@ -49,7 +51,8 @@ record Found (text : List ℕ) (outcome : Outcome) : Type 0 where
 key_only : {text a b r s : List ℕ} → TakesKey text a r → TakesKey text b s → (a ≡ b) × (r ≡ s)
 key_only {r = r} first second =
     let (keys, spaceds) = run_only first.key_run second.key_run in
-    let moved : Run is_space second.spaced first.spaces r = subst (λ x. Run is_space x first.spaces r) spaceds first.space_run in
+    let moved : Run is_space second.spaced first.spaces r =
+    subst (λ x. Run is_space x first.spaces r) spaceds first.space_run in
     let (blanks, rests) = run_only moved second.space_run in
     (keys, rests)
 

@@ -7,7 +7,8 @@ use Rattle.std.proofs.lemmas.Option.{same_Some, get_or_from_slice_get, slice_get
 use Rattle.std.proofs.lemmas.Bool.{cases_order}
 use Rattle.config_text.specs.declared.errors.Fault.{Fault}
 use Rattle.config_file.specs.Key.{Key, HasKey, IsKey, RefusesKey}
-use Rattle.config_file.specs.Settings.{IsLast, LacksKey, IsUnset, IsDecided, Gets, HasOneReading, IsSameAnswer}
+use Rattle.config_file.specs.Settings.{IsLast, LacksKey, IsUnset, IsDecided, Gets, HasOneReading}
+use Rattle.config_file.specs.Settings.{IsSameAnswer}
 use Rattle.config_file.specs.Settings.{text_of, value_text}
 use Rattle.config_file.specs.Views.{entry_of}
 use Rattle.config_file.specs.declared.key.KeyError.{KeyError}

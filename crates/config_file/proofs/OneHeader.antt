@@ -1,5 +1,6 @@
 -- After a `[`, a text has at most one header or place at which the reading stops.
-use Rattle.std.proofs.Common.{◌≡◌, ◌≢◌, ℕ, Bool, true, false, ◌==◌, ◌&&◌, ◌||◌, List, [], ◌∷◌, Some, None, Result, Ok, Err, refl, sym, ap, ◌∙◌, subst, arith, inl, inr, ◌⊎◌, if◌then◌else◌}
+use Rattle.std.proofs.Common.{◌≡◌, ◌≢◌, ℕ, Bool, true, false, ◌==◌, ◌&&◌, ◌||◌, List, [], ◌∷◌, Some, None}
+use Rattle.std.proofs.Common.{Result, Ok, Err, refl, sym, ap, ◌∙◌, subst, arith, inl, inr, ◌⊎◌, if◌then◌else◌}
 use Rattle.std.proofs.lemmas.Bool.Decides.{nat_tests}
 use Rattle.config_file.proofs.Pick.{pick, pick_second, pick_third}
 use Rattle.config_file.proofs.OneRun.{run_only}
@@ -9,7 +10,8 @@ use Rattle.config_file.specs.declared.errors.FileFault.TheVariants.{BadLine}
 use Rattle.config_file.specs.Bytes.{is_name_byte, is_blank, IsAtLineEnd}
 use Rattle.config_file.specs.Runs.{Run, StopsRun}
 use Rattle.config_file.specs.Header as header
-use Rattle.config_file.specs.Header.{Section, Header, OpensSubsection, HeaderStops, NameStops, ClosesSubsection, SubsectionStops, BeginsWithout, fault_at}
+use Rattle.config_file.specs.Header.{Section, Header, OpensSubsection, HeaderStops, NameStops}
+use Rattle.config_file.specs.Header.{ClosesSubsection, SubsectionStops, BeginsWithout, fault_at}
 
 abbrev ends_line : List ℕ → Bool
 ends_line [] = true
@@ -36,7 +38,8 @@ not_at_line_end (a ∷ b ∷ rest) h =
 -- the outcome after the closing quote
 abbrev close : List ℕ → List ℕ → Result (List ℕ × List ℕ) (ℕ × FileFault)
 close raw [] = Err (1, BadLine)
-close raw (b ∷ rest) = pick (b == 93) (ends_line (b ∷ rest)) (Ok (raw, rest)) (Err (1, BadLine)) (Err (0, fault_at (b ∷ rest)))
+close raw (b ∷ rest) =
+    pick (b == 93) (ends_line (b ∷ rest)) (Ok (raw, rest)) (Err (1, BadLine)) (Err (0, fault_at (b ∷ rest)))
 
 abbrev close_subsection : Result (List ℕ × List ℕ) (List ℕ) → Result (List ℕ × List ℕ) (ℕ × FileFault)
 close_subsection (Ok p) = close p.0 p.1
@@ -62,7 +65,8 @@ close_wrong raw (b ∷ rest) other h =
     sym (pick_third _ _ (Ok (raw, rest)) (Err (1, BadLine)) (Err (0, fault_at (b ∷ rest))) (test_false b 93 other) (not_at_line_end (b ∷ rest) h))
 
 abbrev ClosingHas : List ℕ → Result (List ℕ × List ℕ) (ℕ × FileFault) → Type 0
-ClosingHas text outcome = (o : Result (List ℕ × List ℕ) (List ℕ)) × SubsectionHas text o × (outcome ≡ close_subsection o)
+ClosingHas text outcome =
+    (o : Result (List ℕ × List ℕ) (List ℕ)) × SubsectionHas text o × (outcome ≡ close_subsection o)
 
 closes_has : {text raw rest : List ℕ} → ClosesSubsection text raw rest → ClosingHas text (Ok (raw, rest))
 closes_has (header.closes {b = b} {raw = raw} {rest = rest} takes is) = (Ok (raw, b ∷ rest), takes, rw is)
@@ -70,12 +74,15 @@ closes_has (header.closes {b = b} {raw = raw} {rest = rest} takes is) = (Ok (raw
 stops_has : {text : List ℕ} {lines : ℕ} {fault : FileFault} → SubsectionStops text lines fault
     → ClosingHas text (Err (lines, fault))
 stops_has (header.within {rest = rest} place) = (Err rest, place, refl)
-stops_has (header.closed {raw = raw} {rest = rest} takes other h) = (Ok (raw, rest), takes, close_wrong raw rest other h)
-stops_has (header.closed_at_line_end {raw = raw} {rest = rest} takes h) = (Ok (raw, rest), takes, close_late raw rest h)
+stops_has (header.closed {raw = raw} {rest = rest} takes other h) =
+    (Ok (raw, rest), takes, close_wrong raw rest other h)
+stops_has (header.closed_at_line_end {raw = raw} {rest = rest} takes h) =
+    (Ok (raw, rest), takes, close_late raw rest h)
 
 closing_only : {text : List ℕ} {a b : Result (List ℕ × List ℕ) (ℕ × FileFault)} → ClosingHas text a
     → ClosingHas text b → a ≡ b
-closing_only {text = text} (o, has, is) (p, also, so) = is ∙ ap close_subsection (subsection_only text o p has also) ∙ sym so
+closing_only {text = text} (o, has, is) (p, also, so) =
+    is ∙ ap close_subsection (subsection_only text o p has also) ∙ sym so
 
 abbrev pub Outcome : Type 0
 Outcome = Result (Section × List ℕ) (ℕ × FileFault)
@@ -84,7 +91,8 @@ Outcome = Result (Section × List ℕ) (ℕ × FileFault)
 abbrev close_name : List ℕ → List ℕ → Outcome
 close_name name [] = Err (1, BadLine)
 close_name [] (b ∷ rest) = Err (0, fault_at (b ∷ rest))
-close_name (n ∷ name) (b ∷ rest) = if b == 93 then Ok ((n ∷ name, None), rest) else Err (0, fault_at (b ∷ rest))
+close_name (n ∷ name) (b ∷ rest) =
+    if b == 93 then Ok ((n ∷ name, None), rest) else Err (0, fault_at (b ∷ rest))
 
 name_stops : {name rest : List ℕ} {lines : ℕ} {fault : FileFault} → NameStops name rest lines fault
     → Err (lines, fault) ≡ close_name name rest
@@ -108,7 +116,8 @@ ends_only : (name blanks more : List ℕ) (a b : Outcome) → Ends name blanks m
     → a ≡ b
 ends_only name [] more a b first second = first ∙ sym second
 ends_only name (x ∷ blanks) [] a b first second = first ∙ sym second
-ends_only name (x ∷ blanks) (c ∷ inner) a b (inl (is, (o, has, e))) (inl (so, (p, also, f))) = e ∙ ap (with_name name) (closing_only has also) ∙ sym f
+ends_only name (x ∷ blanks) (c ∷ inner) a b (inl (is, (o, has, e))) (inl (so, (p, also, f))) =
+    e ∙ ap (with_name name) (closing_only has also) ∙ sym f
 ends_only name (x ∷ blanks) (c ∷ inner) a b (inl (is, h)) (inr (other, e)) = absurd (other is)
 ends_only name (x ∷ blanks) (c ∷ inner) a b (inr (other, e)) (inl (is, h)) = absurd (other is)
 ends_only name (x ∷ blanks) (c ∷ inner) a b (inr (other, e)) (inr (also, f)) = e ∙ sym f
@@ -125,11 +134,15 @@ record Found (text : List ℕ) (outcome : Outcome) : Type 0 where
 found_only : {text : List ℕ} {a b : Outcome} → Found text a → Found text b → a ≡ b
 found_only {a = a} {b = b} first second =
     let (names, afters) = run_only first.name_run second.name_run in
-    let moved : Run is_blank second.after first.blanks first.more = subst (λ x. Run is_blank x first.blanks first.more) afters first.blank_run in
+    let moved : Run is_blank second.after first.blanks first.more =
+    subst (λ x. Run is_blank x first.blanks first.more) afters first.blank_run in
     let (blanks, mores) = run_only moved second.blank_run in
-    let e1 : Ends second.name first.blanks first.more a = subst (λ x. Ends x first.blanks first.more a) names first.ends in
-    let e2 : Ends second.name second.blanks first.more a = subst (λ x. Ends second.name x first.more a) blanks e1 in
-    let e3 : Ends second.name second.blanks second.more a = subst (λ x. Ends second.name second.blanks x a) mores e2 in
+    let e1 : Ends second.name first.blanks first.more a =
+    subst (λ x. Ends x first.blanks first.more a) names first.ends in
+    let e2 : Ends second.name second.blanks first.more a =
+    subst (λ x. Ends second.name x first.more a) blanks e1 in
+    let e3 : Ends second.name second.blanks second.more a =
+    subst (λ x. Ends second.name second.blanks x a) mores e2 in
     ends_only second.name second.blanks second.more a b e3 second.ends
 
 no_run : (after : List ℕ) → StopsRun is_blank after → Run is_blank after [] after

@@ -49,7 +49,8 @@ apart first second a b differ e f = lacks second (first ++ a) differ b (sym e �
 same_rest : (front : List ℕ) {text a b : List ℕ} → text ≡ front ++ a → text ≡ front ++ b → a ≡ b
 same_rest front {a = a} {b = b} e f = append_cancel_left front a b (sym e ∙ f)
 
-pub one_condition : (text : List ℕ) (a b : Condition) → SpellsCondition text a → SpellsCondition text b → IsSameCondition a b
+pub one_condition : (text : List ℕ) (a b : Condition) → SpellsCondition text a → SpellsCondition text b
+    → IsSameCondition a b
 one_condition text Always b is so = absurd is
 one_condition text (GitDir a) Always is so = absurd so
 one_condition text (GitDir a) (GitDir b) is so = same_rest git_dir is so

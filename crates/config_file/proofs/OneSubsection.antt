@@ -1,5 +1,7 @@
 -- After a quote, a text has at most one subsection or place at which the reading stops.
-use Rattle.std.proofs.Common.{◌≡◌, ℕ, zero, suc, ◌≤◌, true, false, ◌==◌, List, [], ◌∷◌, ◌++◌, Option, Some, None, Result, Ok, Err, length, refl, sym, ap, ◌∙◌, subst, arith, if◌then◌else◌, length-append}
+use Rattle.std.proofs.Common.{◌≡◌, ℕ, zero, suc, ◌≤◌, true, false, ◌==◌, List, [], ◌∷◌, ◌++◌, Option, Some}
+use Rattle.std.proofs.Common.{None, Result, Ok, Err, length, refl, sym, ap, ◌∙◌, subst, arith, if◌then◌else◌}
+use Rattle.std.proofs.Common.{length-append}
 use Rattle.std.proofs.lemmas.List.{append_cancel_right}
 use Rattle.std.proofs.lemmas.Bool.Decides.{nat_tests}
 use Rattle.config_file.proofs.OneRun.{before, before_is}
@@ -32,16 +34,19 @@ stops_at_once : (n : ℕ) (text : List ℕ) → step text ≡ None → stop n te
 stops_at_once zero text none = refl
 stops_at_once (suc n) text none = rw none
 
-stops_after : {raw spelled : List ℕ} → SpellsSubsection raw spelled → (rest : List ℕ) (n : ℕ) → length raw ≤ n → step rest ≡ None → stop n (raw ++ rest) ≡ rest
+stops_after : {raw spelled : List ℕ} → SpellsSubsection raw spelled → (rest : List ℕ) (n : ℕ) → length raw ≤ n
+    → step rest ≡ None → stop n (raw ++ rest) ≡ rest
 stops_after sub.ends rest n room none = stops_at_once n rest none
 stops_after (sub.escaped {b = b} is text s) rest zero room none = absurd (omega arith)
 stops_after (sub.escaped {b = b} {e = e} {raw = raw} is text s) rest (suc n) room none =
-    let first : step (b ∷ e ∷ raw ++ rest) ≡ step_escaped (e ∷ raw ++ rest) = pick_first (b == 92) (is_plain_in_quotes b) (step_escaped (e ∷ raw ++ rest)) (Some (e ∷ raw ++ rest)) None (rw is refl) in
+    let first : step (b ∷ e ∷ raw ++ rest) ≡ step_escaped (e ∷ raw ++ rest) =
+    pick_first (b == 92) (is_plain_in_quotes b) (step_escaped (e ∷ raw ++ rest)) (Some (e ∷ raw ++ rest)) None (rw is refl) in
     let next : step_escaped (e ∷ raw ++ rest) ≡ Some (raw ++ rest) = rw text in
     ap (after_step (stop n) (b ∷ e ∷ raw ++ rest)) (first ∙ next) ∙ stops_after s rest n (omega arith) none
 stops_after (sub.plain {b = b} is s) rest zero room none = absurd (omega arith)
 stops_after (sub.plain {b = b} {raw = raw} is s) rest (suc n) room none =
-    let next = pick_second _ _ (step_escaped (raw ++ rest)) (Some (raw ++ rest)) None (plain_is_no_backslash b is) is in
+    let next =
+    pick_second _ _ (step_escaped (raw ++ rest)) (Some (raw ++ rest)) None (plain_is_no_backslash b is) is in
     ap (after_step (stop n) (b ∷ raw ++ rest)) next ∙ stops_after s rest n (omega arith) none
 
 -- the outcome of a scan that stops before this rest, after these bytes
@@ -59,7 +64,8 @@ record Found (text : List ℕ) (outcome : Result (List ℕ × List ℕ) (List �
 found_only : {text : List ℕ} {a b : Result (List ℕ × List ℕ) (List ℕ)} → Found text a → Found text b → a ≡ b
 found_only first second =
     let places : first.at ≡ second.at = sym first.stops ∙ second.stops in
-    let fronts : first.raw ≡ second.raw = append_cancel_right first.raw second.raw second.at (ap (◌++◌ first.raw) (sym places) ∙ sym first.joined ∙ second.joined) in
+    let fronts : first.raw ≡ second.raw =
+    append_cancel_right first.raw second.raw second.at (ap (◌++◌ first.raw) (sym places) ∙ sym first.joined ∙ second.joined) in
     first.is ∙ rw (fronts, places) (sym second.is)
 
 ends_text_byte : (b : ℕ) → is_text_byte b ≡ false → (b == 34) ≡ false
@@ -81,7 +87,8 @@ no_step_escaped (b ∷ rest) h = rw h
 
 finish_ends : (raw rest : List ℕ) → EndsText rest → Err rest ≡ finish raw rest
 finish_ends raw [] h = refl
-finish_ends raw (b ∷ rest) h = sym (pick_third _ _ (Ok (raw, rest)) (Err rest) (Err (b ∷ rest)) (ends_text_byte b h) (ends_text_backslash b h))
+finish_ends raw (b ∷ rest) h =
+    sym (pick_third _ _ (Ok (raw, rest)) (Err rest) (Err (b ∷ rest)) (ends_text_byte b h) (ends_text_backslash b h))
 
 long_enough : {text : List ℕ} (raw rest : List ℕ) → text ≡ raw ++ rest → length raw ≤ length text
 long_enough raw rest e = rw e (omega (arith, length-append raw rest))
@@ -93,7 +100,8 @@ takes_found {text = text} {raw = raw} {rest = rest} h =
       raw = raw;
       at = 34 ∷ rest;
       joined = h.joined;
-      stops = subst (λ t. stop (length text) t ≡ 34 ∷ rest) (sym h.joined) (stops_after s (34 ∷ rest) (length text) (long_enough raw (34 ∷ rest) h.joined) refl);
+      stops =
+          subst (λ t. stop (length text) t ≡ 34 ∷ rest) (sym h.joined) (stops_after s (34 ∷ rest) (length text) (long_enough raw (34 ∷ rest) h.joined) refl);
       is = refl;
     }
 
@@ -103,7 +111,8 @@ stops_found (sub.stops {text = text} {raw = raw} {rest = rest} (spelled, s) join
       raw = raw;
       at = rest;
       joined = joined;
-      stops = subst (λ t. stop (length text) t ≡ rest) (sym joined) (stops_after s rest (length text) (long_enough raw rest joined) (no_step rest h));
+      stops =
+          subst (λ t. stop (length text) t ≡ rest) (sym joined) (stops_after s rest (length text) (long_enough raw rest joined) (no_step rest h));
       is = finish_ends raw rest h;
     }
 stops_found (sub.stops_escaped {b = b} {text = text} {raw = raw} {rest = rest} (spelled, s) joined is h) =
@@ -112,7 +121,8 @@ stops_found (sub.stops_escaped {b = b} {text = text} {raw = raw} {rest = rest} (
       raw = raw;
       at = 92 ∷ rest;
       joined = whole;
-      stops = subst (λ t. stop (length text) t ≡ 92 ∷ rest) (sym whole) (stops_after s (92 ∷ rest) (length text) (long_enough raw (92 ∷ rest) whole) (no_step_escaped rest h));
+      stops =
+          subst (λ t. stop (length text) t ≡ 92 ∷ rest) (sym whole) (stops_after s (92 ∷ rest) (length text) (long_enough raw (92 ∷ rest) whole) (no_step_escaped rest h));
       is = refl;
     }
 
@@ -121,11 +131,13 @@ abbrev pub SubsectionHas : List ℕ → Result (List ℕ × List ℕ) (List ℕ)
 SubsectionHas text (Ok p) = TakesSubsection text p.0 p.1
 SubsectionHas text (Err rest) = StopsInSubsection text rest
 
-found : {text : List ℕ} (outcome : Result (List ℕ × List ℕ) (List ℕ)) → SubsectionHas text outcome → Found text outcome
+found : {text : List ℕ} (outcome : Result (List ℕ × List ℕ) (List ℕ)) → SubsectionHas text outcome
+    → Found text outcome
 found (Ok (raw, rest)) h = takes_found h
 found (Err rest) h = stops_found h
 
-pub subsection_only : (text : List ℕ) (a b : Result (List ℕ × List ℕ) (List ℕ)) → SubsectionHas text a → SubsectionHas text b → a ≡ b
+pub subsection_only : (text : List ℕ) (a b : Result (List ℕ × List ℕ) (List ℕ)) → SubsectionHas text a
+    → SubsectionHas text b → a ≡ b
 subsection_only text a b first second = found_only (found a first) (found b second)
 
 -- the outcome of the scan, by how far it goes
@@ -135,7 +147,8 @@ finish_at text at = finish (before text at) at
 abbrev pub subsection_of : List ℕ → Result (List ℕ × List ℕ) (List ℕ)
 subsection_of text = finish_at text (stop (length text) text)
 
-pub subsection_is : (text : List ℕ) (outcome : Result (List ℕ × List ℕ) (List ℕ)) → SubsectionHas text outcome → outcome ≡ subsection_of text
+pub subsection_is : (text : List ℕ) (outcome : Result (List ℕ × List ℕ) (List ℕ)) → SubsectionHas text outcome
+    → outcome ≡ subsection_of text
 subsection_is text outcome has =
     let scan = found outcome has in
     let front = before_is scan.raw scan.at text scan.joined in

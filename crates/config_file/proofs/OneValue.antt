@@ -1,5 +1,7 @@
 -- After an `=`, a text has at most one value or place at which the reading stops.
-use Rattle.std.proofs.Common.{◌≡◌, ◌≢◌, ℕ, zero, suc, ◌+◌, ◌≤◌, Bool, true, false, not, ◌==◌, List, [], ◌∷◌, ◌++◌, Option, Some, None, is_some, Result, Ok, Err, length, refl, sym, ap, ◌∙◌, subst, arith, if◌then◌else◌, length-append, append-nil, eqb-true, inl, inr, ◌⊎◌}
+use Rattle.std.proofs.Common.{◌≡◌, ◌≢◌, ℕ, zero, suc, ◌+◌, ◌≤◌, Bool, true, false, not, ◌==◌, List, [], ◌∷◌}
+use Rattle.std.proofs.Common.{◌++◌, Option, Some, None, is_some, Result, Ok, Err, length, refl, sym, ap, ◌∙◌}
+use Rattle.std.proofs.Common.{subst, arith, if◌then◌else◌, length-append, append-nil, eqb-true, inl, inr, ◌⊎◌}
 use Rattle.std.proofs.lemmas.List.{append_cancel_right}
 use Rattle.std.proofs.lemmas.Bool.{cases_Bool}
 use Rattle.std.proofs.lemmas.Bool.Decides.{nat_tests}
@@ -10,7 +12,8 @@ use Rattle.config_file.specs.declared.errors.FileFault.TheVariants.{BadLine, Nul
 use Rattle.config_file.specs.Bytes.{is_text_byte, is_plain, is_blank, is_comment_sign, EndsText}
 use Rattle.config_file.specs.Header.{fault_at}
 use Rattle.config_file.specs.Value as value
-use Rattle.config_file.specs.Value.{Ending, outside, inside, at_backslash, Spells, SpellsValue, TakesValue, ValueStops, IsPart, EndsValue, IsNoEscape, line_feeds, escape}
+use Rattle.config_file.specs.Value.{Ending, outside, inside, at_backslash, Spells, TakesValue, ValueStops}
+use Rattle.config_file.specs.Value.{IsPart, EndsValue, IsNoEscape, line_feeds, escape}
 use Rattle.config_file.specs.Reading.Scans.{goes_on}
 
 abbrev step_return : Bool → ℕ → List ℕ → Option (Bool × List ℕ)
@@ -19,7 +22,8 @@ step_return q e (f ∷ rest) = pick (e == 13) (f == 10) (if f == 10 then Some (q
 
 abbrev step_escape : Bool → List ℕ → Option (Bool × List ℕ)
 step_escape q [] = None
-step_escape q (e ∷ rest) = pick (is_some (escape e)) (e == 10) (Some (q, rest)) (Some (q, rest)) (step_return q e rest)
+step_escape q (e ∷ rest) =
+    pick (is_some (escape e)) (e == 10) (Some (q, rest)) (Some (q, rest)) (step_return q e rest)
 
 abbrev step_byte : Bool → ℕ → List ℕ → Option (Bool × List ℕ)
 step_byte q b text = if goes_on q b then Some (q, text) else None
@@ -51,14 +55,16 @@ stops_at_once : (n : ℕ) (q : Bool) (text : List ℕ) → step q text ≡ None 
 stops_at_once zero q text none = refl
 stops_at_once (suc n) q text none = ap (after_step (stop n) q text) none
 
-goes : (n : ℕ) (q r : Bool) (text rest : List ℕ) (end : Bool × List ℕ) → step q text ≡ Some (r, rest) → stop n r rest ≡ end → stop (suc n) q text ≡ end
+goes : (n : ℕ) (q r : Bool) (text rest : List ℕ) (end : Bool × List ℕ) → step q text ≡ Some (r, rest)
+    → stop n r rest ≡ end → stop (suc n) q text ≡ end
 goes n q r text rest end next more = ap (after_step (stop n) q text) next ∙ more
 
 test_true : (b c : ℕ) → b ≡ c → (b == c) ≡ true
 test_true b c e = grind (arith, nat_tests)
 
 step_quote : (q : Bool) (b : ℕ) (text : List ℕ) → b ≡ 34 → step q (b ∷ text) ≡ Some (not q, text)
-step_quote q b text is = pick_first _ (b == 92) (Some (not q, text)) (step_escape q text) (step_byte q b text) (test_true b 34 is)
+step_quote q b text is =
+    pick_first _ (b == 92) (Some (not q, text)) (step_escape q text) (step_byte q b text) (test_true b 34 is)
 
 backslash_no_quote : (b : ℕ) → b ≡ 92 → (b == 34) ≡ false
 backslash_no_quote b is = grind (arith, nat_tests)
@@ -67,19 +73,24 @@ step_backslash : (q : Bool) (b : ℕ) (text : List ℕ) → b ≡ 92 → step q 
 step_backslash q b text is =
     pick_second _ _ (Some (not q, text)) (step_escape q text) (step_byte q b text) (backslash_no_quote b is) (test_true b 92 is)
 
-step_letter : (q : Bool) (e c : ℕ) (rest : List ℕ) → escape e ≡ Some c → step_escape q (e ∷ rest) ≡ Some (q, rest)
-step_letter q e c rest is = pick_first _ (e == 10) (Some (q, rest)) (Some (q, rest)) (step_return q e rest) (ap is_some is)
+step_letter : (q : Bool) (e c : ℕ) (rest : List ℕ) → escape e ≡ Some c
+    → step_escape q (e ∷ rest) ≡ Some (q, rest)
+step_letter q e c rest is =
+    pick_first _ (e == 10) (Some (q, rest)) (Some (q, rest)) (step_return q e rest) (ap is_some is)
 
 no_letter : (e : ℕ) → e ≡ 10 → is_some (escape e) ≡ false
 no_letter e is = rw is
 
 step_line : (q : Bool) (e : ℕ) (rest : List ℕ) → e ≡ 10 → step_escape q (e ∷ rest) ≡ Some (q, rest)
-step_line q e rest is = pick_second _ _ (Some (q, rest)) (Some (q, rest)) (step_return q e rest) (no_letter e is) (test_true e 10 is)
+step_line q e rest is =
+    pick_second _ _ (Some (q, rest)) (Some (q, rest)) (step_return q e rest) (no_letter e is) (test_true e 10 is)
 
-step_line_after_return : (q : Bool) (e f : ℕ) (rest : List ℕ) → e ≡ 13 → f ≡ 10 → step_escape q (e ∷ f ∷ rest) ≡ Some (q, rest)
+step_line_after_return : (q : Bool) (e f : ℕ) (rest : List ℕ) → e ≡ 13 → f ≡ 10
+    → step_escape q (e ∷ f ∷ rest) ≡ Some (q, rest)
 step_line_after_return q e f rest is next = rw (is, next)
 
-step_plain : (q : Bool) (b : ℕ) (text : List ℕ) → goes_on q b ≡ true → (b == 34) ≡ false → (b == 92) ≡ false → step q (b ∷ text) ≡ Some (q, text)
+step_plain : (q : Bool) (b : ℕ) (text : List ℕ) → goes_on q b ≡ true → (b == 34) ≡ false → (b == 92) ≡ false
+    → step q (b ∷ text) ≡ Some (q, text)
 step_plain q b text on not_quote not_backslash =
     let go : step_byte q b text ≡ Some (q, text) = ap (λ x. if x then Some (q, text) else None) on in
     pick_third _ _ (Some (not q, text)) (step_escape q text) (step_byte q b text) not_quote not_backslash ∙ go
@@ -106,11 +117,13 @@ blank_no_backslash : (b : ℕ) → is_blank b ≡ true → (b == 92) ≡ false
 blank_no_backslash b is = grind (arith, nat_tests)
 
 -- the scan of the bytes of a value stops after them, or before their last backslash, if no step goes on there
-stops_after : {w : ℕ → ℕ} {q : Bool} {so_far raw spelled held : List ℕ} {e : Ending} → Spells w q so_far held raw spelled e → (rest : List ℕ) (n : ℕ) → length raw ≤ n
+stops_after : {w : ℕ → ℕ} {q : Bool} {so_far raw spelled held : List ℕ} {e : Ending}
+    → Spells w q so_far held raw spelled e → (rest : List ℕ) (n : ℕ) → length raw ≤ n
     → step (state e) (tail e ++ rest) ≡ None → stop n q (raw ++ rest) ≡ (state e, tail e ++ rest)
 stops_after value.ends_outside rest n room none = stops_at_once n false rest none
 stops_after value.ends_inside rest n room none = stops_at_once n true rest none
-stops_after (value.ends_at_backslash {b = b} is) rest n room none = rw is (stops_at_once n false (92 ∷ rest) none)
+stops_after (value.ends_at_backslash {b = b} is) rest n room none =
+    rw is (stops_at_once n false (92 ∷ rest) none)
 stops_after (value.quote is s) rest zero room none = absurd (omega arith)
 stops_after {e = e} (value.quote {quoted = q} {b = b} {raw = raw} is s) rest (suc n) room none =
     goes n q (not q) (b ∷ raw ++ rest) (raw ++ rest) (state e, tail e ++ rest) (step_quote q b (raw ++ rest) is) (stops_after s rest n (omega arith) none)
@@ -137,11 +150,16 @@ stops_after {e = e} (value.plain {quoted = q} {b = b} {raw = raw} is s) rest (su
     (step_plain q b (raw ++ rest) (plain_goes_on q b is) (plain_no_quote q b is) (plain_no_backslash q b is)) (stops_after s rest n (omega arith) none)
 
 -- the bytes of a value that ends at a backslash end in that backslash
-before_backslash : {w : ℕ → ℕ} {q : Bool} {so_far raw spelled held : List ℕ} → Spells w q so_far held raw spelled at_backslash → (front : List ℕ) × (raw ≡ front ++ 92 ∷ [])
+before_backslash : {w : ℕ → ℕ} {q : Bool} {so_far raw spelled held : List ℕ}
+    → Spells w q so_far held raw spelled at_backslash → (front : List ℕ) × (raw ≡ front ++ 92 ∷ [])
 before_backslash (value.ends_at_backslash is) = ([], rw is)
 before_backslash (value.quote {b = b} is s) = let (front, e) = before_backslash s in (b ∷ front, ap (◌∷◌ b) e)
-before_backslash (value.escaped {b = b} {e = l} is letter s) = let (front, e) = before_backslash s in (b ∷ l ∷ front, ap (λ x. b ∷ l ∷ x) e)
-before_backslash (value.continued {b = b} {e = l} is line s) = let (front, e) = before_backslash s in (b ∷ l ∷ front, ap (λ x. b ∷ l ∷ x) e)
+before_backslash (value.escaped {b = b} {e = l} is letter s) =
+    let (front, e) = before_backslash s in
+    (b ∷ l ∷ front, ap (λ x. b ∷ l ∷ x) e)
+before_backslash (value.continued {b = b} {e = l} is line s) =
+    let (front, e) = before_backslash s in
+    (b ∷ l ∷ front, ap (λ x. b ∷ l ∷ x) e)
 before_backslash (value.continued_after_return {b = b} {e = l} {f = m} is return line s) =
     let (front, e) = before_backslash s in (b ∷ l ∷ m ∷ front, ap (λ x. b ∷ l ∷ m ∷ x) e)
 before_backslash (value.blank {b = b} is s) = let (front, e) = before_backslash s in (b ∷ front, ap (◌∷◌ b) e)
@@ -159,8 +177,10 @@ finish_at_backslash raw q (e ∷ rest) = Err (line_feeds raw, fault_at (e ∷ re
 abbrev finish : List ℕ → Bool → List ℕ → Outcome
 finish raw true [] = Err (line_feeds raw, BadLine)
 finish raw false [] = Ok (raw, line_feeds raw, [])
-finish raw true (b ∷ rest) = if b == 92 then finish_at_backslash raw true rest else Err (line_feeds raw, fault_at (b ∷ rest))
-finish raw false (b ∷ rest) = pick (b == 92) (b == 0) (finish_at_backslash raw false rest) (Err (line_feeds raw, Nul)) (Ok (raw, line_feeds raw, b ∷ rest))
+finish raw true (b ∷ rest) =
+    if b == 92 then finish_at_backslash raw true rest else Err (line_feeds raw, fault_at (b ∷ rest))
+finish raw false (b ∷ rest) =
+    pick (b == 92) (b == 0) (finish_at_backslash raw false rest) (Err (line_feeds raw, Nul)) (Ok (raw, line_feeds raw, b ∷ rest))
 
 record Found (text : List ℕ) (outcome : Outcome) : Type 0 where
   raw : List ℕ
@@ -175,31 +195,38 @@ found_only first second =
     let same = sym first.stops ∙ second.stops in
     let states : first.quoted ≡ second.quoted = ap (λ p. p.0) same in
     let places : first.at ≡ second.at = ap (λ p. p.1) same in
-    let fronts : first.raw ≡ second.raw = append_cancel_right first.raw second.raw second.at (ap (◌++◌ first.raw) (sym places) ∙ sym first.joined ∙ second.joined) in
+    let fronts : first.raw ≡ second.raw =
+    append_cancel_right first.raw second.raw second.at (ap (◌++◌ first.raw) (sym places) ∙ sym first.joined ∙ second.joined) in
     first.is ∙ rw (fronts, states, places) (sym second.is)
 
 long_enough : {text : List ℕ} (raw rest : List ℕ) → text ≡ raw ++ rest → length raw ≤ length text
 long_enough raw rest e = rw e (omega (arith, length-append raw rest))
 
 -- the scan stops after a part of a value if no step goes on there
-part_stops : {text : List ℕ} (q : Bool) (raw rest : List ℕ) → text ≡ raw ++ rest → IsPart q raw → step q rest ≡ None → stop (length text) false text ≡ (q, rest)
+part_stops : {text : List ℕ} (q : Bool) (raw rest : List ℕ) → text ≡ raw ++ rest → IsPart q raw
+    → step q rest ≡ None → stop (length text) false text ≡ (q, rest)
 part_stops {text = text} true raw rest joined (spelled, s) none =
     subst (λ t. stop (length text) false t ≡ (true, rest)) (sym joined) (stops_after s rest (length text) (long_enough raw rest joined) none)
 part_stops {text = text} false raw rest joined (spelled, s) none =
     subst (λ t. stop (length text) false t ≡ (false, rest)) (sym joined) (stops_after s rest (length text) (long_enough raw rest joined) none)
 
-ends_value_byte : (b : ℕ) → (b ≡ 10) ⊎ (is_comment_sign b ≡ true) → ((b == 34) ≡ false) × ((b == 92) ≡ false) × (goes_on false b ≡ false) × ((b == 0) ≡ false)
+ends_value_byte : (b : ℕ) → (b ≡ 10) ⊎ (is_comment_sign b ≡ true)
+    → ((b == 34) ≡ false) × ((b == 92) ≡ false) × (goes_on false b ≡ false) × ((b == 0) ≡ false)
 ends_value_byte b (inl is) = rw is (refl, refl, refl, refl)
-ends_value_byte b (inr is) = (grind (arith, nat_tests), grind (arith, nat_tests), grind (arith, nat_tests), grind (arith, nat_tests))
+ends_value_byte b (inr is) =
+    (grind (arith, nat_tests), grind (arith, nat_tests), grind (arith, nat_tests), grind (arith, nat_tests))
 
-no_step_byte : (q : Bool) (b : ℕ) (rest : List ℕ) → (b == 34) ≡ false → (b == 92) ≡ false → goes_on q b ≡ false → step q (b ∷ rest) ≡ None
+no_step_byte : (q : Bool) (b : ℕ) (rest : List ℕ) → (b == 34) ≡ false → (b == 92) ≡ false
+    → goes_on q b ≡ false → step q (b ∷ rest) ≡ None
 no_step_byte q b rest not_quote not_backslash off =
     let stays : step_byte q b rest ≡ None = ap (λ x. if x then Some (q, rest) else None) off in
     pick_third _ _ (Some (not q, rest)) (step_escape q rest) (step_byte q b rest) not_quote not_backslash ∙ stays
 
 no_step_at_end : (rest : List ℕ) → EndsValue rest → step false rest ≡ None
 no_step_at_end [] h = refl
-no_step_at_end (b ∷ rest) h = let (not_quote, not_backslash, off, not_nul) = ends_value_byte b h in no_step_byte false b rest not_quote not_backslash off
+no_step_at_end (b ∷ rest) h =
+    let (not_quote, not_backslash, off, not_nul) = ends_value_byte b h in
+    no_step_byte false b rest not_quote not_backslash off
 
 finish_at_end : (raw rest : List ℕ) → EndsValue rest → Ok (raw, line_feeds raw, rest) ≡ finish raw false rest
 finish_at_end raw [] h = refl
@@ -207,7 +234,8 @@ finish_at_end raw (b ∷ rest) h =
     let (not_quote, not_backslash, off, not_nul) = ends_value_byte b h in
     sym (pick_third _ _ (finish_at_backslash raw false rest) (Err (line_feeds raw, Nul)) (Ok (raw, line_feeds raw, b ∷ rest)) not_backslash not_nul)
 
-taken_found : {text raw rest : List ℕ} {lines : ℕ} → TakesValue text raw lines rest → Found text (Ok (raw, lines, rest))
+taken_found : {text raw rest : List ℕ} {lines : ℕ} → TakesValue text raw lines rest
+    → Found text (Ok (raw, lines, rest))
 taken_found (value.closed {raw = raw} {value = spelled} {text = text} {rest = rest} joined spells ends) =
     record {
       raw = raw;
@@ -234,9 +262,12 @@ ends_text_byte b h = (grind (arith, nat_tests), grind (arith, nat_tests))
 
 no_step_in_quotes : (rest : List ℕ) → EndsText rest → step true rest ≡ None
 no_step_in_quotes [] h = refl
-no_step_in_quotes (b ∷ rest) h = let (not_quote, not_backslash) = ends_text_byte b h in no_step_byte true b rest not_quote not_backslash h
+no_step_in_quotes (b ∷ rest) h =
+    let (not_quote, not_backslash) = ends_text_byte b h in
+    no_step_byte true b rest not_quote not_backslash h
 
-finish_in_quotes : (raw rest : List ℕ) → EndsText rest → Err (line_feeds raw, fault_at rest) ≡ finish raw true rest
+finish_in_quotes : (raw rest : List ℕ) → EndsText rest
+    → Err (line_feeds raw, fault_at rest) ≡ finish raw true rest
 finish_in_quotes raw [] h = refl
 finish_in_quotes raw (b ∷ rest) h =
     let (not_quote, not_backslash) = ends_text_byte b h in
@@ -261,12 +292,14 @@ no_step_after_backslash q (e ∷ []) h =
 no_step_after_backslash q (e ∷ f ∷ rest) h =
     pick_third _ _ (Some (q, f ∷ rest)) (Some (q, f ∷ rest)) (step_return q e (f ∷ rest)) (ap is_some h.0) (test_false e 10 h.1) ∙ no_return q e f rest h.2
 
-finish_after_backslash : (q : Bool) (raw rest : List ℕ) → IsNoEscape rest → Err (line_feeds raw, fault_at rest) ≡ finish raw q (92 ∷ rest)
+finish_after_backslash : (q : Bool) (raw rest : List ℕ) → IsNoEscape rest
+    → Err (line_feeds raw, fault_at rest) ≡ finish raw q (92 ∷ rest)
 finish_after_backslash q raw [] h = absurd h
 finish_after_backslash true raw (e ∷ rest) h = refl
 finish_after_backslash false raw (e ∷ rest) h = refl
 
-stopped_found : {text : List ℕ} {lines : ℕ} {fault : FileFault} → ValueStops text lines fault → Found text (Err (lines, fault))
+stopped_found : {text : List ℕ} {lines : ℕ} {fault : FileFault} → ValueStops text lines fault
+    → Found text (Err (lines, fault))
 stopped_found (value.nul {b = b} {text = text} raw rest joined part is) =
     let whole : text ≡ raw ++ 0 ∷ rest = joined ∙ rw is in
     record { raw = raw; quoted = false; at = 0 ∷ rest; joined = whole; stops = part_stops false raw (0 ∷ rest) whole part refl; is = refl }

@@ -8,7 +8,8 @@ use Rattle.config_file.specs.Set.{slash, folded, StandsForByte}
 use Rattle.config_file.proofs.OneRun.{run_only}
 use Rattle.config_file.proofs.Sets.{set_shortens, longer}
 use Rattle.config_file.specs.Pattern.{star, is_star, stands_for, crosses, is_passed}
-use Rattle.config_file.specs.Pattern.{Item, byte, escaped, set, Passes, Matches, MatchesLater, MatchesStars, MatchesNoDirectory, LacksStar}
+use Rattle.config_file.specs.Pattern.{Item, byte, escaped, set, Passes, Matches, MatchesLater, MatchesStars}
+use Rattle.config_file.specs.Pattern.{MatchesNoDirectory, LacksStar}
 use Rattle.config_file.specs.Pattern.{ends, one, stars, no_directory, no_more, passes}
 
 pub run_shortens : {test : ℕ → Bool} {text a r : List ℕ} → Run test text a r → length r ≤ length text
@@ -95,14 +96,18 @@ pub one_inv : {i starts : Bool} {b : ℕ} {pattern text : List ℕ} → Matches 
     → LacksStar pattern
     → (rest : List ℕ) × Item i pattern b rest × Matches i (b == slash) rest text
 one_inv (one rest item more) lacks = (rest, item, more)
-one_inv (stars {pattern = pattern} more rest left is run passed match) lacks = absurd (lacks pattern (ap (λ x. x ∷ pattern) is))
-one_inv (no_directory {pattern = pattern} more rest is run crossing match) lacks = absurd (lacks pattern (ap (λ x. x ∷ pattern) is))
+one_inv (stars {pattern = pattern} more rest left is run passed match) lacks =
+    absurd (lacks pattern (ap (λ x. x ∷ pattern) is))
+one_inv (no_directory {pattern = pattern} more rest is run crossing match) lacks =
+    absurd (lacks pattern (ap (λ x. x ∷ pattern) is))
 
 pub end_inv : {i starts : Bool} {pattern : List ℕ} → Matches i starts pattern [] → LacksStar pattern
     → pattern ≡ []
 end_inv ends lacks = refl
-end_inv (stars {pattern = pattern} more rest left is run passed match) lacks = absurd (lacks pattern (ap (λ x. x ∷ pattern) is))
-end_inv (no_directory {pattern = pattern} more rest is run crossing match) lacks = absurd (lacks pattern (ap (λ x. x ∷ pattern) is))
+end_inv (stars {pattern = pattern} more rest left is run passed match) lacks =
+    absurd (lacks pattern (ap (λ x. x ∷ pattern) is))
+end_inv (no_directory {pattern = pattern} more rest is run crossing match) lacks =
+    absurd (lacks pattern (ap (λ x. x ∷ pattern) is))
 
 -- ---- stars
 
@@ -148,7 +153,8 @@ passes_none no_more = refl
 
 later_inv : {i crossing : Bool} {b : ℕ} {pattern rest : List ℕ} (at : List ℕ) → at ≡ b ∷ rest
     → ¬ (Matches i false pattern at)
-    → MatchesLater i crossing pattern at → (is_passed crossing b ≡ true) × MatchesLater i crossing pattern rest
+    → MatchesLater i crossing pattern at
+    → (is_passed crossing b ≡ true) × MatchesLater i crossing pattern rest
 later_inv {i = i} {crossing = crossing} {pattern = pattern} at e never (left, passed, match) =
     elim (passes_inv (subst (λ x. Passes crossing x left) e passed)) [
       | inl same ↦ absurd (never (subst (λ x. Matches i false pattern x) (same ∙ sym e) match))

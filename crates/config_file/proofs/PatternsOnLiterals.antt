@@ -1,6 +1,8 @@
--- Whether a pattern matches a literal text: a function that computes it, with the proof. It gives no answer to a set
--- that is not closed, that has a range before its end, or whose `[:` begins no class.
-use Rattle.std.proofs.Common.{◌≡◌, ◌≢◌, ℕ, zero, suc, Bool, true, false, ◌==◌, ◌||◌, List, [], ◌∷◌, ◌++◌, Option, Some, None, codes, length, drop, map, refl, sym, ap, subst, eqb-true, inl, inr, ◌⊎◌}
+-- Whether a pattern matches a literal text: a function that computes it, with the proof. It gives no answer
+-- to a set that is not closed, that has a range before its end, or whose `[:` begins no class.
+use Rattle.std.proofs.Common.{◌≡◌, ◌≢◌, ℕ, zero, suc, Bool, true, false, ◌==◌, ◌||◌, List, [], ◌∷◌, ◌++◌}
+use Rattle.std.proofs.Common.{Option, Some, None, codes, length, drop, map, refl, sym, ap, subst, eqb-true}
+use Rattle.std.proofs.Common.{inl, inr, ◌⊎◌}
 use Rattle.std.proofs.lemmas.Bool.{true≢false}
 use Rattle.std.specs.List.{AllByRecursion}
 use Rattle.config_file.proofs.Pick.{cases}
@@ -10,14 +12,18 @@ use Rattle.config_file.proofs.OnLiterals.{Known, carry}
 use Rattle.config_file.proofs.EachValue.{test_not}
 use Rattle.config_file.proofs.Runs.{run_split}
 use Rattle.config_file.proofs.Sets.{not_opened, stands, stands_unwanted, stands_for_no_slash}
-use Rattle.config_file.proofs.Patterns.{no_item, byte_item, escaped_item, set_item, no_escaped_item, no_set_item, no_byte_item}
-use Rattle.config_file.proofs.Patterns.{one_inv, end_inv, stars_inv, stars_no_directory, stars_later, later_here, later_step, later_back, later_stops, later_ends}
+use Rattle.config_file.proofs.Patterns.{no_item, byte_item, escaped_item, set_item, no_escaped_item}
+use Rattle.config_file.proofs.Patterns.{no_set_item, no_byte_item}
+use Rattle.config_file.proofs.Patterns.{one_inv, end_inv, stars_inv, stars_no_directory, stars_later}
+use Rattle.config_file.proofs.Patterns.{later_here, later_step, later_back, later_stops, later_ends}
 use Rattle.config_file.proofs.Same.{item_same}
 use Rattle.config_file.specs.Runs.{Run}
 use Rattle.config_file.specs.Set as set
-use Rattle.config_file.specs.Set.{slash, folded, range_has, opened, is_wanted, is_unclosed, IsClass, IsNoClass, IsNoRange, Class, SetByte, RangeEnd, Member, SetHas, StandsForByte}
+use Rattle.config_file.specs.Set.{slash, folded, range_has, opened, is_wanted, is_unclosed, IsNoClass, Class}
+use Rattle.config_file.specs.Set.{SetByte, RangeEnd, Member, SetHas, StandsForByte}
 use Rattle.config_file.specs.Pattern as match
-use Rattle.config_file.specs.Pattern.{Item, Matches, MatchesText, MatchesLater, MatchesNoDirectory, LacksStar, stands_for, crosses, is_passed, is_star}
+use Rattle.config_file.specs.Pattern.{Item, Matches, MatchesText, MatchesLater, MatchesNoDirectory, LacksStar}
+use Rattle.config_file.specs.Pattern.{stands_for, crosses, is_passed, is_star}
 
 -- ---- sets
 
@@ -43,7 +49,8 @@ same (x ∷ a) (y ∷ b) =
 abbrev or_class : {i : Bool} {b : ℕ} {name : List ℕ} (word : List ℕ) (has : Bool)
     → (name ≡ word → has ≡ has → Class i b name has)
     → Known (Class i b name) → Known (Class i b name)
-or_class {name = name} word has makes others = elim (same name word) [ None ↦ others | Some e ↦ Some (has, makes e refl) ]
+or_class {name = name} word has makes others =
+    elim (same name word) [ None ↦ others | Some e ↦ Some (has, makes e refl) ]
 
 abbrev class_at : (i : Bool) (b : ℕ) (name : List ℕ) → Known (Class i b name)
 class_at i b name =
@@ -73,7 +80,8 @@ byte_at starts (c ∷ rest) =
     elim (cases (c == 92)) [
       | inl is ↦ escaped_byte starts c rest (eqb-true c 92 is)
       | inr other ↦ elim (cases (c == 93)) [
-        | inl ends ↦ elim (cases starts) [ inl first ↦ Some ((c, rest), set.bare (test_not c 92 other) (λ e. first)) | inr later ↦ None ]
+        | inl ends ↦
+            elim (cases starts) [ inl first ↦ Some ((c, rest), set.bare (test_not c 92 other) (λ e. first)) | inr later ↦ None ]
         | inr plain ↦ Some ((c, rest), set.bare (test_not c 92 other) (λ e. absurd (test_not c 93 plain e)))
       ]
     ]
@@ -93,7 +101,8 @@ abbrev after_byte : (i : Bool) (b : ℕ) (starts : Bool) (text : List ℕ) → I
 after_byte i b starts text none c [] byte = Some (_, set.single c none byte (λ last rest. no_end) refl)
 after_byte i b starts text none c (d ∷ rest) byte =
     elim (cases (d == 45)) [
-      | inl is ↦ carry (λ p. (c == folded i b || range_has i c p.0 b, p.1)) (λ p last. set.range c p.0 (d ∷ rest) none byte (set.to (eqb-true d 45 is) last) refl)
+      | inl is ↦
+          carry (λ p. (c == folded i b || range_has i c p.0 b, p.1)) (λ p last. set.range c p.0 (d ∷ rest) none byte (set.to (eqb-true d 45 is) last) refl)
           (byte_at false rest)
       | inr other ↦ Some (_, set.single c none byte (λ last rest. no_dash (test_not d 45 other)) refl)
     ]
@@ -124,7 +133,8 @@ member_at i b starts text =
     elim (cases (is_front (codes "[:") text)) [
       | inl opens ↦ elim (same text (codes "[:" ++ drop 2 text)) [
         | None ↦ None
-        | Some e ↦ carry (λ p. p) (λ p is. subst (λ t. Member i b starts t p.0 p.1) (sym e) is) (class_in i b starts (drop 2 text) _ _ (run_split is_unclosed (drop 2 text)))
+        | Some e ↦
+            carry (λ p. p) (λ p is. subst (λ t. Member i b starts t p.0 p.1) (sym e) is) (class_in i b starts (drop 2 text) _ _ (run_split is_unclosed (drop 2 text)))
       ]
       | inr none ↦ elim (byte_at starts text) [
         | None ↦ None
@@ -178,8 +188,10 @@ abbrev escape_at : (i : Bool) (c b : ℕ) (more : List ℕ) → c ≡ 92 → Fol
 escape_at i c b [] is = Some (inr (λ rest. no_escaped_item (c ∷ []) rest refl is (λ r. no_cons)))
 escape_at i c b (e ∷ rest) is =
     elim (cases (e == folded i b)) [
-      | inl fits ↦ Some (inl (rest, escaped_item (c ∷ e ∷ rest) refl is (cons_same (eqb-true e (folded i b) fits) refl)))
-      | inr other ↦ Some (inr (λ r. no_escaped_item (c ∷ e ∷ rest) r refl is (λ s at. test_not e (folded i b) other (cons_head at))))
+      | inl fits ↦
+          Some (inl (rest, escaped_item (c ∷ e ∷ rest) refl is (cons_same (eqb-true e (folded i b) fits) refl)))
+      | inr other ↦
+          Some (inr (λ r. no_escaped_item (c ∷ e ∷ rest) r refl is (λ s at. test_not e (folded i b) other (cons_head at))))
     ]
 
 abbrev item_at : (i : Bool) (pattern : List ℕ) (b : ℕ) → Follows (Item i pattern b)
@@ -197,7 +209,8 @@ item_at i (c ∷ more) b =
         ]
         | inr ordinary ↦ elim (cases (stands_for i c b)) [
           | inl is ↦ Some (inl (more, byte_item (c ∷ more) refl is))
-          | inr never ↦ Some (inr (λ rest. no_byte_item (c ∷ more) rest refl (test_not c 92 plain) (test_not c 91 ordinary) never))
+          | inr never ↦
+              Some (inr (λ rest. no_byte_item (c ∷ more) rest refl (test_not c 92 plain) (test_not c 91 ordinary) never))
         ]
       ]
     ]
@@ -212,7 +225,8 @@ abbrev later_at : (i crossing : Bool) → Decides i → (pattern text : List ℕ
 later_at i crossing go pattern [] =
     elim (go false pattern []) [
       | None ↦ None
-      | Some found ↦ elim found [ inl match ↦ Some (inl (later_here match)) | inr never ↦ Some (inr (later_ends [] refl never)) ]
+      | Some found ↦
+          elim found [ inl match ↦ Some (inl (later_here match)) | inr never ↦ Some (inr (later_ends [] refl never)) ]
     ]
 later_at i crossing go pattern (b ∷ text) =
     elim (go false pattern (b ∷ text)) [
@@ -241,7 +255,8 @@ no_slash never (rest, crossing, at, match) = never rest at
 
 pub past_slash : {i crossing : Bool} {c : ℕ} {pattern text : List ℕ} → (Matches i true pattern text → ⊥)
     → MatchesNoDirectory i crossing (c ∷ pattern) text → ⊥
-past_slash {i = i} {text = text} never (rest, crossing, at, match) = never (subst (λ x. Matches i true x text) (sym (ap (drop 1) at)) match)
+past_slash {i = i} {text = text} never (rest, crossing, at, match) =
+    never (subst (λ x. Matches i true x text) (sym (ap (drop 1) at)) match)
 
 abbrev no_directory_at : (i crossing : Bool) → Decides i → (pattern text : List ℕ)
     → Answer (MatchesNoDirectory i crossing pattern text)
@@ -271,7 +286,8 @@ as_star is match = rw is match
 
 pub from_star : {i starts : Bool} {c : ℕ} {pattern text : List ℕ} → c ≡ 42
     → Matches i starts (c ∷ pattern) text → Matches i starts (42 ∷ pattern) text
-from_star {i = i} {starts = starts} {pattern = pattern} {text = text} is match = subst (λ x. Matches i starts (x ∷ pattern) text) is match
+from_star {i = i} {starts = starts} {pattern = pattern} {text = text} is match =
+    subst (λ x. Matches i starts (x ∷ pattern) text) is match
 
 abbrev stars_of : (i starts : Bool) → Decides i → (c : ℕ) → c ≡ 42 → (pattern text more rest : List ℕ)
     → Run is_star pattern more rest
@@ -337,12 +353,14 @@ decide n i starts [] (b ∷ text) = Some (inr (not_one empty_lacks (λ rest. no_
 decide zero i starts (c ∷ pattern) text = None
 decide (suc n) i starts (c ∷ pattern) [] =
     elim (cases (c == 42)) [
-      | inl is ↦ stars_of i starts (decide n i) c (eqb-true c 42 is) pattern [] _ _ (run_split is_star pattern)
+      | inl is ↦
+          stars_of i starts (decide n i) c (eqb-true c 42 is) pattern [] _ _ (run_split is_star pattern)
       | inr other ↦ Some (inr (not_at_end (no_star (test_not c 42 other))))
     ]
 decide (suc n) i starts (c ∷ pattern) (b ∷ text) =
     elim (cases (c == 42)) [
-      | inl is ↦ stars_of i starts (decide n i) c (eqb-true c 42 is) pattern (b ∷ text) _ _ (run_split is_star pattern)
+      | inl is ↦
+          stars_of i starts (decide n i) c (eqb-true c 42 is) pattern (b ∷ text) _ _ (run_split is_star pattern)
       | inr other ↦ one_of i starts (decide n i) (c ∷ pattern) (no_star (test_not c 42 other)) b text
     ]
 
@@ -371,4 +389,5 @@ pub all_matched : (says i : Bool) (rows : List (List ℕ × List ℕ))
     → map (λ row. said (decide (length row.0) i true row.0 row.1)) rows ≡ map (λ row. Some says) rows
     → AreMatched says i rows
 all_matched says i [] e = tt
-all_matched says i (row ∷ rows) e = (told says i row.0 row.1 (decide (length row.0) i true row.0 row.1) (cc (e)), all_matched says i rows (cc (e)))
+all_matched says i (row ∷ rows) e =
+    (told says i row.0 row.1 (decide (length row.0) i true row.0 row.1) (cc (e)), all_matched says i rows (cc (e)))

@@ -59,7 +59,9 @@ in_of (y ∷ ys) x (suc k, within, is) = inr (in_of ys x (k, omega (arith, withi
 pub contains_of : {X : Type 0} (xs : List X) (x : X) → In xs x → Contains xs x
 contains_of [] x is = absurd is
 contains_of (y ∷ ys) x (inl is) = (0, omega arith, is)
-contains_of (y ∷ ys) x (inr is) = let (k, within, at) = contains_of ys x is in (suc k, omega (arith, within), at)
+contains_of (y ∷ ys) x (inr is) =
+    let (k, within, at) = contains_of ys x is in
+    (suc k, omega (arith, within), at)
 
 in_last : {X : Type 0} (xs : List X) (y x : X) → In (xs ++ y ∷ []) x → In xs x ⊎ (y ≡ x)
 in_last [] y x (inl is) = inr is
@@ -67,13 +69,15 @@ in_last [] y x (inr is) = absurd is
 in_last (z ∷ zs) y x (inl is) = inl (inl is)
 in_last (z ∷ zs) y x (inr is) = elim (in_last zs y x is) [ inl i ↦ inl (inr i) | inr e ↦ inr e ]
 
-in_map : {X Y : Type 0} (f : X → Y) (xs : List X) (i : ℕ) (d : X) → i < length xs → In (map f xs) (f (get_or xs i d))
+in_map : {X Y : Type 0} (f : X → Y) (xs : List X) (i : ℕ) (d : X) → i < length xs
+    → In (map f xs) (f (get_or xs i d))
 in_map f [] i d within = absurd (omega (arith, within))
 in_map f (x ∷ xs) zero d within = inl refl
 in_map f (x ∷ xs) (suc i) d within = inr (in_map f xs i d (omega (arith, within)))
 
 -- searched one by one, a value is found here
-pub among_here : {X Y : Type 0} (f : X → Y) (xs : List X) (i : ℕ) (x : X) (y : Y) → slice_get xs i ≡ Some x → i < length xs
+pub among_here : {X Y : Type 0} (f : X → Y) (xs : List X) (i : ℕ) (x : X) (y : Y) → slice_get xs i ≡ Some x
+    → i < length xs
     → f x ≡ y → Contains (map f xs) y
 among_here f xs i x y at within is =
     subst (λ v. Contains (map f xs) v) (ap f (get_or_from_slice_get xs i x x at) ∙ is)
@@ -81,7 +85,8 @@ among_here f xs i x y at within is =
 
 -- it is not among the first, nor is it this one
 pub among_no_more : {X Y : Type 0} (f : X → Y) (xs : List X) (i : ℕ) (x : X) (y : Y) → slice_get xs i ≡ Some x
-    → i < length xs → ¬ (f x ≡ y) → ¬ (Contains (map f (take i xs)) y) → ¬ (Contains (map f (take (i + 1) xs)) y)
+    → i < length xs → ¬ (f x ≡ y) → ¬ (Contains (map f (take i xs)) y)
+    → ¬ (Contains (map f (take (i + 1) xs)) y)
 among_no_more f xs i x y at within other before has =
     let split : map f (take (i + 1) xs) ≡ map f (take i xs) ++ f x ∷ [] =
     ap (map f) (take_next xs i x at within) ∙ map-append f (take i xs) (x ∷ []) in

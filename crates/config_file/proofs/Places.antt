@@ -1,16 +1,20 @@
 -- How far a pattern has matched a text, and why an earlier star need not be tried again.
-use Rattle.std.proofs.Common.{◌≡◌, ◌≢◌, ℕ, Bool, true, false, not, ◌||◌, ◌==◌, List, [], ◌∷◌, refl, sym, ◌∙◌, subst, arith, inl, inr, ◌⊎◌, ◌↔◌, length, ◌≤◌, ◌<◌}
+use Rattle.std.proofs.Common.{◌≡◌, ◌≢◌, ℕ, Bool, true, false, not, ◌||◌, ◌==◌, List, [], ◌∷◌, refl, sym, ◌∙◌}
+use Rattle.std.proofs.Common.{subst, arith, inl, inr, ◌⊎◌, ◌↔◌, length, ◌≤◌, ◌<◌}
 use Rattle.std.proofs.lemmas.Bool.{true≢false}
 use Rattle.config_file.specs.Runs.{Run}
 use Rattle.config_file.specs.Set.{slash}
 use Rattle.config_file.specs.Pattern.{star, is_star, stands_for, crosses, is_passed}
-use Rattle.config_file.specs.Pattern.{Item, byte, Passes, Matches, MatchesLater, MatchesStars, MatchesNoDirectory, LacksStar}
+use Rattle.config_file.specs.Pattern.{Item, byte, Passes, Matches, MatchesLater, MatchesStars}
+use Rattle.config_file.specs.Pattern.{MatchesNoDirectory, LacksStar}
 use Rattle.config_file.specs.Pattern.{ends, one, no_more, passes}
-use Rattle.config_file.specs.Reading.Places.{Further, next, beyond, FromHere, Follows, size, MatchesDeep, FindsStar, FindsDeep}
+use Rattle.config_file.specs.Reading.Places.{Further, next, beyond, FromHere, Follows, size, MatchesDeep}
+use Rattle.config_file.specs.Reading.Places.{FindsStar, FindsDeep}
 use Rattle.config_file.specs.declared.pattern.Found.{Found}
 use Rattle.config_file.specs.declared.pattern.FilePlace.{FilePlace}
 use Rattle.config_file.specs.declared.pattern.Found.TheVariants.{Whole, Nothing, Stars}
-use Rattle.config_file.proofs.Patterns.{run_shortens, no_star_item, empty_no_item, one_inv, end_inv, stars_inv, stars_no_directory, stars_later, later_here}
+use Rattle.config_file.proofs.Patterns.{run_shortens, no_star_item, empty_no_item, one_inv, end_inv}
+use Rattle.config_file.proofs.Patterns.{stars_inv, stars_no_directory, stars_later, later_here}
 use Rattle.config_file.proofs.Same.{item_same}
 
 -- ---- tests
@@ -99,7 +103,8 @@ further_back (beyond passed more) = inr more
 pub from_back : {i c starts : Bool} {b : ℕ} {pattern rest : List ℕ} (at : List ℕ) → at ≡ b ∷ rest
     → ¬ (Matches i starts pattern at)
     → FromHere i c starts pattern at → FromHere i c starts pattern rest
-from_back {i = i} {c = c} {starts = starts} {b = b} {pattern = pattern} {rest = rest} at e none (inl m) = absurd (none m)
+from_back {i = i} {c = c} {starts = starts} {b = b} {pattern = pattern} {rest = rest} at e none (inl m) =
+    absurd (none m)
 from_back {i = i} {c = c} {starts = starts} {b = b} {pattern = pattern} {rest = rest} at e none (inr more) =
     further_back (subst (λ x. Further i c starts pattern x) e more)
 
@@ -114,7 +119,8 @@ from_passes : {i d c : Bool} {pattern text left : List ℕ}
     → ((b : ℕ) → is_passed d b ≡ true → is_passed c b ≡ true)
     → Passes d text left → Matches i false pattern left → FromHere i c false pattern text
 from_passes weaker no_more match = inl match
-from_passes weaker (passes {b = b} is more) match = inr (from_step (weaker b is) (from_passes weaker more match))
+from_passes weaker (passes {b = b} is more) match =
+    inr (from_step (weaker b is) (from_passes weaker more match))
 
 pub from_later : {i c : Bool} {pattern text : List ℕ} → MatchesLater i c pattern text
     → FromHere i c false pattern text
@@ -124,7 +130,9 @@ further_later : {i c starts : Bool} {pattern text : List ℕ} → starts ≡ fal
     → Further i c starts pattern text → MatchesLater i c pattern text
 further_later {i = i} {pattern = pattern} e (next {text = text} is slashes match) =
     (text, passes is no_more, subst (λ s. Matches i s pattern text) e match)
-further_later e (beyond is more) = let (left, passed, match) = further_later e more in (left, passes is passed, match)
+further_later e (beyond is more) =
+    let (left, passed, match) = further_later e more in
+    (left, passes is passed, match)
 
 pub to_later : {i c : Bool} {pattern text : List ℕ} → FromHere i c false pattern text
     → MatchesLater i c pattern text
@@ -136,10 +144,12 @@ to_later (inr more) = further_later refl more
 star_from : {i c starts : Bool} {pattern more rest text : List ℕ} → Run is_star pattern more rest
     → crosses starts more rest ≡ false
     → Matches i starts (star ∷ pattern) text → FromHere i c false rest text
-star_from {i = i} {c = c} {starts = starts} {more = more} {rest = rest} {text = text} run short match = elim (stars_inv run match) [
-  | inl (after, crossing, at, m) ↦ absurd (true≢false (sym crossing ∙ short))
-  | inr (left, passed, m) ↦ from_passes (λ b is. passed_any c b is) (subst (λ x. Passes x text left) short passed) m
-]
+star_from {i = i} {c = c} {starts = starts} {more = more} {rest = rest} {text = text} run short match =
+    elim (stars_inv run match) [
+      | inl (after, crossing, at, m) ↦ absurd (true≢false (sym crossing ∙ short))
+      | inr (left, passed, m) ↦
+          from_passes (λ b is. passed_any c b is) (subst (λ x. Passes x text left) short passed) m
+    ]
 
 star_further : {i c starts : Bool} {pattern more rest text : List ℕ} → Run is_star pattern more rest
     → crosses starts more rest ≡ false
@@ -163,10 +173,11 @@ slash_here {i = i} {after = after} at e match = rw (at, e) (one after (byte (sla
 deep_further : {i starts : Bool} {pattern more rest text : List ℕ} → Run is_star pattern more rest
     → crosses starts more rest ≡ true
     → starts ≡ true → Further i true starts (star ∷ pattern) text → MatchesLater i true rest text
-deep_further {i = i} run long name (next {b = b} {text = text} is slashes match) = elim (stars_inv run match) [
-  | inl (after, crossing, at, m) ↦ (b ∷ text, no_more, slash_here at (slashes name) m)
-  | inr (left, passed, m) ↦ (left, passes refl (subst (λ x. Passes x text left) long passed), m)
-]
+deep_further {i = i} run long name (next {b = b} {text = text} is slashes match) =
+    elim (stars_inv run match) [
+      | inl (after, crossing, at, m) ↦ (b ∷ text, no_more, slash_here at (slashes name) m)
+      | inr (left, passed, m) ↦ (left, passes refl (subst (λ x. Passes x text left) long passed), m)
+    ]
 deep_further run long name (beyond is further) =
     let (left, passed, m) = deep_further run long name further in (left, passes refl passed, m)
 
@@ -228,7 +239,8 @@ slash_from {i = i} {after = after} {text = text} pattern e (inr (left, passed, m
 pub slash_only : {i : Bool} {after text : List ℕ} (pattern : List ℕ) → pattern ≡ slash ∷ after
     → MatchesNoDirectory i true pattern text
     → Matches i true after text
-slash_only {i = i} {after = after} {text = text} pattern e (rest, crossing, at, m) = subst (λ r. Matches i true r text) (cc) m
+slash_only {i = i} {after = after} {text = text} pattern e (rest, crossing, at, m) =
+    subst (λ r. Matches i true r text) (cc) m
 
 -- ---- what is found
 
@@ -267,7 +279,8 @@ deep_stars i P F found place e is run long =
     (λ d. both.0 (deep_back run long d), λ g. deep_all run long (both.1 true g))
 
 pub star_next : (i : Bool) (P : Type 0) (F : Bool → Type 0) {more rest : List ℕ} (found : Found) (place : FilePlace) → found ≡ Stars place
-    → FindsStar i P F found → Run is_star place.pattern.now more rest → crosses place.starts more rest ≡ false → (P → F false)
+    → FindsStar i P F found → Run is_star place.pattern.now more rest → crosses place.starts more rest ≡ false
+    → (P → F false)
     → (found2 : Found)
     → FindsStar i (MatchesLater i false rest place.text.now) (λ c. FromHere i c false rest place.text.now) found2
     → FindsStar i P F found2

@@ -1,10 +1,12 @@
 -- A value whose text is a slice of its bytes.
-use Rattle.std.proofs.Common.{◌≡◌, ◌≢◌, ℕ, ◌-◌, true, false, List, [], ◌∷◌, ◌++◌, length, refl, sym, ap, ◌∙◌, subst, arith, append_assoc, append-nil, length-append}
+use Rattle.std.proofs.Common.{◌≡◌, ◌≢◌, ℕ, ◌-◌, true, false, List, [], ◌∷◌, ◌++◌, length, refl, sym, ap, ◌∙◌}
+use Rattle.std.proofs.Common.{subst, arith, append_assoc, append-nil, length-append}
 use Rattle.std.proofs.lemmas.Bool.{true≢false, and_parts}
 use Rattle.std.proofs.lemmas.Bool.Decides.{nat_tests}
 use Rattle.std.proofs.lemmas.List.Folds.{list_all-append}
 use Rattle.std.specs.List.{list_all}
-use Rattle.config_file.proofs.Spelled.{after_held, after_blanks, after_plain, word_no_quote, word_no_backslash}
+use Rattle.config_file.proofs.Spelled.{after_held, after_blanks, after_plain, word_no_quote}
+use Rattle.config_file.proofs.Spelled.{word_no_backslash}
 use Rattle.config_file.specs.Bytes.{is_blank}
 use Rattle.config_file.specs.Runs.{Run, StopsRun}
 use Rattle.config_file.specs.Value.{Spells, itself, kept}
@@ -20,7 +22,8 @@ passed_start {raw = raw} {blanks = blanks} {start = start} run =
       begins = run.longest;
       blanks = refl;
       spells = λ spelled ending s.
-          let more = after_blanks [] blanks start run.pass (subst (λ x. Spells itself false [] [] x spelled ending) run.joined s) in
+          let more =
+          after_blanks [] blanks start run.pass (subst (λ x. Spells itself false [] [] x spelled ending) run.joined s) in
           (ending, blanks, (λ some. absurd (some refl)), more);
     }
 
@@ -53,18 +56,23 @@ pub passed_text : {raw start rest : List ℕ} {count b : ℕ} (at : List ℕ) �
     → at ≡ b ∷ rest → is_blank b ≡ false
     → b ≢ 34 → b ≢ 92 → PassedPlain raw start rest (length start - length rest)
 passed_text {start = start} {rest = rest} {b = b} at passed e is not_quote not_backslash =
-    let whole : start ≡ ((passed.front ++ passed.gap) ++ b ∷ []) ++ rest = passed.joined ∙ rw e (simp append_assoc) in
+    let whole : start ≡ ((passed.front ++ passed.gap) ++ b ∷ []) ++ rest =
+    passed.joined ∙ rw e (simp append_assoc) in
     record {
       front = (passed.front ++ passed.gap) ++ b ∷ [];
       gap = [];
       joined = whole ∙ ap (λ x. x ++ rest) (sym (append-nil ((passed.front ++ passed.gap) ++ b ∷ [])));
-      counted = let lengths = ap length whole ∙ length-append ((passed.front ++ passed.gap) ++ b ∷ []) rest in omega arith;
+      counted =
+          let lengths = ap length whole ∙ length-append ((passed.front ++ passed.gap) ++ b ∷ []) rest in
+          omega arith;
       begins = passed.begins;
       blanks = refl;
       spells = λ spelled ending s.
           let (o, held, same, more) = passed.spells spelled ending s in
-          let text = kept_is passed.front passed.gap start at held passed.begins passed.joined passed.blanks same in
-          let next = after_plain (subst (λ x. Spells itself false passed.front held x spelled o) e more) is not_quote not_backslash in
+          let text =
+          kept_is passed.front passed.gap start at held passed.begins passed.joined passed.blanks same in
+          let next =
+          after_plain (subst (λ x. Spells itself false passed.front held x spelled o) e more) is not_quote not_backslash in
           (o, [], (λ some. refl), subst (λ x. Spells itself false (x ++ b ∷ []) [] rest spelled o) text next);
     }
 
@@ -72,10 +80,12 @@ word_is_no_blank : (b : ℕ) → is_word_byte b ≡ true → is_blank b ≡ fals
 word_is_no_blank b is = grind (arith, nat_tests)
 
 -- the scan passes a run of bytes that spell themselves as it passes each of them
-pub passed_word : {raw start after : List ℕ} (at word : List ℕ) → PassedPlain raw start at (length start - length at)
+pub passed_word : {raw start after : List ℕ} (at word : List ℕ)
+    → PassedPlain raw start at (length start - length at)
     → at ≡ word ++ after → list_all is_word_byte word ≡ true
     → PassedPlain raw start after (length start - length after)
-passed_word {raw = raw} {start = start} at [] passed e all = subst (λ x. PassedPlain raw start x (length start - length x)) e passed
+passed_word {raw = raw} {start = start} at [] passed e all =
+    subst (λ x. PassedPlain raw start x (length start - length x)) e passed
 passed_word {after = after} at (b ∷ word) passed e all =
     let (here, more) = and_parts (is_word_byte b) (list_all is_word_byte word) all in
     passed_word (word ++ after) word (passed_text at passed e (word_is_no_blank b here) (word_no_quote b here) (word_no_backslash b here)) refl more

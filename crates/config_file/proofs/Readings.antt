@@ -1,5 +1,6 @@
 -- The reader, item by item.
-use Rattle.std.proofs.Common.{◌≡◌, ◌≢◌, ℕ, ◌+◌, true, false, List, [], ◌∷◌, Option, Some, None, Result, Ok, Err, sym, ap, ◌∙◌, subst, arith}
+use Rattle.std.proofs.Common.{◌≡◌, ◌≢◌, ℕ, ◌+◌, true, false, List, [], ◌∷◌, Option, Some, None, Result, Ok}
+use Rattle.std.proofs.Common.{Err, sym, ap, ◌∙◌, subst, arith}
 use Rattle.std.proofs.lemmas.Bool.Decides.{nat_tests}
 use Rattle.std.specs.Char.{is_ascii_alphabetic}
 use Rattle.config_file.specs.declared.errors.FileError.{FileError}
@@ -38,14 +39,17 @@ refused_as : {section : Option Section} {line at_line : ℕ} {fault : FileFault}
     → error.line ≡ at_line → error.fault ≡ fault
     → Reads section line text [] (Some (record { line = at_line; fault = fault })) → Reads section line text [] (Some error)
 refused_as {section = section} {line = line} {fault = fault} {text = text} error same_line same_fault h =
-    let first = subst (λ l. Reads section line text [] (Some (record { line = l; fault = fault }))) (sym same_line) h in
+    let first =
+    subst (λ l. Reads section line text [] (Some (record { line = l; fault = fault }))) (sym same_line) h in
     subst (λ f. Reads section line text [] (Some (record { line = error.line; fault = f }))) (sym same_fault) first
 
 module _ {section : Option Section} {line : ℕ} (error : FileError) where
-  pub header_refused : {b lines : ℕ} {fault : FileFault} {rest : List ℕ} (at : List ℕ) → at ≡ b ∷ rest → b ≡ 91
+  pub header_refused : {b lines : ℕ} {fault : FileFault} {rest : List ℕ} (at : List ℕ) → at ≡ b ∷ rest
+      → b ≡ 91
       → HeaderStops rest lines fault
       → error.line ≡ line + lines → error.fault ≡ fault → Reads section line at [] (Some error)
-  header_refused at e is stops same_line same_fault = refused_as error same_line same_fault (rw e (file.header_refused is stops))
+  header_refused at e is stops same_line same_fault =
+      refused_as error same_line same_fault (rw e (file.header_refused is stops))
 
   pub entry_refused : {b lines : ℕ} {fault : FileFault} {rest : List ℕ} (at : List ℕ) → at ≡ b ∷ rest
       → is_ascii_alphabetic b ≡ true → EntryStops at lines fault
@@ -60,7 +64,8 @@ module _ {section : Option Section} {line : ℕ} (error : FileError) where
       refused_as error same (same_fault ∙ ap fault_at e) (rw e (file.no_item other))
 
 pub at_entry : {section : Option Section} {line b lines : ℕ} {rest key after : List ℕ} {value : Option (List ℕ)} (left : List Entry) (error : Option FileError) (at : List ℕ)
-    → at ≡ b ∷ rest → is_ascii_alphabetic b ≡ true → TakesEntry at key value lines after → Reads section (line + lines) after left error
+    → at ≡ b ∷ rest → is_ascii_alphabetic b ≡ true → TakesEntry at key value lines after
+    → Reads section (line + lines) after left error
     → Reads section line at (record { section = section; key = key; value = value; line = line + lines } ∷ left) error
 at_entry {lines = lines} {key = key} {after = after} {value = value} left error at e letter taken h =
     rw e (file.entry letter (subst (λ t. TakesEntry t key value lines after) e taken) h)
@@ -72,7 +77,8 @@ none_left at e = rw e file.ends
 pub gives_from : (old mid : reader.Entries) (result : Result code.Entry FileError) (new : reader.Entries)
     → ((left : List Entry) (error : Option FileError) → HasLeft mid left error → HasLeft old left error)
     → GivesEntry mid (Some result) new → GivesEntry old (Some result) new
-gives_from old mid (Ok entry) new same gives = λ left error h. same (entry_of entry ∷ left) error (gives left error h)
+gives_from old mid (Ok entry) new same gives =
+    λ left error h. same (entry_of entry ∷ left) error (gives left error h)
 gives_from old mid (Err error) new same gives = (same [] (Some error) gives.0, gives.1)
 
 -- a byte at which the code finds no item does not begin an item

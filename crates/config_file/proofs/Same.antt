@@ -1,5 +1,6 @@
 -- What an item of a pattern is does not depend on the byte that it matches.
-use Rattle.std.proofs.Common.{◌≡◌, ◌≢◌, ℕ, Bool, true, false, not, ◌||◌, ◌==◌, List, refl, sym, ap, ◌∙◌, arith, inl, inr}
+use Rattle.std.proofs.Common.{◌≡◌, ◌≢◌, ℕ, Bool, true, false, not, ◌||◌, ◌==◌, List, refl, sym, ap, ◌∙◌}
+use Rattle.std.proofs.Common.{arith, inl, inr}
 use Rattle.std.proofs.lemmas.Bool.{cases_Bool, true≢false}
 use Rattle.config_file.specs.Bytes.{left_bracket, backslash}
 use Rattle.config_file.specs.Set.{slash, folded}
@@ -28,7 +29,8 @@ stands_same i c b b2 is is2 = elim (cases_Bool (c == question_mark)) [
   | inl e ↦ not_same (b == slash) (b2 == slash) (rw e at is) (rw e at is2)
   | inr f ↦ elim (cases_Bool ((c == star || c == left_bracket) || c == backslash)) [
     | inl g ↦ absurd (true≢false (sym (rw (f, g) at is)))
-    | inr g ↦ same_folded i b b2 (folded_same (folded i c) (folded i b) (folded i b2) (rw (f, g) at is) (rw (f, g) at is2))
+    | inr g ↦
+        same_folded i b b2 (folded_same (folded i c) (folded i b) (folded i b2) (rw (f, g) at is) (rw (f, g) at is2))
   ]
 ]
 

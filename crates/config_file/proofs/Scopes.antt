@@ -10,7 +10,8 @@ pub scope_none : (old new : Settings) → new.scope ≡ old.scope → new.entrie
     → AddsInScope old new
 scope_none old new same is = (same, ([], is ∙ sym (append-nil old.entries.items), All-nil _))
 
-pub scope_both : (old new newer : Settings) → AddsInScope old new → AddsInScope new newer → AddsInScope old newer
+pub scope_both : (old new newer : Settings) → AddsInScope old new → AddsInScope new newer
+    → AddsInScope old newer
 scope_both old new newer (same, (first, is, all)) (same2, (second, is2, all2)) = (
   same2 ∙ same,
   (

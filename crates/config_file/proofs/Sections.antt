@@ -34,7 +34,8 @@ in_or_not (y ∷ ys) x = elim (same_or_not y x) [
   ]
 ]
 
-in_picked : {x y : List ℕ} {all picked : List (List ℕ)} → y ≢ x → Picks (λ other. other ≢ x) all picked → In all y
+in_picked : {x y : List ℕ} {all picked : List (List ℕ)} → y ≢ x → Picks (λ other. other ≢ x) all picked
+    → In all y
     → In picked y
 in_picked other none is = absurd is
 in_picked other (takes h rest) (inl is) = inl is
@@ -100,7 +101,8 @@ subs_next {section = section} {old = old} items settings i setting new (Some v) 
           (subs_new setting (items v) (tests text is) (λ i. more.0 (contains_of old (items v) i)) (before listed))
     ])
 
-pub subs_done : {section : List ℕ} {found : List (List ℕ)} (settings : List Setting) (i : ℕ) → length settings ≤ i
+pub subs_done : {section : List ℕ} {found : List (List ℕ)} (settings : List Setting) (i : ℕ)
+    → length settings ≤ i
     → (AreListed settings → AreSubsections section (take i settings) found) → AreListed settings
     → AreSubsections section settings found
 subs_done {section = section} {found = found} settings i past is listed =
@@ -111,17 +113,21 @@ abbrev pub IsOnlyText : List ℕ → Setting → Type 0
 IsOnlyText items setting = (listed : List ℕ)
     → IsListed (entry_of setting.entry).section (entry_of setting.entry).key listed → items ≡ listed
 
-same_cut : {section items sub : List ℕ} {setting : Setting} (key : Key) → IsOnlyText items setting → IsCut items key
+same_cut : {section items sub : List ℕ} {setting : Setting} (key : Key) → IsOnlyText items setting
+    → IsCut items key
     → (found : HasSubsection section setting sub) → found.key ≡ key
 same_cut {items = items} key only cut found =
     cut_same (subst (λ t. IsCut t found.key) (sym (only found.text found.is_listed)) found.is_cut) cut
 
-pub other_section : (section items : List ℕ) (setting : Setting) (key : Key) → IsOnlyText items setting → IsCut items key
-    → ¬ (map to_ascii_lowercase key.section ≡ map to_ascii_lowercase section) → LacksSubsection section setting
+pub other_section : (section items : List ℕ) (setting : Setting) (key : Key) → IsOnlyText items setting
+    → IsCut items key
+    → ¬ (map to_ascii_lowercase key.section ≡ map to_ascii_lowercase section)
+    → LacksSubsection section setting
 other_section section items setting key only cut not sub found =
     not (ap (λ k. map to_ascii_lowercase k.section) (sym (same_cut key only cut found)) ∙ found.same_section)
 
-pub no_subsection : (section items : List ℕ) (setting : Setting) (key : Key) → IsOnlyText items setting → IsCut items key
+pub no_subsection : (section items : List ℕ) (setting : Setting) (key : Key) → IsOnlyText items setting
+    → IsCut items key
     → key.subsection ≡ None → LacksSubsection section setting
 no_subsection section items setting key only cut is sub found =
     let same : None ≡ Some sub =

@@ -1,8 +1,11 @@
 -- Sets of bytes in patterns: their classes, their members, and what they match.
-use Rattle.std.proofs.Common.{◌≡◌, ◌≢◌, ℕ, suc, ◌<◌, ◌≤◌, ◌⊎◌, Bool, true, false, ◌||◌, ◌&&◌, ◌==◌, if◌then◌else◌, List, [], ◌∷◌, ◌++◌, Option, None, Some, length, drop, get_or, codes, refl, sym, ap, ◌∙◌, subst, arith, inl, inr, append_assoc}
+use Rattle.std.proofs.Common.{◌≡◌, ◌≢◌, ℕ, suc, ◌<◌, ◌≤◌, ◌⊎◌, Bool, true, false, ◌||◌, ◌&&◌, ◌==◌}
+use Rattle.std.proofs.Common.{if◌then◌else◌, List, [], ◌∷◌, ◌++◌, Option, None, Some, length, drop, get_or}
+use Rattle.std.proofs.Common.{codes, refl, sym, ap, ◌∙◌, subst, arith, inl, inr, append_assoc}
 use Rattle.std.specs.List.{list_all}
 use Rattle.std.specs.Str.{bytes_eq}
-use Rattle.std.specs.Char.{is_ascii_alphanumeric, is_ascii_alphabetic, is_ascii_digit, is_ascii_control, is_ascii_graphic}
+use Rattle.std.specs.Char.{is_ascii_alphanumeric, is_ascii_alphabetic, is_ascii_digit, is_ascii_control}
+use Rattle.std.specs.Char.{is_ascii_graphic}
 use Rattle.std.specs.Char.{is_ascii_punctuation, is_ascii_hexdigit, is_ascii_lowercase, is_ascii_uppercase}
 use Rattle.std.proofs.lemmas.List.{append_cancel_left, append_cancel_right}
 use Rattle.std.proofs.lemmas.Option.{same_Some}
@@ -14,9 +17,12 @@ use Rattle.config_file.specs.Runs.{Run, StopsRun}
 use Rattle.config_file.specs.Reading.Places.{Closing}
 use Rattle.config_file.specs.Bytes.{right_bracket, backslash, dash, is_blank, is_space}
 use Rattle.config_file.proofs.OneRun.{run_only}
-use Rattle.config_file.specs.Set.{folded, is_negation, is_wanted, opened, is_unclosed, IsClass, IsNoClass, IsNoRange, range_has, StandsForByte}
-use Rattle.config_file.specs.Set.{SetByte, bare, after_backslash, RangeEnd, to, Member, class, single, range, SetHas, closes, has}
-use Rattle.config_file.specs.Set.{Class, alnum, alpha, blank, cntrl, digit, graph, lower, print, punct, spaces, upper, xdigit}
+use Rattle.config_file.specs.Set.{folded, is_negation, is_wanted, opened, is_unclosed, IsClass, IsNoClass}
+use Rattle.config_file.specs.Set.{IsNoRange, range_has, StandsForByte}
+use Rattle.config_file.specs.Set.{SetByte, bare, after_backslash, RangeEnd, to, Member, class, single, range}
+use Rattle.config_file.specs.Set.{SetHas, closes, has}
+use Rattle.config_file.specs.Set.{Class, alnum, alpha, blank, cntrl, digit, graph, lower, print, punct}
+use Rattle.config_file.specs.Set.{spaces, upper, xdigit}
 
 -- ---- classes
 
@@ -70,12 +76,14 @@ not_opened lacks name rest is = lacks is.inner is.opened
 pub no_colon : {text inner inside closing : List ℕ} → Closes text closing
     → text ≡ codes "[:" ++ inner → inner ≡ inside ++ closing
     → ((front : List ℕ) → inside ≢ front ++ codes ":") → IsNoClass text
-no_colon ahead opens joined never name rest is = never name ((same_run opens (run_before ahead opens joined) is).0)
+no_colon ahead opens joined never name rest is =
+    never name ((same_run opens (run_before ahead opens joined) is).0)
 
 pub no_closing : {text inner closing : List ℕ} (inside : List ℕ) → Closes text closing
     → text ≡ codes "[:" ++ inner → inner ≡ inside ++ closing
     → ((rest : List ℕ) → closing ≢ right_bracket ∷ rest) → IsNoClass text
-no_closing inside ahead opens joined never name rest is = never rest ((same_run opens (run_before ahead opens joined) is).1)
+no_closing inside ahead opens joined never name rest is =
+    never rest ((same_run opens (run_before ahead opens joined) is).1)
 
 pub class_unique : {text name name2 rest rest2 : List ℕ} → IsClass text name rest → IsClass text name2 rest2
     → (name ≡ name2) × (rest ≡ rest2)
@@ -129,7 +137,8 @@ class_row (xdigit e f) = rw e (ap Some (sym f))
 
 class_only : {i : Bool} {b : ℕ} {name name2 : List ℕ} {h h2 : Bool} → Class i b name h → Class i b name2 h2
     → name ≡ name2 → h ≡ h2
-class_only {i = i} {b = b} one other e = same_Some _ _ (sym (class_row one) ∙ ap (row_of (rows i b)) e ∙ class_row other)
+class_only {i = i} {b = b} one other e =
+    same_Some _ _ (sym (class_row one) ∙ ap (row_of (rows i b)) e ∙ class_row other)
 
 -- ---- members
 
@@ -170,7 +179,9 @@ is_first c d e more same too =
     here ∙ sym (ap (λ x. x || more) there)
 
 pub is_no_first : (c d : ℕ) (more : Bool) → c ≢ d → more ≡ ((c == d) || more)
-is_no_first c d more apart = let other : (c == d) ≡ false = grind (arith, nat_tests) in sym (ap (λ x. x || more) other)
+is_no_first c d more apart =
+    let other : (c == d) ≡ false = grind (arith, nat_tests) in
+    sym (ap (λ x. x || more) other)
 
 -- the next byte of a set
 pub bare_here : {starts : Bool} {text rest : List ℕ} {c : ℕ} → text ≡ c ∷ rest → c ≢ backslash
@@ -197,14 +208,16 @@ pub no_range_byte : {text mid : List ℕ} → text ≡ dash ∷ mid
 no_range_byte e none last rest here = none last rest (range_byte (subst (λ x. RangeEnd x last rest) e here))
 
 pub of_no_class : {i : Bool} {b : ℕ} {starts : Bool} {text name after : List ℕ} → IsClass text name after
-    → ((h : Bool) → ¬ (Class i b name h)) → (here : Bool) (rest : List ℕ) → ¬ (Member i b starts text here rest)
+    → ((h : Bool) → ¬ (Class i b name h)) → (here : Bool) (rest : List ℕ)
+    → ¬ (Member i b starts text here rest)
 of_no_class {i = i} {b = b} is unknown here rest (class name2 is2 known) =
     unknown here (subst (λ n. Class i b n here) (sym ((class_unique is is2).0)) known)
 of_no_class is unknown here rest (single c none byte alone found) = none _ _ is
 of_no_class is unknown here rest (range first last mid none byte more found) = none _ _ is
 
 pub of_no_byte : {i : Bool} {b : ℕ} {starts : Bool} {text : List ℕ} → IsNoClass text
-    → ((c : ℕ) (after : List ℕ) → ¬ (SetByte starts text c after)) → (here : Bool) (rest : List ℕ) → ¬ (Member i b starts text here rest)
+    → ((c : ℕ) (after : List ℕ) → ¬ (SetByte starts text c after)) → (here : Bool) (rest : List ℕ)
+    → ¬ (Member i b starts text here rest)
 of_no_byte none nothing here rest (class name is known) = none name rest is
 of_no_byte none nothing here rest (single c none2 byte alone found) = nothing c rest byte
 of_no_byte none nothing here rest (range first last mid none2 byte more found) = nothing first mid byte
@@ -239,7 +252,8 @@ member_same {i = i} {b = b} {b2 = b2} {r = r} (range first last mid none byte mo
 has_inv : {i : Bool} {b b2 : ℕ} {starts all : Bool} {text rest : List ℕ} (here : Bool) (after : List ℕ)
     → Member i b starts text here after → SetHas i b2 starts text all rest
     → (found : Bool) × SetHas i b2 false after found rest × (b ≡ b2 → all ≡ (here || found))
-has_inv {i = i} {b = b} here after is (closes {c = c} {rest = tail} e) = absurd (no_end_member i b c tail here after e is)
+has_inv {i = i} {b = b} here after is (closes {c = c} {rest = tail} e) =
+    absurd (no_end_member i b c tail here after e is)
 has_inv {i = i} {b2 = b2} {rest = rest} here after is (has here2 found after2 is2 more all) =
     let (rests, heres) = member_same is is2 in
     (found, subst (λ a. SetHas i b2 false a found rest) (sym rests) more, λ e. all ∙ ap (λ h. h || found) (sym (heres e)))
@@ -279,7 +293,10 @@ pub member_shortens : {i : Bool} {b : ℕ} {starts here : Bool} {text after : Li
     → length after < length text
 member_shortens (class name is known) = class_shortens is
 member_shortens (single c none byte alone found) = byte_shortens byte
-member_shortens (range first last mid none byte more found) = let short = byte_shortens byte in let shorter = range_shortens more in omega arith
+member_shortens (range first last mid none byte more found) =
+    let short = byte_shortens byte in
+    let shorter = range_shortens more in
+    omega arith
 
 has_shortens : {i : Bool} {b : ℕ} {starts f : Bool} {text r : List ℕ} → SetHas i b starts text f r
     → length r < length text
@@ -291,7 +308,8 @@ has_shortens (has here found after is more all) =
 
 opened_shortens : (text : List ℕ) → length ((opened text).1) ≤ length text
 opened_shortens [] = omega arith
-opened_shortens (c ∷ rest) = elim (cases_Bool (is_negation c)) [ inl e ↦ rw e (omega arith) | inr f ↦ rw f (omega arith) ]
+opened_shortens (c ∷ rest) =
+    elim (cases_Bool (is_negation c)) [ inl e ↦ rw e (omega arith) | inr f ↦ rw f (omega arith) ]
 
 pub set_shortens : {i : Bool} {b : ℕ} {text r : List ℕ} → StandsForByte i text b r → length r < length text
 set_shortens {text = text} stands =
@@ -326,7 +344,8 @@ passed (f ∷ front) (x ∷ inside) after closing all e =
 pub closing_after : {i : Bool} {b : ℕ} {starts here : Bool} {text after closing : List ℕ} (inside : List ℕ)
     → Run is_unclosed text inside closing → Member i b starts text here after → Closing after closing
 closing_after {after = after} {closing = closing} inside run is =
-    let (front, e) = member_rest is in elim (passed front inside after closing run.pass (sym e ∙ run.joined)) [
+    let (front, e) = member_rest is in
+    elim (passed front inside after closing run.pass (sym e ∙ run.joined)) [
       | inl (more, f, all) ↦ inl (more, record { joined = f; pass = all; longest = run.longest })
       | inr less ↦ inr less
     ]
@@ -381,7 +400,8 @@ or_false false = refl
 pub set_closed : {i : Bool} {b : ℕ} {found : Bool} {text after : List ℕ} (rest : List ℕ)
     → GoesOn i b text found rest
     → rest ≡ right_bracket ∷ after → SetHas i b true text found after
-set_closed {found = found} {after = after} rest on e = on.0 false found after (rw e (closes refl)) (or_false found)
+set_closed {found = found} {after = after} rest on e =
+    on.0 false found after (rw e (closes refl)) (or_false found)
 
 no_start : {i : Bool} {b : ℕ} {g : Bool} {text r : List ℕ} → SetHas i b true text g r
     → ((here : Bool) (after : List ℕ) → ¬ (Member i b true text here after)) → ⊥
@@ -400,7 +420,8 @@ no_more (has here found after is more all) never none = none here after is
 
 pub not_closed : {i : Bool} {b : ℕ} {text : List ℕ} (found : Bool) (rest : List ℕ)
     → GoesOn i b text found rest
-    → ((r : List ℕ) → rest ≢ right_bracket ∷ r) → ((here : Bool) (after : List ℕ) → ¬ (Member i b false rest here after))
+    → ((r : List ℕ) → rest ≢ right_bracket ∷ r)
+    → ((here : Bool) (after : List ℕ) → ¬ (Member i b false rest here after))
     → (g : Bool) (r : List ℕ) → ¬ (SetHas i b true text g r)
 not_closed found rest on never none g r whole = let (f, more) = on.1 g r whole in no_more more never none
 
@@ -417,13 +438,15 @@ stands {i = i} {b = b} {found = found} {rest = rest} e whole wanted apart = reco
 }
 
 pub stands_not : {i : Bool} {b : ℕ} {negated : Bool} {text inner : List ℕ} → (negated, inner) ≡ opened text
-    → ((g : Bool) (r : List ℕ) → ¬ (SetHas i b true inner g r)) → (rest : List ℕ) → ¬ (StandsForByte i text b rest)
+    → ((g : Bool) (r : List ℕ) → ¬ (SetHas i b true inner g r)) → (rest : List ℕ)
+    → ¬ (StandsForByte i text b rest)
 stands_not {i = i} {b = b} e never rest is =
     never is.found rest (subst (λ x. SetHas i b true x is.found rest) (sym (ap (λ p. p.1) e)) is.members)
 
 pub stands_unwanted : {i : Bool} {b : ℕ} {negated found : Bool} {text inner after : List ℕ}
     → (negated, inner) ≡ opened text
-    → SetHas i b true inner found after → is_wanted found negated ≡ false → (rest : List ℕ) → ¬ (StandsForByte i text b rest)
+    → SetHas i b true inner found after → is_wanted found negated ≡ false → (rest : List ℕ)
+    → ¬ (StandsForByte i text b rest)
 stands_unwanted {i = i} {b = b} {negated = negated} e whole unwanted rest is =
     let members = subst (λ x. SetHas i b true x is.found rest) (sym (ap (λ p. p.1) e)) is.members in
     let wanted = subst (λ x. is_wanted is.found x ≡ true) (sym (ap (λ p. p.0) e)) is.wanted in

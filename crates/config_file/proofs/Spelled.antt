@@ -1,5 +1,6 @@
 -- The text that the bytes of a value or of a subsection spell, piece by piece.
-use Rattle.std.proofs.Common.{◌≡◌, ◌≢◌, ℕ, ◌⊎◌, inl, inr, Bool, true, false, not, List, [], ◌∷◌, ◌++◌, Option, sym, ap, refl, ◌∙◌, subst, arith, append_assoc, append-nil}
+use Rattle.std.proofs.Common.{◌≡◌, ◌≢◌, ℕ, ◌⊎◌, inl, inr, Bool, true, false, not, List, [], ◌∷◌, ◌++◌, Option}
+use Rattle.std.proofs.Common.{sym, ap, refl, ◌∙◌, subst, arith, append_assoc, append-nil}
 use Rattle.std.specs.List.{list_all}
 use Rattle.std.proofs.lemmas.Bool.{true≢false, and_parts}
 use Rattle.std.proofs.lemmas.Bool.Decides.{nat_tests}
@@ -7,7 +8,8 @@ use Rattle.config_file.specs.Bytes.{is_blank, is_plain}
 use Rattle.config_file.specs.Runs.{Run, StopsRun}
 use Rattle.config_file.specs.Subsection.{SpellsSubsection}
 use Rattle.config_file.specs.Subsection as subsections
-use Rattle.config_file.specs.Value.{Ending, outside, Spells, itself, ends_outside, ends_at_backslash, quote, escaped, continued, continued_after_return, blank, plain, kept}
+use Rattle.config_file.specs.Value.{Ending, outside, Spells, itself, ends_outside, ends_at_backslash, quote}
+use Rattle.config_file.specs.Value.{escaped, continued, continued_after_return, blank, plain, kept}
 use Rattle.config_file.specs.Reading.Scans.{is_held_back, is_unescaped, is_word_byte, unescape, append_some}
 
 blank_is_no_quote : (b : ℕ) → is_blank b ≡ true → b ≡ 34 → ⊥
@@ -83,7 +85,8 @@ after_backslash (plain {quoted = q} {b = b} e s) is = absurd (plain_is_no_backsl
 -- a run of blanks outside quotes is held back
 pub after_blanks : {value spelled : List ℕ} {e : Ending} (held blanks rest : List ℕ)
     → list_all is_blank blanks ≡ true
-    → Spells itself false value held (blanks ++ rest) spelled e → Spells itself false value (held ++ blanks) rest spelled e
+    → Spells itself false value held (blanks ++ rest) spelled e
+    → Spells itself false value (held ++ blanks) rest spelled e
 after_blanks {value = value} {spelled = spelled} {e = e} held [] rest all s =
     subst (λ h. Spells itself false value h rest spelled e) (sym (append-nil held)) s
 after_blanks {value = value} {spelled = spelled} {e = e} held (b ∷ blanks) rest all s =
@@ -134,7 +137,8 @@ module _ {w : ℕ → ℕ} {q : Bool} {b : ℕ} {value held rest : List ℕ} (at
   pub quote_next : {spelled text : List ℕ} {o : Ending} → b ≡ 34 → text ≡ kept value held
       → Spells w q value held at spelled o
       → (ending : Ending) × Spells w (not q) text [] rest spelled ending
-  quote_next {spelled = spelled} {o = o} is same s = (o, rw same (after_quote (subst (λ x. Spells w q value held x spelled o) e s) is))
+  quote_next {spelled = spelled} {o = o} is same s =
+      (o, rw same (after_quote (subst (λ x. Spells w q value held x spelled o) e s) is))
 
   pub plain_next : {spelled kept_text text : List ℕ} {o : Ending} → is_held_back q b ≡ false → b ≢ 34
       → b ≢ 92 → kept_text ≡ kept value held → text ≡ kept_text ++ b ∷ []
@@ -142,7 +146,8 @@ module _ {w : ℕ → ℕ} {q : Bool} {b : ℕ} {value held rest : List ℕ} (at
   plain_next {spelled = spelled} {o = o} is not_quote not_backslash same same_text s =
       (o, rw (same_text, same) (after_plain (subst (λ x. Spells w q value held x spelled o) e s) is not_quote not_backslash))
 
-  pub word_next : {spelled kept_text text longer word after : List ℕ} {o : Ending} → is_held_back q b ≡ false → b ≢ 34
+  pub word_next : {spelled kept_text text longer word after : List ℕ} {o : Ending} → is_held_back q b ≡ false
+      → b ≢ 34
       → b ≢ 92 → kept_text ≡ kept value held → text ≡ kept_text ++ b ∷ []
       → Run is_word_byte rest word after → longer ≡ text ++ word
       → Spells w q value held at spelled o → (ending : Ending) × Spells w q longer [] after spelled ending
@@ -168,10 +173,12 @@ Writes at spelled old new =
 escaped_is_not : (b : ℕ) → is_unescaped b ≡ true → b ≡ 92 → ⊥
 escaped_is_not b is e = grind (arith, nat_tests)
 
-unescaped_left : {raw spelled : List ℕ} (front rest : List ℕ) → SpellsSubsection raw spelled → raw ≡ front ++ rest
+unescaped_left : {raw spelled : List ℕ} (front rest : List ℕ) → SpellsSubsection raw spelled
+    → raw ≡ front ++ rest
     → list_all is_unescaped front ≡ true
     → (more : List ℕ) × SpellsSubsection rest more × (spelled ≡ front ++ more)
-unescaped_left {spelled = spelled} [] rest s e all = (spelled, subst (λ x. SpellsSubsection x spelled) e s, refl)
+unescaped_left {spelled = spelled} [] rest s e all =
+    (spelled, subst (λ x. SpellsSubsection x spelled) e s, refl)
 unescaped_left (b ∷ front) rest subsections.ends e all = cc
 unescaped_left (b ∷ front) rest (subsections.escaped {b = c} is text s) e all =
     let same : c ≡ b = cc in
@@ -179,7 +186,8 @@ unescaped_left (b ∷ front) rest (subsections.escaped {b = c} is text s) e all 
 unescaped_left (b ∷ front) rest (subsections.plain {b = c} {raw = raw} is s) e all =
     let same : c ≡ b = cc in
     let tails : raw ≡ front ++ rest = cc in
-    let (more, left, t) = unescaped_left front rest s tails ((and_parts (is_unescaped b) (list_all is_unescaped front) all).1) in
+    let (more, left, t) =
+    unescaped_left front rest s tails ((and_parts (is_unescaped b) (list_all is_unescaped front) all).1) in
     (more, left, rw same (ap (◌∷◌ b) t))
 
 -- the bytes before the first backslash spell themselves

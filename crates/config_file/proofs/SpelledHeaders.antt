@@ -56,7 +56,8 @@ header_is_section name (Some t) (quoted opens c) (same, h) =
 
 pub no_header : (name : List ℕ) (text : Option (List ℕ)) → is_section name text ≡ false
     → HasNoHeader name text
-no_header name text refused t rest section names h = true≢false (sym (header_is_section name text h names) ∙ refused)
+no_header name text refused t rest section names h =
+    true≢false (sym (header_is_section name text h names) ∙ refused)
 
 name_some : (name : List ℕ) → is_section name None ≡ true → name ≢ []
 name_some [] is none = cc
@@ -101,7 +102,8 @@ letter_is_key_byte b h = grind (arith, nat_tests)
 
 pub no_key : (key : List ℕ) → is_key key ≡ false → IsNoKey key
 no_key [] refused b text rest letter run =
-    let stops = subst (λ x. StopsRun is_key_byte x) (sym run.joined) run.longest in true≢false (sym (letter_is_key_byte b letter) ∙ stops)
+    let stops = subst (λ x. StopsRun is_key_byte x) (sym run.joined) run.longest in
+    true≢false (sym (letter_is_key_byte b letter) ∙ stops)
 no_key (k ∷ key) refused b text rest letter run =
     let joined : b ∷ text ≡ k ∷ (key ++ rest) = run.joined in
     let same : b ≡ k = cc in

@@ -38,7 +38,8 @@ plain_outside b e some found other = grind (arith, nat_tests)
 spelled_next : {w : ℕ → ℕ} {q : Bool} {value held raw text : List ℕ} {e : Ending} (b : ℕ) (o : Option ℕ)
     → letter_of b ≡ o
     → (letter_of b ≡ None → is_plain q b ≡ true)
-    → Spells w q (kept value held ++ b ∷ []) [] raw text e → Spells w q value held (after_backslash b o ++ raw) text e
+    → Spells w q (kept value held ++ b ∷ []) [] raw text e
+    → Spells w q value held (after_backslash b o ++ raw) text e
 spelled_next b (Some l) is no_letter h = escaped refl (letter_escapes b l is) h
 spelled_next b None is no_letter h = plain (no_letter is) h
 
@@ -62,7 +63,8 @@ last_alone_is_no_space b [] last is none = grind (arith, nat_tests)
 last_alone_is_no_space b (c ∷ rest) last is none = cc
 
 pushed_before : (xs ys rest : List ℕ) (b : ℕ) → (xs ++ (ys ++ b ∷ [])) ++ rest ≡ (xs ++ ys) ++ b ∷ rest
-pushed_before xs ys rest b = ap (λ l. l ++ rest) (sym (append_assoc xs ys (b ∷ []))) ∙ append_assoc (xs ++ ys) (b ∷ []) rest
+pushed_before xs ys rest b =
+    ap (λ l. l ++ rest) (sym (append_assoc xs ys (b ∷ []))) ∙ append_assoc (xs ++ ys) (b ∷ []) rest
 
 -- outside quotes, where a space is read as a space
 module _ (w : ℕ → ℕ) (reads : w 32 ≡ 32) where
@@ -127,7 +129,8 @@ unquoted : (w : ℕ → ℕ) → w 32 ≡ 32 → (value : List ℕ) → is_spell
     → Spells w false [] [] (flat_map spelled_byte value) value outside
 unquoted w reads value all other =
     let spaces = or_left _ _ other in
-    let found : list_any is_lost value ≡ false = or_right (begins_with_space value || ends_with_space value) _ other in
+    let found : list_any is_lost value ≡ false =
+    or_right (begins_with_space value || ends_with_space value) _ other in
     let first : begins_with_space value ≡ false = or_left _ (ends_with_space value) spaces in
     let last : ends_with_space value ≡ false = or_right (begins_with_space value) _ spaces in
     spelled_outside w reads value all found first last
@@ -147,12 +150,14 @@ git_spelling value all = (spelled_by_git itself refl value all, spelled_by_git a
 kept_spellable : (value held : List ℕ) → is_spellable value ≡ true → is_spellable held ≡ true
     → is_spellable (kept value held) ≡ true
 kept_spellable [] held all blanks = refl
-kept_spellable (b ∷ value) held all blanks = rw (list_all-append (λ c. not (c == 0)) (b ∷ value) held, all, blanks)
+kept_spellable (b ∷ value) held all blanks =
+    rw (list_all-append (λ c. not (c == 0)) (b ∷ value) held, all, blanks)
 
 pushed_spellable : (value : List ℕ) (b : ℕ) → is_spellable value ≡ true → b ≢ 0
     → is_spellable (value ++ b ∷ []) ≡ true
 pushed_spellable value b all some =
-    let this : not (b == 0) ≡ true = grind (arith, nat_tests) in rw (list_all-append (λ c. not (c == 0)) value (b ∷ []), all, this)
+    let this : not (b == 0) ≡ true = grind (arith, nat_tests) in
+    rw (list_all-append (λ c. not (c == 0)) value (b ∷ []), all, this)
 
 escaped_is_some : (e c : ℕ) → escape e ≡ Some c → c ≢ 0
 escaped_is_some e c is none = grind (arith, nat_tests)
@@ -169,14 +174,18 @@ spelled_spellable : {q : Bool} {value held raw text : List ℕ} {e : Ending}
     → is_spellable value ≡ true → is_spellable held ≡ true → is_spellable text ≡ true
 spelled_spellable ends_outside all blanks = all
 spelled_spellable ends_inside all blanks = all
-spelled_spellable (ends_at_backslash {value = value} {held = held} e) all blanks = kept_spellable value held all blanks
-spelled_spellable (quote {value = value} {held = held} e s) all blanks = spelled_spellable s (kept_spellable value held all blanks) refl
+spelled_spellable (ends_at_backslash {value = value} {held = held} e) all blanks =
+    kept_spellable value held all blanks
+spelled_spellable (quote {value = value} {held = held} e s) all blanks =
+    spelled_spellable s (kept_spellable value held all blanks) refl
 spelled_spellable (escaped {e = e} {c = c} {value = value} {held = held} is l s) all blanks =
     spelled_spellable s (pushed_spellable (kept value held) c (kept_spellable value held all blanks) (escaped_is_some e c l)) refl
-spelled_spellable (continued {value = value} {held = held} e l s) all blanks = spelled_spellable s (kept_spellable value held all blanks) refl
+spelled_spellable (continued {value = value} {held = held} e l s) all blanks =
+    spelled_spellable s (kept_spellable value held all blanks) refl
 spelled_spellable (continued_after_return {value = value} {held = held} e l n s) all blanks =
     spelled_spellable s (kept_spellable value held all blanks) refl
-spelled_spellable (blank {b = b} {held = held} is s) all blanks = spelled_spellable s all (pushed_spellable held b blanks (blank_is_some b is))
+spelled_spellable (blank {b = b} {held = held} is s) all blanks =
+    spelled_spellable s all (pushed_spellable held b blanks (blank_is_some b is))
 spelled_spellable (plain {quoted = q} {b = b} {value = value} {held = held} is s) all blanks =
     spelled_spellable s (pushed_spellable (kept value held) b (kept_spellable value held all blanks) (plain_is_some q b is)) refl
 

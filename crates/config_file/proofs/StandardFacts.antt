@@ -1,7 +1,8 @@
--- What git-config(1) says about configuration files, with its own examples. A definition with a wrong escape, comment
--- sign, byte of a name, case, include or condition fails here. Not on that page, but as Git reads them, are CR, the
--- byte order mark, and the lines of entries and errors.
-use Rattle.std.proofs.Common.{true, false, ◌≡◌, ℕ, List, [], ◌∷◌, ◌++◌, map, option_map, codes, Bor, Option, Some, None, false, refl, ap}
+-- What git-config(1) says about configuration files, with its own examples. A definition with a wrong escape,
+-- comment sign, byte of a name, case, include or condition fails here. Not on that page, but as Git reads
+-- them, are CR, the byte order mark, and the lines of entries and errors.
+use Rattle.std.proofs.Common.{true, false, ◌≡◌, ℕ, List, [], ◌∷◌, ◌++◌, map, option_map, codes, Bor, Option}
+use Rattle.std.proofs.Common.{Some, None, false, refl, ap}
 use Rattle.std.specs.List.{flat_map}
 use Rattle.std.proofs.lemmas.Option.{same_Some, none-some}
 use Prim.Native.String.{String}
@@ -10,11 +11,13 @@ use Rattle.config_file.proofs.PatternsOnLiterals.{AreMatched, all_matched}
 use Rattle.config_file.proofs.OnLiterals.{Row, Lists, AreListed, lists, all_listed}
 use Rattle.config_file.specs.declared.errors.FileFault.TheVariants.{BadLine, Nul}
 use Rattle.config_file.specs.declared.errors.FileError.{FileError}
-use Rattle.config_file.specs.declared.include.Condition.TheVariants.{GitDir, GitDirIgnoringCase, OnBranch, HasRemoteUrl, Unknown}
+use Rattle.config_file.specs.declared.include.Condition.TheVariants.{GitDir, GitDirIgnoringCase, OnBranch}
+use Rattle.config_file.specs.declared.include.Condition.TheVariants.{HasRemoteUrl, Unknown}
 use Rattle.config_file.specs.Bytes.{line_feed}
 use Rattle.config_file.specs.File.{Entry, entry_at, error_at}
 use Rattle.config_file.specs.Include.{SpellsCondition, IsPathIn, below, anywhere, at_home}
-use Rattle.config_file.specs.Path.{Expands, below_home, below_prefix, other, BeginsUnknown, user, IsIncludedName, absolute, relative}
+use Rattle.config_file.specs.Path.{Expands, below_home, below_prefix, other, BeginsUnknown, user}
+use Rattle.config_file.specs.Path.{IsIncludedName, absolute, relative}
 
 -- ---- entries
 
@@ -111,8 +114,8 @@ example_is_listed = lists example _ _ refl
 abbrev valued : String × String → List ℕ × List Row × Option FileError
 valued line = (codes line.0, row 1 "k" line.1 ∷ [], None)
 
--- "Whitespace characters surrounding name, = and value are discarded", and quotes keep them; "# or ;" begins a
--- comment; "\" and \\ .. \n for newline character, \t for horizontal tabulation and \b for backspace"
+-- "Whitespace characters surrounding name, = and value are discarded", and quotes keep them; "# or ;" begins
+-- a comment; "\" and \\ .. \n for newline character, \t for horizontal tabulation and \b for backspace"
 abbrev values : List (String × String)
 values =
     ("k=a", "a")
@@ -160,8 +163,9 @@ listings_are_listed = all_listed listings refl
 abbrev refused : String → List ℕ × List Row × Option FileError
 refused text = (codes "a = b\n" ++ codes text, row 1 "a" "b" ∷ [], Some (error_at 2 BadLine))
 
--- "Other char escape sequences .. are invalid", and so is a quote that is not closed; names have "only alphanumeric
--- characters and -, and must start with an alphabetic character", and those of sections - and . too
+-- "Other char escape sequences .. are invalid", and so is a quote that is not closed; names have "only
+-- alphanumeric characters and -, and must start with an alphabetic character", and those of sections - and .
+-- too
 abbrev no_lines : List String
 no_lines =
     "k = \\r" ∷ "k = \\0" ∷ "k = \"a" ∷ "k = \"a\nb\"" ∷ "a_b = 1" ∷ "a.b = 1" ∷ "1a = 1" ∷ "-a = 1" ∷ "= 1" ∷ "a b"
@@ -193,7 +197,8 @@ pub others_are_none : ¬ (IsPathIn (codes "include") None (alone "include" None 
     × ((raw : List ℕ) → ¬ (IsPathIn (codes "includeif") (Some raw) (alone "includeif" None "path")))
 others_are_none = (λ is. let e = is.0 in cc, λ raw is. none-some raw (ap (λ s. s.1) (same_Some _ _ is.1.1)))
 
--- the keywords gitdir, gitdir/i, onbranch and hasconfig:remote.*.url, each "followed by a colon and some data"
+-- the keywords gitdir, gitdir/i, onbranch and hasconfig:remote.*.url, each "followed by a colon and some
+-- data"
 pub conditions_are_named : SpellsCondition (codes "gitdir:/path/to/foo/.git") (GitDir (lent "/path/to/foo/.git"))
     × SpellsCondition (codes "gitdir/i:~/to/group/") (GitDirIgnoringCase (lent "~/to/group/"))
     × SpellsCondition (codes "onbranch:foo-branch") (OnBranch (lent "foo-branch"))
@@ -217,7 +222,8 @@ pub others_are_unknown : SpellsCondition (codes "os:linux") Unknown
     × SpellsCondition (codes "GitDir:/a/") Unknown
     × SpellsCondition (codes "gitdir") Unknown
     × SpellsCondition (codes "hasconfig:remote.a.url:b") Unknown
-others_are_unknown = (unknown "os:linux" refl, unknown "GitDir:/a/" refl, unknown "gitdir" refl, unknown "hasconfig:remote.a.url:b" refl)
+others_are_unknown =
+    (unknown "os:linux" refl, unknown "GitDir:/a/" refl, unknown "gitdir" refl, unknown "hasconfig:remote.a.url:b" refl)
 
 -- ---- paths
 
@@ -227,7 +233,8 @@ IsExpanded value path = Expands (Some (codes "/home/user")) (Some (codes "/usr")
 literal : (value : String) → is_front (codes "~") (codes value) ≡ false
     → is_front (codes "%(prefix)/") (codes value) ≡ false
     → IsExpanded value value
-literal value a b = other (lacks (codes "~") (codes value) a) (lacks (codes "%(prefix)/") (codes value) b) refl
+literal value a b =
+    other (lacks (codes "~") (codes value) a) (lacks (codes "%(prefix)/") (codes value) b) refl
 
 -- "subject to tilde expansion", and since Git 2.32 to that of %(prefix)/
 pub paths_are_expanded : IsExpanded "~/foo.inc" "/home/user/foo.inc"
@@ -269,9 +276,10 @@ patterns_are_completed = (refl, refl, refl, refl, refl)
 abbrev pairs : List (String × String) → List (List ℕ × List ℕ)
 pairs rows = map (λ row. (codes row.0, codes row.1)) rows
 
--- gitignore(5): "An asterisk * matches anything except a slash. The character ? matches any one character except /.
--- The range notation, e.g. [a-zA-Z]". "**/foo matches file or directory foo anywhere", "abc/** matches all files
--- inside", and "a/**/b matches a/b, a/x/b, a/x/y/b". fnmatch(3) has `!`, a leading `]`, `\` and classes.
+-- gitignore(5): "An asterisk * matches anything except a slash. The character ? matches any one character
+-- except /. The range notation, e.g. [a-zA-Z]". "**/foo matches file or directory foo anywhere", "abc/**
+-- matches all files inside", and "a/**/b matches a/b, a/x/b, a/x/y/b". fnmatch(3) has `!`, a leading `]`, `\`
+-- and classes.
 abbrev matched : List (String × String)
 matched =
     ("foo", "foo") ∷ ("f?o", "foo") ∷ ("*", "foo") ∷ ("f*", "foo") ∷ ("*o*a*", "foobar") ∷ ("*ab", "aab")
@@ -314,7 +322,8 @@ classes_do_not_match = all_matched false false (pairs in_no_classes) refl
 
 -- ignoring case, for gitdir/i
 abbrev matched_in_any_case : List (String × String)
-matched_in_any_case = ("foo", "FOO") ∷ ("FOO", "foo") ∷ ("[a-c]", "B") ∷ ("[A-C]", "b") ∷ ("[[:upper:]]", "a") ∷ []
+matched_in_any_case =
+    ("foo", "FOO") ∷ ("FOO", "foo") ∷ ("[a-c]", "B") ∷ ("[A-C]", "b") ∷ ("[[:upper:]]", "a") ∷ []
 
 pub patterns_match_in_any_case : AreMatched true true (pairs matched_in_any_case)
 patterns_match_in_any_case = all_matched true true (pairs matched_in_any_case) refl

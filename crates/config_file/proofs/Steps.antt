@@ -1,5 +1,6 @@
 -- What steps take off a walk.
-use Rattle.std.proofs.Common.{arith, ◌≡◌, ◌≤◌, ◌+◌, ◌-◌, ◌++◌, ◌∙◌, ℕ, Bool, true, false, List, [], ◌∷◌, None, Some, Option, Ok}
+use Rattle.std.proofs.Common.{arith, ◌≡◌, ◌≤◌, ◌+◌, ◌-◌, ◌++◌, ◌∙◌, ℕ, Bool, true, false, List, [], ◌∷◌, None}
+use Rattle.std.proofs.Common.{Some, Option, Ok}
 use Rattle.std.proofs.Common.{subst, refl, sym, ap, length, option_map}
 use Rattle.std.specs.Prelude.{reverse}
 use Rattle.std.proofs.lemmas.List.{append_assoc, append-nil, reverse-append, length-reverse, length-append}
@@ -12,10 +13,12 @@ use Rattle.config_file.specs.declared.reader.Entries.{Entries}
 use Rattle.config_file.specs.declared.walk.FilePlace.{FilePlace}
 use Rattle.config_file.specs.declared.walk.Known.{Known}
 use Rattle.config_file.specs.declared.walk.Include.{Include}
-use Rattle.config_file.specs.declared.walk.Include.TheVariants.{NotFollowed, MissingValue, UnknownDirectory, Named}
+use Rattle.config_file.specs.declared.walk.Include.TheVariants.{NotFollowed, MissingValue, UnknownDirectory}
+use Rattle.config_file.specs.declared.walk.Include.TheVariants.{Named}
 use Rattle.config_file.specs.declared.walk.Frame.{Frame}
 use Rattle.config_file.specs.declared.walk.Step.TheVariants as step
-use Rattle.config_file.specs.Walk.{Content, Item, Found, Stops, Walks, WalksText, IncludesFile, IsInclude, in_file}
+use Rattle.config_file.specs.Walk.{Content, Item, Found, Stops, Walks, WalksText, IncludesFile, IsInclude}
+use Rattle.config_file.specs.Walk.{in_file}
 use Rattle.config_file.specs.Walk as w
 use Rattle.config_file.specs.Reading.Walks.{LeftOf, nothing, goes_on, is_cut, Left, Enters, Said, Asks, Takes}
 use Rattle.config_file.proofs.EachReading.{are_read}
@@ -74,7 +77,8 @@ passes : {contents : List ℕ → Content → Type 0} {known : Known} {f next : 
     → ((depth : ℕ) (entries : List Entry) (error : Option FileError) (more : List (List ℕ × Item)) (whole : Bool)
     → length below + depth ≡ 10 → Walks contents known depth f.place entries error more whole
     → Walks contents known depth f.place (entry_of entry ∷ entries) error (front ++ more) whole)
-    → LeftOf contents known (next ∷ below) items whole → LeftOf contents known (f ∷ below) (front ++ items) whole
+    → LeftOf contents known (next ∷ below) items whole
+    → LeftOf contents known (f ∷ below) (front ++ items) whole
 passes {contents = contents} {known = known} {f = f} {below = below} entry front gives same more
     (goes_on {rest = rest} {whole = whole} depth inner end within deep has walks others) =
     subst (λ is. LeftOf contents known (f ∷ below) is whole) (append_assoc front within rest)
@@ -119,7 +123,8 @@ goes_in {f = f} {next = next} {entered = entered} {below = below} entry text giv
     (gives inner end has)
     (w.cut_within less entered.place text inside end1 within is said (reads inside end1 has1) refl walks1)
 
-pub file_begins : (reader : Entries) (text : List ℕ) (left : List Entry) (error : Option FileError) → reader.section ≡ None
+pub file_begins : (reader : Entries) (text : List ℕ) (left : List Entry) (error : Option FileError)
+    → reader.section ≡ None
     → Begins text reader.line reader.rest.now → HasLeft reader left error → IsFile text left error
 file_begins reader text left error fresh begins has = record {
   line = reader.line;
@@ -128,7 +133,8 @@ file_begins reader text left error fresh begins has = record {
   reads = subst (λ s. Reads (option_map section_of s) reader.line reader.rest.now left error) fresh has;
 }
 
-pub enters : (old new : List Frame) (place : FilePlace) (text : List ℕ) (reader : Entries) → reader.section ≡ None
+pub enters : (old new : List Frame) (place : FilePlace) (text : List ℕ) (reader : Entries)
+    → reader.section ≡ None
     → Begins text reader.line reader.rest.now → new ≡ old ++ record { place = place; entries = reader } ∷ []
     → Enters old place text new
 enters old new place text reader fresh begins e = (
@@ -200,7 +206,8 @@ cut_of (f ∷ below) fits =
     is_cut (10 - length below) inner end [] deep has w.cut
 
 -- each walk may be cut
-pub cut_here : (contents : List ℕ → Content → Type 0) (known : Known) (frames : List Frame) → length frames ≤ 11
+pub cut_here : (contents : List ℕ → Content → Type 0) (known : Known) (frames : List Frame)
+    → length frames ≤ 11
     → Left contents known frames [] false
 cut_here contents known frames fits =
     let same : length (reverse frames) ≡ length frames = length-reverse frames in
@@ -220,7 +227,8 @@ passed contents known old new below f next entry front e1 e2 same gives more ite
 asks : (answers : List (List ℕ × Content)) (known : Known) (old new below : List Frame) (f next : Frame)
     (entry : code.Entry) (name : List ℕ) → old ≡ below ++ f ∷ [] → new ≡ below ++ next ∷ []
     → next.place ≡ f.place → GivesEntry f.entries (Some (Ok entry)) next.entries
-    → IncludesFile known f.place (entry_of entry) name → Asks answers known old f.place (entry_of entry) name new
+    → IncludesFile known f.place (entry_of entry) name
+    → Asks answers known old f.place (entry_of entry) name new
 asks answers known old new below f next entry name e1 e2 same gives is = record {
   missing = λ said. passed (Said answers) known old new below f next entry
       (in_file f.place (Found (entry_of entry)) ∷ []) e1 e2 same gives
@@ -259,11 +267,13 @@ pub takes : (answers : List (List ℕ × Content)) (known : Known) (start old ne
 takes answers known start old new below f next entry NotFollowed from e1 e2 same gives is = λ items whole has.
     from _ _ (passed (Said answers) known old new below f next entry (in_file f.place (Found (entry_of entry)) ∷ [])
     e1 e2 same gives (λ depth entries error more whole deep walks. w.plain is walks) items whole has)
-takes answers known start old new below f next entry MissingValue from e1 e2 same gives is = λ items whole has.
+takes answers known start old new below f next entry MissingValue from e1 e2 same gives is =
+    λ items whole has.
     from _ _ (passed (Said answers) known old new below f next entry
     (in_file f.place (Found (entry_of entry)) ∷ in_file f.place (Stops (w.NoValue (entry_of entry))) ∷ [])
     e1 e2 same gives (λ depth entries error more whole deep walks. w.no_value is walks) items whole has)
-takes answers known start old new below f next entry UnknownDirectory from e1 e2 same gives is = λ items whole has.
+takes answers known start old new below f next entry UnknownDirectory from e1 e2 same gives is =
+    λ items whole has.
     from _ _ (passed (Said answers) known old new below f next entry
     (in_file f.place (Found (entry_of entry)) ∷ in_file f.place (Stops (w.Unknown (entry_of entry))) ∷ [])
     e1 e2 same gives (λ depth entries error more whole deep walks. w.unknown is walks) items whole has)

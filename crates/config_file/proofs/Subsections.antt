@@ -1,9 +1,11 @@
 -- The scan of a subsection.
-use Rattle.std.proofs.Common.{◌≡◌, ℕ, true, List, [], ◌∷◌, ◌++◌, refl, sym, ◌∙◌, append_assoc, append-nil, arith, ◌≢◌}
+use Rattle.std.proofs.Common.{◌≡◌, ℕ, true, List, [], ◌∷◌, ◌++◌, refl, sym, ◌∙◌, append_assoc, append-nil}
+use Rattle.std.proofs.Common.{arith, ◌≢◌}
 use Rattle.std.proofs.lemmas.List.{append_cancel_right}
 use Rattle.std.proofs.lemmas.Bool.Decides.{nat_tests}
 use Rattle.config_file.specs.Bytes.{is_text_byte, is_plain_in_quotes, EndsText}
-use Rattle.config_file.specs.Subsection.{ends, escaped, plain, IsSubsection, TakesSubsection, StopsInSubsection, stops, stops_escaped}
+use Rattle.config_file.specs.Subsection.{ends, escaped, plain, IsSubsection, TakesSubsection}
+use Rattle.config_file.specs.Subsection.{StopsInSubsection, stops, stops_escaped}
 use Rattle.config_file.specs.Reading.Scans.{PassedSubsection}
 
 pub passed_none : (text : List ℕ) → PassedSubsection text text
@@ -15,7 +17,8 @@ passed_plain {rest = rest} {b = b} at passed e is_plain =
     record {
       raw = passed.raw ++ b ∷ [];
       joined = passed.joined ∙ (rw e (sym (append_assoc passed.raw (b ∷ []) rest)));
-      extends = λ more spelled h. rw (append_assoc passed.raw (b ∷ []) more) (passed.extends (b ∷ more) (b ∷ spelled) (plain is_plain h));
+      extends =
+          λ more spelled h. rw (append_assoc passed.raw (b ∷ []) more) (passed.extends (b ∷ more) (b ∷ spelled) (plain is_plain h));
     }
 
 pub passed_escaped : {text rest after : List ℕ} {b e : ℕ} (at : List ℕ) → PassedSubsection text at
@@ -24,7 +27,8 @@ passed_escaped {after = after} {b = b} {e = e} at passed p q is_backslash is_tex
     record {
       raw = passed.raw ++ b ∷ e ∷ [];
       joined = passed.joined ∙ (rw (p, q) (sym (append_assoc passed.raw (b ∷ e ∷ []) after)));
-      extends = λ more spelled h. rw (append_assoc passed.raw (b ∷ e ∷ []) more) (passed.extends (b ∷ e ∷ more) (e ∷ spelled) (escaped is_backslash is_text h));
+      extends =
+          λ more spelled h. rw (append_assoc passed.raw (b ∷ e ∷ []) more) (passed.extends (b ∷ e ∷ more) (e ∷ spelled) (escaped is_backslash is_text h));
     }
 
 pub passed_is_subsection : {text at : List ℕ} → (passed : PassedSubsection text at) → IsSubsection passed.raw
@@ -42,7 +46,8 @@ stops_here at passed h = stops (passed_is_subsection passed) passed.joined h
 
 pub stops_after_backslash : {text rest : List ℕ} {b : ℕ} (at : List ℕ) → PassedSubsection text at
     → at ≡ b ∷ rest → b ≡ 92 → EndsText rest → StopsInSubsection text rest
-stops_after_backslash {rest = rest} at passed e is_backslash h = stops_escaped (passed_is_subsection passed) (passed.joined ∙ rw e) is_backslash h
+stops_after_backslash {rest = rest} at passed e is_backslash h =
+    stops_escaped (passed_is_subsection passed) (passed.joined ∙ rw e) is_backslash h
 
 -- a byte other than LF, NUL, a quote and a backslash spells itself
 pub plain_byte : (b : ℕ) → is_text_byte b ≡ true → b ≢ 34 → b ≢ 92 → is_plain_in_quotes b ≡ true

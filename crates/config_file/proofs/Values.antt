@@ -1,5 +1,7 @@
 -- The scan of a value.
-use Rattle.std.proofs.Common.{◌≡◌, ◌≢◌, ℕ, ◌+◌, Bool, true, false, not, List, [], ◌∷◌, ◌++◌, Option, Some, None, is_some, refl, sym, ap, ◌∙◌, subst, append_assoc, append-nil, arith, inl, inr, ◌⊎◌, ◌==◌}
+use Rattle.std.proofs.Common.{◌≡◌, ◌≢◌, ℕ, ◌+◌, Bool, true, false, not, List, [], ◌∷◌, ◌++◌, Option, Some}
+use Rattle.std.proofs.Common.{None, is_some, refl, sym, ap, ◌∙◌, subst, append_assoc, append-nil, arith, inl}
+use Rattle.std.proofs.Common.{inr, ◌⊎◌, ◌==◌}
 use Rattle.std.proofs.lemmas.List.{append_cancel_right}
 use Rattle.std.specs.List.{list_all}
 use Rattle.std.proofs.lemmas.Bool.{cases_Bool, and_parts}
@@ -7,9 +9,14 @@ use Rattle.std.proofs.lemmas.Bool.Decides.{nat_tests}
 use Rattle.config_file.specs.declared.errors.FileFault.TheVariants.{BadLine, Nul}
 use Rattle.config_file.specs.Bytes.{is_plain, is_blank, is_comment_sign, is_comment_byte, EndsText}
 use Rattle.config_file.specs.Header.{fault_at}
-use Rattle.config_file.specs.Value.{Ending, outside, inside, at_backslash, Spells, itself, ends_outside, ends_inside, ends_at_backslash, quote, escaped, continued, continued_after_return, blank, plain, SpellsValue, IsPart, EndsValue, IsNoEscape, line_feeds, kept, escape}
-use Rattle.config_file.specs.Value.{TakesValue, closed, open_end, ValueStops, nul, unclosed, unclosed_open_end, no_escape}
-use Rattle.config_file.specs.Reading.Scans.{PassedValue, OnOneLine, EndsScan, Escapes, letter, line, line_after_return}
+use Rattle.config_file.specs.Value.{Ending, outside, inside, at_backslash, Spells, itself, ends_outside}
+use Rattle.config_file.specs.Value.{ends_inside, ends_at_backslash, quote, escaped, continued}
+use Rattle.config_file.specs.Value.{continued_after_return, blank, plain, SpellsValue, IsPart, EndsValue}
+use Rattle.config_file.specs.Value.{IsNoEscape, line_feeds, kept, escape}
+use Rattle.config_file.specs.Value.{TakesValue, closed, open_end, ValueStops, nul, unclosed}
+use Rattle.config_file.specs.Value.{unclosed_open_end, no_escape}
+use Rattle.config_file.specs.Reading.Scans.{PassedValue, OnOneLine, EndsScan, Escapes, letter, line}
+use Rattle.config_file.specs.Reading.Scans.{line_after_return}
 use Rattle.config_file.specs.Reading.Scans.{goes_on, is_plain_byte}
 use Rattle.config_file.proofs.LineEnds.{line_feeds_append, line_feeds_none, all_more}
 
@@ -27,7 +34,8 @@ passed_more {rest = rest} piece value held passed e spells =
       value = value;
       held = held;
       joined = passed.joined ∙ rw e (sym (append_assoc passed.raw piece rest));
-      extends = λ more spelled o h. rw (append_assoc passed.raw piece more) (passed.extends (piece ++ more) spelled o (spells more spelled o h));
+      extends =
+          λ more spelled o h. rw (append_assoc passed.raw piece more) (passed.extends (piece ++ more) spelled o (spells more spelled o h));
     }
 
 pub passed_quote : {text rest : List ℕ} {q : Bool} {b : ℕ} (at : List ℕ) → PassedValue text q at
@@ -60,7 +68,8 @@ passed_byte {b = b} true at passed e on not_quote not_backslash =
     (λ more spelled o h. plain (plain_quoted b on not_quote not_backslash) h)
 passed_byte {b = b} false at passed e on not_quote not_backslash =
     elim (cases_Bool (is_blank b)) [
-      | inl is ↦ passed_more (b ∷ []) passed.value (passed.held ++ b ∷ []) passed e (λ more spelled o h. blank is h)
+      | inl is ↦
+          passed_more (b ∷ []) passed.value (passed.held ++ b ∷ []) passed e (λ more spelled o h. blank is h)
       | inr other ↦ passed_more (b ∷ []) (kept passed.value passed.held ++ b ∷ []) [] passed e
           (λ more spelled o h. plain (plain_unquoted b on not_quote not_backslash other) h)
     ]
@@ -119,8 +128,10 @@ goes_on_along true b on = grind (arith, nat_tests)
 goes_on_along false b on = grind (arith, nat_tests)
 
 passed_part : {text at : List ℕ} (q : Bool) → (passed : PassedValue text q at) → IsPart q passed.raw
-passed_part true passed = (passed.value, rw (append-nil passed.raw) at (passed.extends [] _ inside ends_inside))
-passed_part false passed = (passed.value, rw (append-nil passed.raw) at (passed.extends [] _ outside ends_outside))
+passed_part true passed =
+    (passed.value, rw (append-nil passed.raw) at (passed.extends [] _ inside ends_inside))
+passed_part false passed =
+    (passed.value, rw (append-nil passed.raw) at (passed.extends [] _ outside ends_outside))
 
 -- the bytes that `before` returns are those that the scan has passed
 pub part : {text at : List ℕ} (q : Bool) (raw : List ℕ) → PassedValue text q at → text ≡ raw ++ at
@@ -136,18 +147,21 @@ ends_text (b ∷ rest) h = h
 pub ends_in_quotes : {text at : List ℕ} (q : Bool) (raw : List ℕ) → PassedValue text q at → EndsScan q at
     → q ≡ true → text ≡ raw ++ at
     → ValueStops text (line_feeds raw) (fault_at at)
-ends_in_quotes {at = at} true raw passed h e joined = unclosed raw at joined (part true raw passed joined) (ends_text at h)
+ends_in_quotes {at = at} true raw passed h e joined =
+    unclosed raw at joined (part true raw passed joined) (ends_text at h)
 ends_in_quotes false raw passed h e joined = cc
 
 nul_byte : (b : ℕ) (rest : List ℕ) → fault_at (b ∷ rest) ≡ Nul → b ≡ 0
-nul_byte b rest e = elim (cases_Bool (b == 0)) [ inl is ↦ grind (arith, nat_tests) | inr other ↦ let no : BadLine ≡ Nul = rw other at e in cc ]
+nul_byte b rest e =
+    elim (cases_Bool (b == 0)) [ inl is ↦ grind (arith, nat_tests) | inr other ↦ let no : BadLine ≡ Nul = rw other at e in cc ]
 
 pub ends_at_nul : {text : List ℕ} (q : Bool) (at raw : List ℕ) → PassedValue text q at → q ≡ false
     → fault_at at ≡ Nul → text ≡ raw ++ at
     → ValueStops text (line_feeds raw) Nul
 ends_at_nul true at raw passed off e joined = cc
 ends_at_nul false [] raw passed off e joined = cc
-ends_at_nul false (b ∷ rest) raw passed off e joined = nul raw rest joined (part false raw passed joined) (nul_byte b rest e)
+ends_at_nul false (b ∷ rest) raw passed off e joined =
+    nul raw rest joined (part false raw passed joined) (nul_byte b rest e)
 
 not_nul : (b : ℕ) (rest : List ℕ) → fault_at (b ∷ rest) ≡ BadLine → b ≢ 0
 not_nul b rest e is = let no : Nul ≡ BadLine = rw is at e in cc
@@ -171,12 +185,14 @@ ends_closed false at raw passed h off e joined =
 pub stops_after_backslash : {text rest : List ℕ} (q : Bool) (at raw : List ℕ) → PassedValue text q at
     → at ≡ 92 ∷ rest → IsNoEscape rest → text ≡ raw ++ at
     → ValueStops text (line_feeds raw) (fault_at rest)
-stops_after_backslash {rest = rest} q at raw passed e is_none joined = no_escape q raw rest (joined ∙ ap (◌++◌ raw) e) (part q raw passed joined) refl is_none
+stops_after_backslash {rest = rest} q at raw passed e is_none joined =
+    no_escape q raw rest (joined ∙ ap (◌++◌ raw) e) (part q raw passed joined) refl is_none
 
 pub stops_at_open_end : {text rest : List ℕ} (q : Bool) (at raw : List ℕ) → PassedValue text q at → q ≡ true
     → at ≡ 92 ∷ rest → rest ≡ [] → text ≡ raw ++ at
     → ValueStops text (line_feeds raw + 1) BadLine
-stops_at_open_end true at raw passed on e none joined = unclosed_open_end raw (joined ∙ ap (◌++◌ raw) (e ∙ ap (◌∷◌ 92) none)) (part true raw passed joined) refl
+stops_at_open_end true at raw passed on e none joined =
+    unclosed_open_end raw (joined ∙ ap (◌++◌ raw) (e ∙ ap (◌∷◌ 92) none)) (part true raw passed joined) refl
 stops_at_open_end false at raw passed on e none joined = cc
 
 pub ends_open_here : {text rest : List ℕ} (q : Bool) (at : List ℕ) → PassedValue text q at → q ≡ false
@@ -184,7 +200,8 @@ pub ends_open_here : {text rest : List ℕ} (q : Bool) (at : List ℕ) → Passe
     → TakesValue text text (line_feeds text + 1) rest
 ends_open_here true at passed off e none = cc
 ends_open_here {text = text} false at passed off e none =
-    let whole : passed.raw ++ 92 ∷ [] ≡ text = sym (passed.joined ∙ ap (◌++◌ passed.raw) (e ∙ ap (◌∷◌ 92) none)) in
+    let whole : passed.raw ++ 92 ∷ [] ≡ text =
+    sym (passed.joined ∙ ap (◌++◌ passed.raw) (e ∙ ap (◌∷◌ 92) none)) in
     rw none (open_end (subst (λ x. SpellsValue x (kept passed.value passed.held) at_backslash) whole (passed.extends (92 ∷ []) _ at_backslash (ends_at_backslash refl))))
 
 some_from : (o : Option ℕ) → is_some o ≡ true → (c : ℕ) × (o ≡ Some c)

@@ -1,5 +1,7 @@
 -- The settings of a command: what the variables of Git say, and the entries that have these settings.
-use Rattle.std.specs.Prelude.{◌≡◌, ◌≢◌, ℕ, ◌-◌, ◌^◌, ◌<◌, ◌≤◌, Bool, true, false, not, ◌&&◌, ◌||◌, ◌==◌, ◌⊎◌, nat_lt, List, [], ◌∷◌, ◌++◌, Option, Some, None, Result, Ok, Err, if◌then◌else◌, codes, ⊤}
+use Rattle.std.specs.Prelude.{◌≡◌, ◌≢◌, ℕ, ◌-◌, ◌^◌, ◌<◌, ◌≤◌, Bool, true, false, not, ◌&&◌, ◌||◌, ◌==◌, ◌⊎◌}
+use Rattle.std.specs.Prelude.{nat_lt, List, [], ◌∷◌, ◌++◌, Option, Some, None, Result, Ok, Err, if◌then◌else◌}
+use Rattle.std.specs.Prelude.{codes, ⊤}
 use Rattle.std.specs.List.{list_any, AllZip}
 use Rattle.std.specs.Fmt.{decimal}
 use Rattle.std.specs.Str.Parse.{IsNumeral, digits_value}
@@ -27,7 +29,8 @@ is_white b = is_blank b || b == line_feed
 
 -- whether a quoted text goes on after a quote: by a backslash, `'` or `!`, and a quote
 abbrev pub goes_on : List ℕ → Bool
-goes_on (a ∷ b ∷ c ∷ rest) = (a == backslash && (b == single_quote || b == exclamation_mark)) && c == single_quote
+goes_on (a ∷ b ∷ c ∷ rest) =
+    (a == backslash && (b == single_quote || b == exclamation_mark)) && c == single_quote
 goes_on _ = false
 
 -- after its opening quote, the text has this quoted text, the closing quote, and then this rest
@@ -108,8 +111,8 @@ pub record IsSetting (setting : KeyValue) (entry : Entry) : Type 0 where
   pub is_key : IsKey setting.0 key
   pub is_entry : IsEntry key.section key.subsection key.name setting.1 entry.line entry
 
--- If a line can be appended to a configuration file, these bytes add an entry to it for each of these settings, in
--- their order. After that, a line can be appended again.
+-- If a line can be appended to a configuration file, these bytes add an entry to it for each of these
+-- settings, in their order. After that, a line can be appended again.
 abbrev pub AddsSettings : List ℕ → List KeyValue → Type 0
 AddsSettings bytes settings =
     (text : List ℕ) (entries : List Entry) → IsFile text entries None → EndsLine text

@@ -1,9 +1,11 @@
 -- Configuration files: the entries of a text, and the error if the text is refused.
-use Rattle.std.specs.Prelude.{◌≡◌, ℕ, ◌+◌, Bool, true, false, List, [], ◌∷◌, Option, Some, None, if◌then◌else◌, ◌==◌, ◌&&◌, ◌||◌, ◌⊎◌}
+use Rattle.std.specs.Prelude.{◌≡◌, ℕ, ◌+◌, Bool, true, false, List, [], ◌∷◌, Option, Some, None}
+use Rattle.std.specs.Prelude.{if◌then◌else◌, ◌==◌, ◌&&◌, ◌||◌, ◌⊎◌}
 use Rattle.std.specs.Char.{is_ascii_alphabetic}
 use Rattle.config_file.specs.declared.errors.FileFault.{FileFault}
 use Rattle.config_file.specs.declared.errors.FileError.{FileError}
-use Rattle.config_file.specs.Bytes.{line_feed, left_bracket, equals_sign, is_key_byte, is_space, is_blank, is_comment_sign, is_comment_byte, IsAtLineEnd}
+use Rattle.config_file.specs.Bytes.{line_feed, left_bracket, equals_sign, is_key_byte, is_space, is_blank}
+use Rattle.config_file.specs.Bytes.{is_comment_sign, is_comment_byte, IsAtLineEnd}
 use Rattle.config_file.specs.Runs.{Run}
 use Rattle.config_file.specs.Header.{Section, Header, HeaderStops, fault_at, BeginsWithout}
 use Rattle.config_file.specs.Value.{TakesValue, ValueStops}

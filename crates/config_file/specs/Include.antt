@@ -1,11 +1,13 @@
 -- The entries that include a file, and the conditions on which they are followed.
-use Rattle.std.specs.Prelude.{◌≡◌, ℕ, Bool, true, false, if◌then◌else◌, ◌==◌, ◌&&◌, List, ◌++◌, ◌∷◌, codes, nat_eq}
+use Rattle.std.specs.Prelude.{◌≡◌, ℕ, Bool, true, false, if◌then◌else◌, ◌==◌, ◌&&◌, List, ◌++◌, ◌∷◌, codes}
+use Rattle.std.specs.Prelude.{nat_eq}
 use Rattle.std.specs.Prelude.{Option, None, Some, ◌⊎◌, ⊤, map, option_copied, option_map}
 use Rattle.std.specs.Char.{to_ascii_lowercase}
 use Rattle.std.specs.List.{Any, ends_with, starts_with}
 use Rattle.config_text.specs.Bytes.{LacksFront}
 use Rattle.config_file.specs.declared.include.Condition.{Condition}
-use Rattle.config_file.specs.declared.include.Condition.TheVariants.{Always, GitDir, GitDirIgnoringCase, OnBranch, HasRemoteUrl, Unknown}
+use Rattle.config_file.specs.declared.include.Condition.TheVariants.{Always, GitDir, GitDirIgnoringCase}
+use Rattle.config_file.specs.declared.include.Condition.TheVariants.{OnBranch, HasRemoteUrl, Unknown}
 use Rattle.config_file.specs.declared.include.Repository.{Repository}
 use Rattle.config_file.specs.declared.include.Includes.{Includes}
 use Rattle.config_file.specs.declared.include.Includes.TheVariants.{Skipped, AsGit, All}
@@ -24,7 +26,8 @@ SpellsCondition text (GitDir pattern) = text ≡ codes "gitdir:" ++ pattern.now
 SpellsCondition text (GitDirIgnoringCase pattern) = text ≡ codes "gitdir/i:" ++ pattern.now
 SpellsCondition text (OnBranch pattern) = text ≡ codes "onbranch:" ++ pattern.now
 SpellsCondition text (HasRemoteUrl pattern) = text ≡ codes "hasconfig:remote.*.url:" ++ pattern.now
-SpellsCondition text Unknown = LacksFront (codes "gitdir:") text × LacksFront (codes "gitdir/i:") text × LacksFront (codes "onbranch:") text
+SpellsCondition text Unknown =
+    LacksFront (codes "gitdir:") text × LacksFront (codes "gitdir/i:") text × LacksFront (codes "onbranch:") text
     × LacksFront (codes "hasconfig:remote.*.url:") text
 
 -- the same condition; patterns are compared byte by byte
@@ -61,7 +64,8 @@ MatchesBelow ignores_case dir pattern name =
 -- A pattern, in a file of this directory, matches the name of a git directory. The `.` of `./` at its start
 -- is this directory, whose bytes match only themselves, or their other case if case is ignored.
 pub data MatchesDir (ignores_case : Bool) (dir pattern name : List ℕ) : Type 0 where
-  near : (rest : List ℕ) → pattern ≡ codes "./" ++ rest → MatchesBelow ignores_case dir (below (codes "/" ++ rest)) name
+  near : (rest : List ℕ) → pattern ≡ codes "./" ++ rest
+      → MatchesBelow ignores_case dir (below (codes "/" ++ rest)) name
       → MatchesDir ignores_case dir pattern name
   other : LacksFront (codes "./") pattern → MatchesText ignores_case (below (anywhere pattern)) name
       → MatchesDir ignores_case dir pattern name
@@ -90,7 +94,8 @@ Holds (AsGit repository urls) dir Always = ⊤
 Holds (AsGit repository urls) dir (HasRemoteUrl pattern) = HasUrl pattern.now urls
 Holds (AsGit (Some r) urls) dir (GitDir pattern) = IsGitDir false dir pattern.now r
 Holds (AsGit (Some r) urls) dir (GitDirIgnoringCase pattern) = IsGitDir true dir pattern.now r
-Holds (AsGit (Some r) urls) dir (OnBranch pattern) = IsOnBranch pattern.now (option_map (λ branch. branch.now) r.branch)
+Holds (AsGit (Some r) urls) dir (OnBranch pattern) =
+    IsOnBranch pattern.now (option_map (λ branch. branch.now) r.branch)
 Holds _ _ _ = ⊥
 
 -- the entry is the URL of a remote: it has the key `remote.NAME.url`, whatever the name
@@ -106,8 +111,10 @@ IsPathIn name subsection entry =
 -- Whether an entry of a file in this directory includes a file, and is followed: the entry `include.path`, or
 -- an entry `includeIf.TEXT.path` where the condition that TEXT names holds.
 pub data EntryFollows (includes : Includes) (dir : List ℕ) (entry : Entry) : Bool → Type 0 where
-  always : IsPathIn (codes "include") None entry → Holds includes dir Always → EntryFollows includes dir entry true
-  never : IsPathIn (codes "include") None entry → ¬ (Holds includes dir Always) → EntryFollows includes dir entry false
+  always : IsPathIn (codes "include") None entry → Holds includes dir Always
+      → EntryFollows includes dir entry true
+  never : IsPathIn (codes "include") None entry → ¬ (Holds includes dir Always)
+      → EntryFollows includes dir entry false
   holds : (raw : List ℕ) → IsPathIn (codes "includeif") (Some raw) entry
       → ((text : List ℕ) → SpellsSubsection raw text
       → (condition : Condition) × SpellsCondition text condition × Holds includes dir condition)
@@ -117,4 +124,5 @@ pub data EntryFollows (includes : Includes) (dir : List ℕ) (entry : Entry) : B
       → (condition : Condition) × SpellsCondition text condition × ¬ (Holds includes dir condition))
       → EntryFollows includes dir entry false
   unrelated : ¬ (IsPathIn (codes "include") None entry)
-      → ((raw : List ℕ) → ¬ (IsPathIn (codes "includeif") (Some raw) entry)) → EntryFollows includes dir entry false
+      → ((raw : List ℕ) → ¬ (IsPathIn (codes "includeif") (Some raw) entry))
+      → EntryFollows includes dir entry false

@@ -1,5 +1,6 @@
 -- Patterns of paths, as Git matches them.
-use Rattle.std.specs.Prelude.{◌≡◌, ◌≢◌, ℕ, Bool, true, false, not, if◌then◌else◌, ◌||◌, ◌&&◌, ◌==◌, List, [], ◌∷◌}
+use Rattle.std.specs.Prelude.{◌≡◌, ◌≢◌, ℕ, Bool, true, false, not, if◌then◌else◌, ◌||◌, ◌&&◌, ◌==◌, List, []}
+use Rattle.std.specs.Prelude.{◌∷◌}
 use Rattle.config_file.specs.Bytes.{left_bracket, backslash}
 use Rattle.config_file.specs.Runs.{Run}
 use Rattle.config_file.specs.Set.{slash, folded, StandsForByte}
@@ -24,7 +25,8 @@ stands_for ignores_case c b =
 -- case letter after a backslash matches nothing, since only the byte of the text is put in lower case.
 pub data Item (ignores_case : Bool) : List ℕ → ℕ → List ℕ → Type 0 where
   byte : {c b : ℕ} {rest : List ℕ} → stands_for ignores_case c b ≡ true → Item ignores_case (c ∷ rest) b rest
-  escaped : {c e b : ℕ} {rest : List ℕ} → c ≡ backslash → e ≡ folded ignores_case b → Item ignores_case (c ∷ e ∷ rest) b rest
+  escaped : {c e b : ℕ} {rest : List ℕ} → c ≡ backslash → e ≡ folded ignores_case b
+      → Item ignores_case (c ∷ e ∷ rest) b rest
   set : {c b : ℕ} {text rest : List ℕ} → c ≡ left_bracket → StandsForByte ignores_case text b rest
       → Item ignores_case (c ∷ text) b rest
 

@@ -1,7 +1,10 @@
 -- Sets of bytes in patterns, after their `[`.
-use Rattle.std.specs.Prelude.{◌≡◌, ◌≢◌, ℕ, Bool, true, false, not, if◌then◌else◌, ◌||◌, ◌&&◌, ◌==◌, List, [], ◌∷◌, ◌++◌, codes}
-use Rattle.std.specs.Char.{to_ascii_lowercase, to_ascii_uppercase, is_ascii_alphanumeric, is_ascii_alphabetic, is_ascii_digit}
-use Rattle.std.specs.Char.{is_ascii_control, is_ascii_graphic, is_ascii_punctuation, is_ascii_hexdigit, is_ascii_lowercase, is_ascii_uppercase}
+use Rattle.std.specs.Prelude.{◌≡◌, ◌≢◌, ℕ, Bool, true, false, not, if◌then◌else◌, ◌||◌, ◌&&◌, ◌==◌, List, []}
+use Rattle.std.specs.Prelude.{◌∷◌, ◌++◌, codes}
+use Rattle.std.specs.Char.{to_ascii_lowercase, to_ascii_uppercase, is_ascii_alphanumeric, is_ascii_alphabetic}
+use Rattle.std.specs.Char.{is_ascii_digit}
+use Rattle.std.specs.Char.{is_ascii_control, is_ascii_graphic, is_ascii_punctuation, is_ascii_hexdigit}
+use Rattle.std.specs.Char.{is_ascii_lowercase, is_ascii_uppercase}
 use Rattle.std.specs.Int.{is_in_range}
 use Rattle.config_file.specs.Bytes.{space, line_feed, dash, right_bracket, backslash, is_blank, is_space}
 use Rattle.config_file.specs.Runs.{Run}
@@ -22,22 +25,25 @@ abbrev pub opened : List ℕ → Bool × List ℕ
 opened [] = (false, [])
 opened (c ∷ rest) = if is_negation c then (true, rest) else (false, c ∷ rest)
 
--- A byte of a set: itself, or any byte after a backslash. A `]` is a byte of the set only if it is the first one.
+-- A byte of a set: itself, or any byte after a backslash. A `]` is a byte of the set only if it is the first
+-- one.
 pub data SetByte (starts : Bool) : List ℕ → ℕ → List ℕ → Type 0 where
-  bare : {c : ℕ} {rest : List ℕ} → c ≢ backslash → (c ≡ right_bracket → starts ≡ true) → SetByte starts (c ∷ rest) c rest
+  bare : {c : ℕ} {rest : List ℕ} → c ≢ backslash → (c ≡ right_bracket → starts ≡ true)
+      → SetByte starts (c ∷ rest) c rest
   after_backslash : {c e : ℕ} {rest : List ℕ} → c ≡ backslash → SetByte starts (c ∷ e ∷ rest) e rest
 
 -- after its first byte, a range has `-` and its last byte, and then this rest
 pub data RangeEnd : List ℕ → ℕ → List ℕ → Type 0 where
-  to : {c last : ℕ} {text rest : List ℕ} → c ≡ dash → SetByte false text last rest → RangeEnd (c ∷ text) last rest
+  to : {c last : ℕ} {text rest : List ℕ} → c ≡ dash → SetByte false text last rest
+      → RangeEnd (c ∷ text) last rest
 
 -- whether a range has the byte, in either case if case is ignored
 abbrev pub range_has : Bool → ℕ → ℕ → ℕ → Bool
 range_has ignores_case first last b =
     is_in_range first last (folded ignores_case b) || (ignores_case && is_in_range first last (to_ascii_uppercase b))
 
--- The POSIX class of this name, and whether it has the byte. White space is Git's: it has no vertical tab and no form
--- feed. If case is ignored, `lower` and `upper` have every letter.
+-- The POSIX class of this name, and whether it has the byte. White space is Git's: it has no vertical tab and
+-- no form feed. If case is ignored, `lower` and `upper` have every letter.
 pub data Class (ignores_case : Bool) (b : ℕ) (name : List ℕ) (has : Bool) : Type 0 where
   alnum : name ≡ codes "alnum" → has ≡ is_ascii_alphanumeric b → Class ignores_case b name has
   alpha : name ≡ codes "alpha" → has ≡ is_ascii_alphabetic b → Class ignores_case b name has
@@ -71,13 +77,16 @@ IsNoClass text = (name rest : List ℕ) → ¬ (IsClass text name rest)
 abbrev pub IsNoRange : List ℕ → Type 0
 IsNoRange text = (last : ℕ) (rest : List ℕ) → ¬ (RangeEnd text last rest)
 
--- Whether the first member of a set has the byte, and the rest. It is a class, a byte or a range; the flag says whether
--- it is at the start of the set. A range has its first byte, even if its last byte is a lower one.
+-- Whether the first member of a set has the byte, and the rest. It is a class, a byte or a range; the flag
+-- says whether it is at the start of the set. A range has its first byte, even if its last byte is a lower
+-- one.
 pub data Member (ignores_case : Bool) (b : ℕ) (starts : Bool) (text : List ℕ) (has : Bool) (rest : List ℕ) : Type 0 where
-  class : (name : List ℕ) → IsClass text name rest → Class ignores_case b name has → Member ignores_case b starts text has rest
+  class : (name : List ℕ) → IsClass text name rest → Class ignores_case b name has
+      → Member ignores_case b starts text has rest
   single : (c : ℕ) → IsNoClass text → SetByte starts text c rest → IsNoRange rest
       → has ≡ (c == folded ignores_case b) → Member ignores_case b starts text has rest
-  range : (first last : ℕ) (after : List ℕ) → IsNoClass text → SetByte starts text first after → RangeEnd after last rest
+  range : (first last : ℕ) (after : List ℕ) → IsNoClass text → SetByte starts text first after
+      → RangeEnd after last rest
       → has ≡ (first == folded ignores_case b || range_has ignores_case first last b)
       → Member ignores_case b starts text has rest
 

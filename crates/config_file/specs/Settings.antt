@@ -77,7 +77,8 @@ include_fault_text fault.TooDeep = codes "files include each other too deep"
 -- `FILE:LINE: reason`, or `no memory`
 abbrev pub add_error_shown : AddError → List ℕ
 add_error_shown (error.Line file at) = name_shown file.now ++ codes ":" ++ error_shown at
-add_error_shown (error.Include file line fault) = shown_at file.now line (codes ": " ++ include_fault_text fault)
+add_error_shown (error.Include file line fault) =
+    shown_at file.now line (codes ": " ++ include_fault_text fault)
 add_error_shown (error.Memory _) = codes "no memory"
 
 -- the text of the value, if there is one
@@ -102,7 +103,8 @@ get_error_shown (get.NoWord setting) = refused_shown setting.now (codes "not one
 -- the value is the text that these bytes spell, and a key alone has no value
 abbrev pub IsValueOf : Option (List ℕ) → Option (List ℕ) → Type 0
 IsValueOf None value = value ≡ None
-IsValueOf (Some raw) value = (text : List ℕ) (ending : Ending) → SpellsValue raw text ending → value ≡ Some text
+IsValueOf (Some raw) value =
+    (text : List ℕ) (ending : Ending) → SpellsValue raw text ending → value ≡ Some text
 
 -- the setting of an entry of the file of this name
 pub record IsSettingOf (found : List ℕ × Entry) (setting : Setting) : Type 0 where
@@ -122,7 +124,8 @@ AddsInScope old new = (new.scope ≡ old.scope)
 
 -- the entries of the text begin with these
 abbrev pub HasFirstEntries : List ℕ → List Entry → Type 0
-HasFirstEntries text entries = (rest : List Entry) × (error : Option FileError) × IsFile text (entries ++ rest) error
+HasFirstEntries text entries =
+    (rest : List Entry) × (error : Option FileError) × IsFile text (entries ++ rest) error
 
 -- what adding the entries of a file gives: all of them, those before the first line that Git cannot read, or
 -- those before memory is refused
@@ -192,8 +195,8 @@ TellsStop _ _ _ = ⊥
 abbrev pub found_item : List ℕ × Entry → List ℕ × Item
 found_item found = (found.0, Found found.1)
 
--- what adding the entries of a walk gives: all of them, those up to where Git stops, or those before memory is
--- refused
+-- what adding the entries of a walk gives: all of them, those up to where Git stops, or those before memory
+-- is refused
 abbrev pub AddsWalk : (List ℕ → Content → Type 0) → Known → FilePlace → List ℕ → List Setting → List Setting
     → Result (Unit {0}) AddError → Type 0
 AddsWalk contents known place text old new (Ok _) = (found : List (List ℕ × Entry)) × AddsEach found old new
@@ -273,8 +276,8 @@ pub record HasSubsection (section : List ℕ) (setting : Setting) (subsection : 
 abbrev pub LacksSubsection : List ℕ → Setting → Type 0
 LacksSubsection section setting = (subsection : List ℕ) → ¬ (HasSubsection section setting subsection)
 
--- These are the subsections of a section, each once, in the order in which they come first: the one of the first
--- setting, and then those of the later settings without it.
+-- These are the subsections of a section, each once, in the order in which they come first: the one of the
+-- first setting, and then those of the later settings without it.
 pub data AreSubsections (section : List ℕ) : List Setting → List (List ℕ) → Type 0 where
   no_settings : AreSubsections section [] []
   lacks : {setting : Setting} {settings : List Setting} {found : List (List ℕ)}
@@ -340,7 +343,8 @@ abbrev pub path_bytes : Setting → List ℕ
 path_bytes setting = option_map_or (λ text. text) (value_text setting) []
 
 -- what the path table gives for the value of a setting, after its mark is cut off
-abbrev pub IsPathOfSetting : paths.Known → Setting → Result (Bool × Parts) (RefusedSetting path_errors.Error) → Type 0
+abbrev pub IsPathOfSetting : paths.Known → Setting → Result (Bool × Parts) (RefusedSetting path_errors.Error)
+    → Type 0
 IsPathOfSetting known setting (Ok (is_optional, parts)) =
     (path : List ℕ) × Marked (path_bytes setting) is_optional path × PathTable known path (parts_result (Ok parts))
 IsPathOfSetting known setting (Err refused) =

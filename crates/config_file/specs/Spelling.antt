@@ -21,7 +21,8 @@ SpellsOptional Spells None (Some text) = ⊥
 
 -- the section has this name, and its subsection spells this text, or both subsections are absent
 abbrev pub SpellsSection : Section → List ℕ → Option (List ℕ) → Type 0
-SpellsSection section name subsection = (section.0 ≡ name) × SpellsOptional SpellsSubsection section.1 subsection
+SpellsSection section name subsection =
+    (section.0 ≡ name) × SpellsOptional SpellsSubsection section.1 subsection
 
 -- these bytes are a header of this name and this subsection, whatever follows them
 abbrev pub IsHeader : List ℕ → List ℕ → Option (List ℕ) → Type 0

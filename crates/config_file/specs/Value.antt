@@ -1,10 +1,12 @@
 -- The value of an entry: the bytes from its `=` to the end of the line or to a comment.
-use Rattle.std.specs.Prelude.{◌≡◌, ◌≢◌, ℕ, ◌+◌, Bool, true, false, not, if◌then◌else◌, ◌||◌, ◌==◌, List, [], ◌∷◌, ◌++◌, Option, Some, None, ⊤, ◌⊎◌}
+use Rattle.std.specs.Prelude.{◌≡◌, ◌≢◌, ℕ, ◌+◌, Bool, true, false, not, if◌then◌else◌, ◌||◌, ◌==◌, List, []}
+use Rattle.std.specs.Prelude.{◌∷◌, ◌++◌, Option, Some, None, ⊤, ◌⊎◌}
 use Rattle.std.specs.Prelude.{count_by}
 use Rattle.config_file.specs.declared.errors.FileFault.{FileFault}
 use Rattle.config_file.specs.declared.errors.FileFault.TheVariants.{BadLine, Nul}
 use Rattle.config_file.specs.Header.{fault_at}
-use Rattle.config_file.specs.Bytes.{backspace, tab, line_feed, carriage_return, space, double_quote, backslash, is_blank, is_plain, is_comment_sign, EndsText}
+use Rattle.config_file.specs.Bytes.{backspace, tab, line_feed, carriage_return, space, double_quote}
+use Rattle.config_file.specs.Bytes.{backslash, is_blank, is_plain, is_comment_sign, EndsText}
 
 -- the byte that a backslash and this byte spell, if they spell one
 abbrev pub escape : ℕ → Option ℕ
@@ -26,8 +28,9 @@ pub data Ending : Type 0 where
   inside : Ending
   at_backslash : Ending
 
--- After this value so far and these held blanks, in quotes or not, these bytes complete it to this text, and have this
--- ending. A blank outside quotes is held back, and counts as what it is read as only if a byte of the value follows.
+-- After this value so far and these held blanks, in quotes or not, these bytes complete it to this text, and
+-- have this ending. A blank outside quotes is held back, and counts as what it is read as only if a byte of
+-- the value follows.
 pub data Spells (read_as : ℕ → ℕ) : Bool → List ℕ → List ℕ → List ℕ → List ℕ → Ending → Type 0 where
   ends_outside : {value held : List ℕ} → Spells read_as false value held [] value outside
   ends_inside : {value held : List ℕ} → Spells read_as true value held [] value inside
@@ -38,7 +41,8 @@ pub data Spells (read_as : ℕ → ℕ) : Bool → List ℕ → List ℕ → Lis
       → b ≡ double_quote → Spells read_as (not quoted) (kept value held) [] raw text ending
       → Spells read_as quoted value held (b ∷ raw) text ending
   escaped : {quoted : Bool} {b e c : ℕ} {value held raw text : List ℕ} {ending : Ending}
-      → b ≡ backslash → escape e ≡ Some c → Spells read_as quoted (kept value held ++ c ∷ []) [] raw text ending
+      → b ≡ backslash → escape e ≡ Some c
+      → Spells read_as quoted (kept value held ++ c ∷ []) [] raw text ending
       → Spells read_as quoted value held (b ∷ e ∷ raw) text ending
   continued : {quoted : Bool} {b e : ℕ} {value held raw text : List ℕ} {ending : Ending}
       → b ≡ backslash → e ≡ line_feed → Spells read_as quoted (kept value held) [] raw text ending

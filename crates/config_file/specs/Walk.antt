@@ -1,5 +1,6 @@
 -- The walk over the entries of a file and of the files that it includes, in Git's order.
-use Rattle.std.specs.Prelude.{◌≡◌, ℕ, ◌+◌, Bool, true, false, List, [], ◌∷◌, ◌++◌, Option, None, Some, option_copied}
+use Rattle.std.specs.Prelude.{◌≡◌, ℕ, ◌+◌, Bool, true, false, List, [], ◌∷◌, ◌++◌, Option, None, Some}
+use Rattle.std.specs.Prelude.{option_copied}
 use Rattle.config_file.specs.File.{Entry, IsFile}
 use Rattle.config_file.specs.Value.{Ending, SpellsValue}
 use Rattle.config_file.specs.Include.{EntryFollows}
@@ -8,7 +9,8 @@ use Rattle.config_file.specs.declared.path.Directories.{Directories}
 use Rattle.config_file.specs.declared.walk.FilePlace.{FilePlace}
 use Rattle.config_file.specs.declared.walk.Known.{Known}
 use Rattle.config_file.specs.declared.walk.Include.{Include}
-use Rattle.config_file.specs.declared.walk.Include.TheVariants.{NotFollowed, MissingValue, UnknownDirectory, Named}
+use Rattle.config_file.specs.declared.walk.Include.TheVariants.{NotFollowed, MissingValue, UnknownDirectory}
+use Rattle.config_file.specs.declared.walk.Include.TheVariants.{Named}
 use Rattle.config_file.specs.declared.errors.FileError.{FileError}
 
 -- the name of the file that a value includes, in the file of this name
@@ -69,8 +71,8 @@ abbrev pub in_file : FilePlace → Item → List ℕ × Item
 in_file place item = (place.name.now, item)
 
 -- At most this many includes deep, a walk of these entries of a file, up to the end of its text or to this
--- error, comes to these items: to each entry, and then to the items of the file that it includes. It may be cut
--- anywhere unless the flag says that it is whole. `contents` says what the file of a name holds.
+-- error, comes to these items: to each entry, and then to the items of the file that it includes. It may be
+-- cut anywhere unless the flag says that it is whole. `contents` says what the file of a name holds.
 pub data Walks (contents : List ℕ → Content → Type 0) (known : Known)
     : ℕ → FilePlace → List Entry → Option FileError → List (List ℕ × Item) → Bool → Type 0 where
   cut : {depth : ℕ} {place : FilePlace} {entries : List Entry} {error : Option FileError}
@@ -108,7 +110,8 @@ pub data Walks (contents : List ℕ → Content → Type 0) (known : Known)
       (in_file place (Found entry) ∷ in_file place (Stops (NoValue entry)) ∷ items) whole
   unknown : {depth : ℕ} {place : FilePlace} {entry : Entry} {entries : List Entry} {error : Option FileError}
       {items : List (List ℕ × Item)} {whole : Bool}
-      → IsInclude known place entry UnknownDirectory → Walks contents known depth place entries error items whole
+      → IsInclude known place entry UnknownDirectory
+      → Walks contents known depth place entries error items whole
       → Walks contents known depth place (entry ∷ entries) error
       (in_file place (Found entry) ∷ in_file place (Stops (Unknown entry)) ∷ items) whole
   not_read : {depth : ℕ} {place : FilePlace} {entry : Entry} {entries : List Entry} {error : Option FileError}
@@ -125,6 +128,7 @@ pub data Walks (contents : List ℕ → Content → Type 0) (known : Known)
       (in_file place (Found entry) ∷ in_file place (Stops (TooDeep entry)) ∷ items) whole
 
 -- what a walk of the text of the file at this place comes to; it follows includes ten deep, as Git does
-abbrev pub WalksText : (List ℕ → Content → Type 0) → Known → FilePlace → List ℕ → List (List ℕ × Item) → Bool → Type 0
+abbrev pub WalksText : (List ℕ → Content → Type 0) → Known → FilePlace → List ℕ → List (List ℕ × Item) → Bool
+    → Type 0
 WalksText contents known place text items whole = (entries : List Entry) × (error : Option FileError)
     × IsFile text entries error × Walks contents known 10 place entries error items whole

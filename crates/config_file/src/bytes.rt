@@ -1,7 +1,8 @@
-//! Bytes and runs of them, for the crates that read or change a text of which an [`Entry`](crate::Entry) is a part.
+//! Bytes and runs of them, for the crates that read or change a text of which an [`Entry`](crate::Entry) is a
+//! part.
 ghost use Rattle.std.specs.Prelude.{◌≡◌, ℕ, ◌<◌, ◌≤◌, ◌↔◌, List, [], ◌∷◌, ◌++◌, length, MatchOption};
-ghost use Rattle.std.specs.Prelude.{IsTrue, take, drop};
-ghost use Rattle.std.specs.Prelude.{count_by, ◌==◌};
+ghost use Rattle.std.specs.Prelude.{IsTrue};
+ghost use Rattle.std.specs.Prelude.{◌==◌};
 ghost use Rattle.std.specs.List.{prefix_len};
 ghost use Rattle.config_file.specs.Bytes as spec;
 ghost use Rattle.config_file.specs.Bytes.{IsAtLineEnd};
@@ -77,7 +78,8 @@ fn is_word_byte(byte: u8) -> bool
     !is_blank(byte) && byte != b'"' && byte != b'\\'
 }
 
-/// Whether a value goes on after this byte in quotes and outside them, and the byte is no quote and no backslash.
+/// Whether a value goes on after this byte in quotes and outside them, and the byte is no quote and no
+/// backslash.
 #[inline]
 fn is_plain_byte(byte: u8) -> bool
     ensures { result ≡ scans.is_plain_byte byte }

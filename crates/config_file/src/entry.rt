@@ -91,8 +91,8 @@ impl<'a> Entry<'a> {
         self.key.eq_ignore_ascii_case(key)
     }
 
-    /// The key as `git config --list` shows it, in a new vector: what [`Entry::push_key`] appends. It fails only
-    /// if memory is refused.
+    /// The key as `git config --list` shows it, in a new vector: what [`Entry::push_key`] appends. It fails
+    /// only if memory is refused.
     ///
     /// ```rust
     /// use config_file::reader::Entries;
@@ -111,8 +111,8 @@ impl<'a> Entry<'a> {
     }
 
     /// Appends the key as `git config --list` shows it: section and key in lower case, and the text of the
-    /// subsection unchanged. A caller that lists many entries reuses one vector, and so asks rarely for memory. It
-    /// fails only if memory is refused; then part of the key may have been appended.
+    /// subsection unchanged. A caller that lists many entries reuses one vector, and so asks rarely for
+    /// memory. It fails only if memory is refused; then part of the key may have been appended.
     ///
     /// ```rust
     /// use config_file::reader::Entries;

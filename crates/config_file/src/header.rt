@@ -1,5 +1,5 @@
 //! Section headers.
-ghost use Rattle.std.specs.Prelude.{◌≡◌, ◌≢◌, ℕ, true, List, [], ◌∷◌, MatchOption, MatchResult};
+ghost use Rattle.std.specs.Prelude.{◌≡◌, ◌≢◌, ℕ, true, [], ◌∷◌, MatchOption, MatchResult};
 ghost use Rattle.config_file.specs.Bytes.{is_text_byte, EndsText};
 ghost use Rattle.config_file.specs.Header.{Header, HeaderStops, ClosesSubsection, SubsectionStops, NameStops};
 ghost use Rattle.config_file.specs.Subsection.{TakesSubsection, StopsInSubsection};
@@ -9,7 +9,8 @@ use crate::bytes::{Class, after_byte, before, is_at_line_end, is_text_byte, run,
 use crate::errors::{FileFault, Stop, stop_at};
 use crate::section::{Section, Subsection};
 
-/// Reads a header after its `[`. Returns the section, and what follows the header. It fails where the text is no header.
+/// Reads a header after its `[`. Returns the section, and what follows the header. It fails where the text is
+/// no header.
 pub fn read_header(text: &[u8]) -> Result<(Section<'_>, &[u8]), Stop>
     ensures { MatchResult result (λ p. Header text.now (section_of p.0) p.1.now)
         (λ stop. HeaderStops text.now stop.lines stop.fault) }

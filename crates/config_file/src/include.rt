@@ -1,9 +1,10 @@
 //! The entries that include a file: their conditions.
-ghost use Rattle.std.specs.Prelude.{◌↔◌, ◌≡◌, ◌++◌, ℕ, List, IsTrue, IfOk, OnOk, option_map, option_copied};
+ghost use Rattle.std.specs.Prelude.{◌↔◌, ◌≡◌, ℕ, List, IsTrue, IfOk, OnOk, option_map, option_copied};
 ghost use Rattle.std.specs.Prelude.{map, codes};
 ghost use Rattle.std.specs.Char.{to_ascii_lowercase};
 ghost use Rattle.config_file.specs.Include as spec;
-ghost use Rattle.config_file.specs.Include.{SpellsCondition, IsGitDir, IsOnBranch, HasUrl, Holds, EntryFollows};
+ghost use Rattle.config_file.specs.Include.{SpellsCondition, IsGitDir, IsOnBranch, HasUrl, Holds};
+ghost use Rattle.config_file.specs.Include.{EntryFollows};
 ghost use Rattle.config_file.specs.Include.{IsSameName, MatchesBelow, MatchesDir, IsRemoteUrl};
 ghost use Rattle.config_file.specs.Listing.{IsListed};
 ghost use Rattle.config_file.specs.Views.{entry_of};
@@ -207,9 +208,9 @@ impl Repository<'_> {
     }
 }
 
-/// Whether an entry is the URL of a remote, because Git lists it as `remote.NAME.url`. The case of the section
-/// and of the key does not count, and a header like `[remote.name]` has a name too. It may be a key alone, which
-/// has no URL: Git crashes there if it looks for URLs.
+/// Whether an entry is the URL of a remote, because Git lists it as `remote.NAME.url`. The case of the
+/// section and of the key does not count, and a header like `[remote.name]` has a name too. It may be a key
+/// alone, which has no URL: Git crashes there if it looks for URLs.
 ///
 /// ```rust
 /// use config_file::{Entries, is_remote_url};
@@ -292,8 +293,8 @@ pub enum Includes<'r> {
 }
 
 impl Includes<'_> {
-    /// Whether an include on this condition is followed in a file of the directory `real_dir`, which is written
-    /// as in [`Repository::is_git_dir`]. It fails only if memory is refused.
+    /// Whether an include on this condition is followed in a file of the directory `real_dir`, which is
+    /// written as in [`Repository::is_git_dir`]. It fails only if memory is refused.
     pub fn hold(
         self,
         alloc: Global,

@@ -50,8 +50,8 @@ pub fn keys_of_entries()
         → All (λ entry. HasKey entry key ↔ IsListed entry.section entry.key (listed key)) entries }
 {}
 
-/// The escapes of values are those of git-config(1): `\n`, `\t` and `\b` are LF, TAB and backspace, and `\"` and
-/// `\\` are the byte after the backslash.
+/// The escapes of values are those of git-config(1): `\n`, `\t` and `\b` are LF, TAB and backspace, and `\"`
+/// and `\\` are the byte after the backslash.
 pub fn escapes()
     ensures { map escape (codes "ntb\"\\") ≡ map (λ b. Some b) (codes "\n\t\u{8}\"\\") }
 {}

@@ -1,13 +1,13 @@
 //! Git's configuration files, from their texts to the values of settings (docs/GRAMMAR.md).
 //!
-//! - [`Entries`] yields the entries of a text one by one, in order, and takes no memory. An [`Entry`] has parts
-//!   that are borrowed from the text, and a [`FileError`] the line that Git reports, and the fault.
+//! - [`Entries`] yields the entries of a text one by one, in order, and takes no memory. An [`Entry`] has
+//!   parts that are borrowed from the text, and a [`FileError`] the line that Git reports, and the fault.
 //! - [`Walk`] goes on in the files that a file includes, in Git's order. Its caller opens them.
-//! - [`Settings`] holds the entries of several files, and what they include. A [`Key`] finds the last entry, and
-//!   its text is read as a value.
+//! - [`Settings`] holds the entries of several files, and what they include. A [`Key`] finds the last entry,
+//!   and its text is read as a value.
 //! - [`spelling`] writes entries.
-//! - [`laws`] states that each text has exactly one reading: it is a configuration file, or it is refused on a
-//!   line.
+//! - [`laws`] states that each text has exactly one reading: it is a configuration file, or it is refused on
+//!   a line.
 #![tactic(auto)]
 
 pub mod bytes;

@@ -1,5 +1,5 @@
 //! Patterns of paths, as in Git's conditions of includes.
-ghost use Rattle.std.specs.Prelude.{◌≡◌, ◌≢◌, ◌↔◌, IsTrue, MatchOption, List, ℕ, [], ◌∷◌, ◌<◌, ◌≤◌, length};
+ghost use Rattle.std.specs.Prelude.{◌≡◌, ◌↔◌, IsTrue, MatchOption, List, ℕ, [], ◌<◌, ◌≤◌, length};
 ghost use Rattle.std.specs.Prelude.{true, false};
 ghost use Rattle.std.specs.List.{prefix_len};
 ghost use Rattle.config_file.specs.Runs.{Run};
@@ -248,7 +248,8 @@ fn found_after_deep<'t>(pattern: &'t [u8], text: &'t [u8], ignores_case: bool) -
 /// that are a whole name: `**/`, `/**/` and `/**`.
 ///
 /// It takes no memory, and at most as much time as the length of the pattern times the square of that of the
-/// text. An earlier star is not tried again, since what would match from there matches from the last star too.
+/// text. An earlier star is not tried again, since what would match from there matches from the last star
+/// too.
 pub(crate) fn matches(pattern: &[u8], text: &[u8], ignores_case: bool) -> bool
     ensures { IsTrue result ↔ (MatchesText ignores_case pattern.now text.now) }
 {

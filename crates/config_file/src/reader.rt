@@ -1,5 +1,5 @@
 //! The reader: the entries of a text, one by one.
-ghost use Rattle.std.specs.Prelude.{◌≡◌, ◌+◌, ◌<◌, ◌≤◌, ◌^◌, ◌↔◌, IsTrue, None, Some, Option, List, [], length};
+ghost use Rattle.std.specs.Prelude.{◌≡◌, ◌+◌, ◌<◌, ◌≤◌, ◌^◌, ◌↔◌, IsTrue, None, Some, Option, [], length};
 ghost use Rattle.std.specs.Prelude.{option_map, MatchOption};
 ghost use Rattle.config_file.specs.File.{Begins, after_mark, IsPartOfMark};
 ghost use Rattle.config_file.specs.Bytes.{BeginsWithLetter};
@@ -85,8 +85,8 @@ impl<'a> Entries<'a> {
         }
     }
 
-    /// The entries of the rest of a text, which begins on this line and under this header. Returns `None` if the
-    /// lines could not be counted, that is if `line` and the length of `rest` sum to more than 2^63 + 1.
+    /// The entries of the rest of a text, which begins on this line and under this header. Returns `None` if
+    /// the lines could not be counted, that is if `line` and the length of `rest` sum to more than 2^63 + 1.
     pub fn resume(section: Option<Section<'a>>, line: usize, rest: &'a [u8]) -> Option<Self>
         ensures { MatchOption result (2 ^ 63 + 2 ≤ line + length rest.now)
             (λ entries. (entries.section ≡ section.entry) × (entries.line ≡ line) × (entries.rest ≡ rest.entry)) }

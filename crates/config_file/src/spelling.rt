@@ -12,7 +12,8 @@ ghost use Rattle.config_file.specs.Reading.Spellings.{spelled_line};
 use crate::bytes;
 use std::alloc::{AllocError, Global};
 
-/// The bytes that Git writes for this value between an `=` and the end of its line, or `None` if it has a NUL.
+/// The bytes that Git writes for this value between an `=` and the end of its line, or `None` if it has a
+/// NUL.
 ///
 /// ```rust
 /// use config_file::spelling::spell_value;

@@ -1,6 +1,7 @@
-//! The walk over the entries of a file and of the files that it includes, in Git's order. Its caller pulls it,
-//! and opens the files.
-ghost use Rattle.std.specs.Prelude.{◌≡◌, ◌≤◌, ◌++◌, ◌∷◌, ℕ, List, [], IfOk, MatchOption, length, true, false, option_copied};
+//! The walk over the entries of a file and of the files that it includes, in Git's order. Its caller pulls
+//! it, and opens the files.
+ghost use Rattle.std.specs.Prelude.{◌≡◌, ◌≤◌, ◌++◌, ◌∷◌, ℕ, List, [], IfOk, MatchOption, length, true, false};
+ghost use Rattle.std.specs.Prelude.{option_copied};
 ghost use Rattle.std.specs.Prelude.{map, codes};
 ghost use Rattle.std.specs.Char.{to_ascii_lowercase};
 ghost use Rattle.config_file.specs.Path.{BeginsUnknown};
@@ -213,9 +214,9 @@ pub enum Step<'t> {
 ///
 /// [`Walk::next`] returns one entry after the other. If an entry includes a file, it returns the name of that
 /// file, and the caller says what this file holds: [`Walk::enter`] goes on in its text. A caller that does
-/// not enter it goes on after the entry, as Git does if there is no such file. Git stops where an entry cannot
-/// be followed, a line cannot be read, a file cannot be opened, or `enter` returns false; a caller may go on
-/// all the same. A walk takes no memory, and it borrows from the texts.
+/// not enter it goes on after the entry, as Git does if there is no such file. Git stops where an entry
+/// cannot be followed, a line cannot be read, a file cannot be opened, or `enter` returns false; a caller may
+/// go on all the same. A walk takes no memory, and it borrows from the texts.
 ///
 /// ```rust
 /// use config_file::{Directories, FilePlace, Include, Includes, Known, Step, Urls, Walk};

@@ -1,5 +1,6 @@
 -- The settings that are of a URL, and the closest of them.
-use Rattle.std.proofs.Common.{◌≡◌, ◌≤◌, ◌<◌, ◌+◌, ◌++◌, ◌∙◌, ◌⊎◌, inl, inr, ℕ, zero, suc, Bool, true, false, List, [], ◌∷◌, Some, None, Option, length, take, map}
+use Rattle.std.proofs.Common.{◌≡◌, ◌≤◌, ◌<◌, ◌+◌, ◌++◌, ◌∙◌, ◌⊎◌, inl, inr, ℕ, zero, suc, Bool, true, false}
+use Rattle.std.proofs.Common.{List, [], ◌∷◌, Some, None, Option, length, take, map}
 use Rattle.std.proofs.Common.{refl, sym, subst, ap, arith, MatchOption}
 use Rattle.std.specs.Borrow.{Bor}
 use Rattle.std.specs.Char.{to_ascii_lowercase}
@@ -27,7 +28,8 @@ IsOnly items entry = (listed : List ℕ) → IsListed entry.section entry.key li
 abbrev lower : List ℕ → List ℕ
 lower text = map to_ascii_lowercase text
 
-parts_are : {key : Key} {entry : Entry} {sub : Option (List ℕ)} (items : List ℕ) (k : Key) → IsOnly items entry
+parts_are : {key : Key} {entry : Entry} {sub : Option (List ℕ)} (items : List ℕ) (k : Key)
+    → IsOnly items entry
     → IsCut items k → (under : IsUnder key entry sub) → under.parts ≡ k
 parts_are items k only cut under =
     cut_same (subst (λ t. IsCut t under.parts) (sym (only under.text under.is_listed)) under.is_cut) cut
@@ -69,18 +71,21 @@ is_under key entry items k sub listed cut section name has none = record {
   alone = none;
 }
 
-listed_items : (entry : Entry) (items text : List ℕ) → IsOnly items entry → IsListed entry.section entry.key text
+listed_items : (entry : Entry) (items text : List ℕ) → IsOnly items entry
+    → IsListed entry.section entry.key text
     → IsListed entry.section entry.key items
 listed_items entry items text only listed =
     subst (λ t. IsListed entry.section entry.key t) (sym (only text listed)) listed
 
-weakest_only : (key : Key) (u : Url) (entry : Entry) (items : List ℕ) (k : Key) → IsOnly items entry → IsCut items k
+weakest_only : (key : Key) (u : Url) (entry : Entry) (items : List ℕ) (k : Key) → IsOnly items entry
+    → IsCut items k
     → k.subsection ≡ None → (f : Fit) → Fits key u entry f → f ≡ weakest
 weakest_only key u entry items k only cut has f (inl (under, e)) = e
 weakest_only key u entry items k only cut has f (inr (text, p, under, is, match, e)) =
     absurd (none_some text (sym has ∙ ap (λ q. q.subsection) (sym (parts_are items k only cut under)) ∙ under.has_subsection))
 
-pattern_only : (key : Key) (u p : Url) (entry : Entry) (items : List ℕ) (k : Key) (sub : List ℕ) → IsOnly items entry
+pattern_only : (key : Key) (u p : Url) (entry : Entry) (items : List ℕ) (k : Key) (sub : List ℕ)
+    → IsOnly items entry
     → IsCut items k → k.subsection ≡ Some sub → IsUrl true sub p → (f : Fit) → Fits key u entry f
     → Matches p u × (f ≡ fit_of p)
 pattern_only key u p entry items k sub only cut has is f (inl (under, e)) =
@@ -92,7 +97,8 @@ pattern_only key u p entry items k sub only cut has is f (inr (text, q, under, o
     (subst (λ x. Matches x u) urls match, e ∙ ap fit_of urls)
 
 pub fits_weakest : (key : Key) (u : Url) (entry : Entry) (items : List ℕ) (k : Key) (text : List ℕ)
-    → IsOnly items entry → IsListed entry.section entry.key text → IsCut items k → lower k.section ≡ lower key.section
+    → IsOnly items entry → IsListed entry.section entry.key text → IsCut items k
+    → lower k.section ≡ lower key.section
     → lower k.name ≡ lower key.name → k.subsection ≡ None → key.subsection ≡ None
     → Fits key u entry weakest × ((f : Fit) → Fits key u entry f → f ≡ weakest)
 fits_weakest key u entry items k text only listed cut section name has none = (
@@ -121,8 +127,10 @@ pattern_fits view (Some v) key u p entry items k text sub only listed cut sectio
   λ f fits. (pattern_only key u p entry items k sub only cut has is f fits).1 ∙ sym e,
 )
 
-pub no_pattern : (key : Key) (u : Url) (entry : Entry) (items : List ℕ) (k : Key) (sub : List ℕ) → IsOnly items entry
-    → IsCut items k → k.subsection ≡ Some sub → ((p : Url) → ¬ (IsUrl true sub p)) → (f : Fit) → ¬ (Fits key u entry f)
+pub no_pattern : (key : Key) (u : Url) (entry : Entry) (items : List ℕ) (k : Key) (sub : List ℕ)
+    → IsOnly items entry
+    → IsCut items k → k.subsection ≡ Some sub → ((p : Url) → ¬ (IsUrl true sub p)) → (f : Fit)
+    → ¬ (Fits key u entry f)
 no_pattern key u entry items k sub only cut has never f (inl (under, e)) =
     none_some sub (sym under.has_subsection ∙ ap (λ p. p.subsection) (parts_are items k only cut under) ∙ has)
 no_pattern key u entry items k sub only cut has never f (inr (text, p, under, is, match, e)) =
@@ -193,7 +201,8 @@ Weaker key u g setting = (f : Fit) → Fits key u (entry_of setting.entry) f →
 abbrev NotCloser : Key → Url → Fit → Setting → Type 0
 NotCloser key u g setting = (f : Fit) → Fits key u (entry_of setting.entry) f → ¬ (IsCloser g f)
 
-all_parts : {X : Type 0} (P : X → Type 0) (front : List X) (x : X) (back : List X) → All P front → P x → All P back
+all_parts : {X : Type 0} (P : X → Type 0) (front : List X) (x : X) (back : List X) → All P front → P x
+    → All P back
     → All P (front ++ x ∷ back)
 all_parts P [] x back all is later zero d within = is
 all_parts P [] x back all is later (suc k) d within = later k d (omega (arith, within))
@@ -210,14 +219,16 @@ best_first view key u = all_nothing (Lacks key u)
 pub best_lacks : {V : Type 0} (view : V → Fit) (key : Key) (u : Url) (settings : List Setting) (setting : Setting)
     (best : Option (V × Bor Setting)) → ((f : Fit) → ¬ (Fits key u (entry_of setting.entry) f))
     → BestOf view key u settings best → BestOf view key u (settings ++ setting ∷ []) best
-best_lacks view key u settings setting None never before = all_parts (Lacks key u) settings setting [] before never (all_nothing (Lacks key u))
+best_lacks view key u settings setting None never before =
+    all_parts (Lacks key u) settings setting [] before never (all_nothing (Lacks key u))
 best_lacks view key u settings setting (Some (v, kept)) never before =
     let b = before.closest in record {
       closest = record {
         before = b.before;
         after = b.after ++ setting ∷ [];
         found = b.found;
-        among = ap (λ s. s ++ setting ∷ []) b.among ∙ append_assoc b.before (kept.now ∷ b.after) (setting ∷ []);
+        among =
+            ap (λ s. s ++ setting ∷ []) b.among ∙ append_assoc b.before (kept.now ∷ b.after) (setting ∷ []);
         fits = b.fits;
         none_closer = b.none_closer;
         later_weaker = all_parts (Weaker key u b.found) b.after setting [] b.later_weaker
@@ -229,7 +240,8 @@ best_lacks view key u settings setting (Some (v, kept)) never before =
 
 pub best_kept : {V : Type 0} (view : V → Fit) (key : Key) (u : Url) (settings : List Setting) (setting : Setting) (g : Fit)
     (v : V) (kept : Bor Setting) → ((f : Fit) → Fits key u (entry_of setting.entry) f → f ≡ g) → IsCloser g (view v)
-    → BestOf view key u settings (Some (v, kept)) → BestOf view key u (settings ++ setting ∷ []) (Some (v, kept))
+    → BestOf view key u settings (Some (v, kept))
+    → BestOf view key u (settings ++ setting ∷ []) (Some (v, kept))
 best_kept view key u settings setting g v kept only below before =
     let b = before.closest in
     let weaker : IsCloser g b.found = subst (λ x. IsCloser g x) (sym before.same) below in record {
@@ -237,7 +249,8 @@ best_kept view key u settings setting g v kept only below before =
         before = b.before;
         after = b.after ++ setting ∷ [];
         found = b.found;
-        among = ap (λ s. s ++ setting ∷ []) b.among ∙ append_assoc b.before (kept.now ∷ b.after) (setting ∷ []);
+        among =
+            ap (λ s. s ++ setting ∷ []) b.among ∙ append_assoc b.before (kept.now ∷ b.after) (setting ∷ []);
         fits = b.fits;
         none_closer = b.none_closer;
         later_weaker = all_parts (Weaker key u b.found) b.after setting [] b.later_weaker
@@ -290,8 +303,10 @@ earlier_best key u settings g found kept best not =
 
 pub best_taken : {V : Type 0} (view : V → Fit) (key : Key) (u : Url) (settings : List Setting) (v other : V)
     (setting kept : Bor Setting) → Fits key u (entry_of setting.now.entry) (view v)
-    → ((f : Fit) → Fits key u (entry_of setting.now.entry) f → f ≡ view v) → ¬ (IsCloser (view v) (view other))
-    → BestOf view key u settings (Some (other, kept)) → BestOf view key u (settings ++ setting.now ∷ []) (Some (v, setting))
+    → ((f : Fit) → Fits key u (entry_of setting.now.entry) f → f ≡ view v)
+    → ¬ (IsCloser (view v) (view other))
+    → BestOf view key u settings (Some (other, kept))
+    → BestOf view key u (settings ++ setting.now ∷ []) (Some (v, setting))
 best_taken view key u settings v other setting kept is only not before =
     best_new view key u settings v setting is only
     (earlier_best key u settings (view v) (view other) kept.now before not)
@@ -305,7 +320,8 @@ best_only view key u settings v setting is only before =
 
 pub best_done : {V : Type 0} (view : V → Fit) (key : Key) (u : Url) (settings : List Setting) (i : ℕ)
     (best : Option (V × Bor Setting)) → length settings ≤ i
-    → (AreListed settings → BestOf view key u (take i settings) best) → AreListed settings → BestOf view key u settings best
+    → (AreListed settings → BestOf view key u (take i settings) best) → AreListed settings
+    → BestOf view key u settings best
 best_done view key u settings i best past before listed =
     subst (λ s. BestOf view key u s best) (take_all i settings past) (before listed)
 

@@ -42,7 +42,8 @@ stand_none b p all =
 not_zero : (n : ℕ) → (suc n == 0) ≡ false
 not_zero n = grind (arith, nat_tests)
 
-pub stands_at_end : (wanted left pattern host : List ℕ) (r : Bool) → (Stands wanted left ↔ Stands pattern host)
+pub stands_at_end : (wanted left pattern host : List ℕ) (r : Bool)
+    → (Stands wanted left ↔ Stands pattern host)
     → (length wanted == 0) ≡ true → r ≡ (length left == 0) → (IsTrue r ↔ Stands pattern host)
 stands_at_end [] [] pattern host r same e f = (λ t. same.0 stands_none, λ s. f)
 stands_at_end [] (b ∷ h) pattern host r same e f =
@@ -52,7 +53,8 @@ stands_at_end (b ∷ p) left pattern host r same e f = absurd (false≢true (sym
 pub stands_half : (wanted left pattern host : List ℕ) → (Stands wanted left ↔ Stands pattern host)
     → (length wanted == 0) ≡ false → (length left == 0) ≡ true → (IsTrue false ↔ Stands pattern host)
 stands_half [] left pattern host same e f = absurd (false≢true (sym e))
-stands_half (b ∷ p) [] pattern host same e f = (λ t. absurd (false≢true t), λ s. absurd (stand_none b p (same.1 s)))
+stands_half (b ∷ p) [] pattern host same e f =
+    (λ t. absurd (false≢true t), λ s. absurd (stand_none b p (same.1 s)))
 stands_half (b ∷ p) (c ∷ h) pattern host same e f = absurd (false≢true (sym (not_zero (length h)) ∙ f))
 
 pub number_grows : (n : ℕ) (digits : List ℕ) → n ≤ number_after n digits

@@ -84,11 +84,13 @@ below_slash b wanted left after front path r e f test same = (
 
 -- ---- one URL
 
-some_not_default : (scheme digits : List ℕ) (n : ℕ) → IsPort scheme digits None → IsPort scheme digits (Some n) → ⊥
+some_not_default : (scheme digits : List ℕ) (n : ℕ) → IsPort scheme digits None
+    → IsPort scheme digits (Some n) → ⊥
 some_not_default scheme digits n (inl e) is = is.0 e
 some_not_default scheme digits n (inr d) is = is.4 (subst (λ m. IsDefault scheme m) is.1 d)
 
-pub port_only : (scheme digits : List ℕ) (a b : Option ℕ) → IsPort scheme digits a → IsPort scheme digits b → a ≡ b
+pub port_only : (scheme digits : List ℕ) (a b : Option ℕ) → IsPort scheme digits a → IsPort scheme digits b
+    → a ≡ b
 port_only scheme digits None None p q = refl
 port_only scheme digits None (Some n) p q = absurd (some_not_default scheme digits n p q)
 port_only scheme digits (Some n) None p q = absurd (some_not_default scheme digits n q p)
@@ -135,11 +137,13 @@ read_is view p (Err e) w h = h
 
 -- ---- what matches
 
-pub path_length : (path front : List ℕ) → closed path ≡ front ++ 47 ∷ [] → length (closed path) ≡ length front + 1
+pub path_length : (path front : List ℕ) → closed path ≡ front ++ 47 ∷ []
+    → length (closed path) ≡ length front + 1
 path_length path front e = omega (arith, ap length e, length-append front (47 ∷ []))
 
 pub matches : (pattern u : Url) (front : List ℕ) → pattern.scheme ≡ u.scheme → AllowsUser pattern.user u.user
-    → AllZip StandsFor (pieces 46 pattern.host) (pieces 46 u.host) → pattern.port ≡ u.port → Below front u.path
+    → AllZip StandsFor (pieces 46 pattern.host) (pieces 46 u.host) → pattern.port ≡ u.port
+    → Below front u.path
     → closed pattern.path ≡ front ++ 47 ∷ [] → Matches pattern u
 matches pattern u front scheme user host port below e = record {
   scheme = scheme;
@@ -149,7 +153,8 @@ matches pattern u front scheme user host port below e = record {
   path = (below.0, below.1 ∙ ap (λ t. t ++ below.0) (sym e));
 }
 
-pub fit_same : (p : Url) (front : List ℕ) (h n : ℕ) (b : Bool) → h ≡ length p.host → closed p.path ≡ front ++ 47 ∷ []
+pub fit_same : (p : Url) (front : List ℕ) (h n : ℕ) (b : Bool) → h ≡ length p.host
+    → closed p.path ≡ front ++ 47 ∷ []
     → n ≡ length front + 1 → b ≡ is_some p.user → fit h n b ≡ fit_of p
 fit_same p front h n b e f g i =
     ap (λ x. fit x n b) e ∙ ap (λ x. fit (length p.host) x b) (g ∙ sym (path_length p.path front f))

@@ -12,7 +12,8 @@ or_false : (x : Bool) → (x || false) ≡ x
 or_false true = refl
 or_false false = refl
 
-plain_back : {b : ℕ} {rest normal : List ℕ} → b ≢ 37 → IsNormal (b ∷ rest) normal → (n : List ℕ) × IsNormal rest n
+plain_back : {b : ℕ} {rest normal : List ℕ} → b ≢ 37 → IsNormal (b ∷ rest) normal
+    → (n : List ℕ) × IsNormal rest n
 plain_back other (plain {normal = n} e is) = (n, is)
 plain_back other (escape e f g is) = absurd (other e)
 
@@ -35,7 +36,8 @@ escape_goes b high low h l rest e f g = record {
   none = λ never normal is. let (n, before) = escape_back e is in never n before;
 }
 
-pub escaped_goes : (b high low h l : ℕ) (text more rest : List ℕ) → b ≡ 37 → text ≡ high ∷ more → more ≡ low ∷ rest
+pub escaped_goes : (b high low h l : ℕ) (text more rest : List ℕ) → b ≡ 37 → text ≡ high ∷ more
+    → more ≡ low ∷ rest
     → hex_value high ≡ Some h → hex_value low ≡ Some l
     → GoesOn (b ∷ text) (written_as true (h * 16 + l)) rest
 escaped_goes b high low h l text more rest e first second f g =
@@ -48,7 +50,8 @@ goes_end {text = text} {a = a} on e =
 
 pub normal_only : {text a b : List ℕ} → IsNormal text a → IsNormal text b → a ≡ b
 normal_only done done = refl
-normal_only (plain {b = c} e is) (plain f other) = ap (λ n. escaped (is_unsafe c) c ++ n) (normal_only is other)
+normal_only (plain {b = c} e is) (plain f other) =
+    ap (λ n. escaped (is_unsafe c) c ++ n) (normal_only is other)
 normal_only (plain e is) (escape f g h other) = absurd (e f)
 normal_only (escape e f g is) (plain h other) = absurd (h e)
 normal_only (escape {h = x} {l = y} {normal = n} e f g is) (escape {h = z} {l = w} {normal = m} h i j other) =

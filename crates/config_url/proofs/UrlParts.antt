@@ -1,5 +1,6 @@
 -- The parts of a URL: each text is cut into them in at most one way.
-use Rattle.std.proofs.Common.{◌≡◌, ◌≢◌, ◌<◌, ◌+◌, ◌++◌, ◌∙◌, inl, inr, ℕ, Bool, true, false, List, [], ◌∷◌, Some, None, Option, length, take, drop, get_or, ◌==◌}
+use Rattle.std.proofs.Common.{◌≡◌, ◌≢◌, ◌<◌, ◌+◌, ◌++◌, ◌∙◌, inl, inr, ℕ, Bool, true, false, List, [], ◌∷◌}
+use Rattle.std.proofs.Common.{Some, None, Option, length, take, drop, get_or, ◌==◌}
 use Rattle.std.proofs.Common.{refl, sym, subst, ap, arith}
 use Rattle.std.specs.Prelude.{unwrap_or, codes}
 use Rattle.std.specs.Char.{is_ascii_digit, is_ascii_alphabetic}
@@ -10,7 +11,8 @@ use Rattle.std.proofs.lemmas.List.{length-drop, drop_more, get_or-drop, take-app
 use Rattle.std.proofs.lemmas.List.Folds.{list_all-append}
 use Rattle.std.proofs.lemmas.List.Sums.{list_all-from_AllPass}
 use Rattle.config_file.specs.Runs.{Run}
-use Rattle.config_url.specs.Url.{SplitUrl, IsWritten, IsWhole, place_text, is_scheme, is_scheme_byte, is_place_byte, is_login_byte, is_host_byte}
+use Rattle.config_url.specs.Url.{SplitUrl, IsWritten, IsWhole, place_text, is_scheme, is_scheme_byte}
+use Rattle.config_url.specs.Url.{is_place_byte, is_login_byte, is_host_byte}
 use Rattle.config_url.specs.Reading.Urls.{CutsScheme, CutsLogin, CutsPort, IsCutUrl, no_at, is_port_byte}
 use Rattle.config_file.proofs.OneRun.{run_same, run_only}
 
@@ -18,7 +20,9 @@ use Rattle.config_file.proofs.OneRun.{run_same, run_only}
 
 pub not_this : (test : ℕ → Bool) (n b : ℕ) → test b ≡ true → test n ≡ false → (n == b) ≡ false
 not_this test n b is non = elim (cases_Bool (n == b)) [
-  | inl e ↦ let same : n ≡ b = grind (arith, nat_tests) in absurd (true≢false (sym is ∙ ap test (sym same) ∙ non))
+  | inl e ↦
+      let same : n ≡ b = grind (arith, nat_tests) in
+      absurd (true≢false (sym is ∙ ap test (sym same) ∙ non))
   | inr e ↦ e
 ]
 
@@ -52,15 +56,18 @@ all_with p q r more (b ∷ xs) e f =
     rw (more b here_p here_q, all_with p q r more xs later_p later_q) refl
 
 host_place : (s : Bool) (b : ℕ) → is_host_byte s b ≡ true → is_place_byte b ≡ true
-host_place true b h = rw (not_this (is_host_byte true) 47 b h refl, not_this (is_host_byte true) 63 b h refl, not_this (is_host_byte true) 35 b h refl) refl
-host_place false b h = rw (not_this (is_host_byte false) 47 b h refl, not_this (is_host_byte false) 63 b h refl, not_this (is_host_byte false) 35 b h refl) refl
+host_place true b h =
+    rw (not_this (is_host_byte true) 47 b h refl, not_this (is_host_byte true) 63 b h refl, not_this (is_host_byte true) 35 b h refl) refl
+host_place false b h =
+    rw (not_this (is_host_byte false) 47 b h refl, not_this (is_host_byte false) 63 b h refl, not_this (is_host_byte false) 35 b h refl) refl
 
 host_no_at : (s : Bool) (b : ℕ) → is_host_byte s b ≡ true → no_at b ≡ true
 host_no_at true b h = rw (not_that (is_host_byte true) 64 b h refl) refl
 host_no_at false b h = rw (not_that (is_host_byte false) 64 b h refl) refl
 
 digit_place : (b : ℕ) → is_ascii_digit b ≡ true → is_place_byte b ≡ true
-digit_place b h = rw (not_this is_ascii_digit 47 b h refl, not_this is_ascii_digit 63 b h refl, not_this is_ascii_digit 35 b h refl) refl
+digit_place b h =
+    rw (not_this is_ascii_digit 47 b h refl, not_this is_ascii_digit 63 b h refl, not_this is_ascii_digit 35 b h refl) refl
 
 digit_no_at : (b : ℕ) → is_ascii_digit b ≡ true → no_at b ≡ true
 digit_no_at b h = rw (not_that is_ascii_digit 64 b h refl) refl
@@ -87,7 +94,8 @@ scheme_bytes (b ∷ s) e =
 pub scheme_run : {text s r : List ℕ} → CutsScheme text s r → Run is_scheme_byte text s (codes "://" ++ r)
 scheme_run {s = s} cut = record { joined = cut.joined; pass = scheme_bytes s cut.is; longest = refl }
 
-pub no_scheme : {text front : List ℕ} (rest : List ℕ) → Run is_scheme_byte text front rest → is_scheme front ≡ false
+pub no_scheme : {text front : List ℕ} (rest : List ℕ) → Run is_scheme_byte text front rest
+    → is_scheme front ≡ false
     → (s r : List ℕ) → ¬ (CutsScheme text s r)
 no_scheme rest run non s r cut =
     let (same, more) = run_only run (scheme_run cut) in false≢true (sym non ∙ ap is_scheme same ∙ cut.is)
@@ -98,11 +106,13 @@ no_mark rest run non s r cut = let (same, more) = run_only run (scheme_run cut) 
 
 -- ---- the login
 
-within_not : (q : ℕ → Bool) (x : ℕ) (front back : List ℕ) → q x ≡ false → list_all q (front ++ x ∷ back) ≡ true → ⊥
+within_not : (q : ℕ → Bool) (x : ℕ) (front back : List ℕ) → q x ≡ false
+    → list_all q (front ++ x ∷ back) ≡ true → ⊥
 within_not q x [] back non e =
     let (here, more) = and_parts (q x) (list_all q back) e in true≢false (sym here ∙ non)
 within_not q x (b ∷ front) back non e =
-    let (here, more) = and_parts (q b) (list_all q (front ++ x ∷ back)) e in within_not q x front back non more
+    let (here, more) = and_parts (q b) (list_all q (front ++ x ∷ back)) e in
+    within_not q x front back non more
 
 login_only : (place r s : List ℕ) (a b : Option (List ℕ)) → CutsLogin place a r → CutsLogin place b s
     → (a ≡ b) × (r ≡ s)
@@ -180,7 +190,8 @@ no_bracket (b ∷ m) p e =
     let other : (b == 93) ≡ false = not_that is_port_byte 93 b here refl in
     no_bracket m more (rw other at e)
 
-port_only : (text h k : List ℕ) (a b : Option (List ℕ)) → CutsPort text h a → CutsPort text k b → (h ≡ k) × (a ≡ b)
+port_only : (text h k : List ℕ) (a b : Option (List ℕ)) → CutsPort text h a → CutsPort text k b
+    → (h ≡ k) × (a ≡ b)
 port_only text h k None None e f = (sym e.0 ∙ f.0, refl)
 port_only text h k None (Some y) e f = absurd (no_bracket y f.1 (e.1 k y (sym e.0 ∙ f.0)))
 port_only text h k (Some x) None e f = absurd (no_bracket x e.1 (f.1 h x (sym f.0 ∙ e.0)))
@@ -224,7 +235,8 @@ named_all q s host (Some port) of_host of_digit of_colon bytes whole =
     (rw (of_colon, all_more is_ascii_digit q of_digit port whole) refl)
 
 place_all : (s : Bool) (login : Option (List ℕ)) (host : List ℕ) (port : Option (List ℕ))
-    → list_all is_login_byte (unwrap_or login []) ≡ true → list_all (is_host_byte s) host ≡ true → IsWhole host port
+    → list_all is_login_byte (unwrap_or login []) ≡ true → list_all (is_host_byte s) host ≡ true
+    → IsWhole host port
     → list_all is_place_byte (place_text login host port) ≡ true
 place_all s None host port logs bytes whole =
     named_all is_place_byte s host port (host_place s) digit_place refl bytes whole
@@ -236,15 +248,18 @@ place_all s (Some login) host (Some port) logs bytes whole =
     (named_all is_place_byte s host (Some port) (host_place s) digit_place refl bytes whole)
 
 login_cut : (s : Bool) (login : Option (List ℕ)) (host : List ℕ) (port : Option (List ℕ))
-    → list_all is_login_byte (unwrap_or login []) ≡ true → list_all (is_host_byte s) host ≡ true → IsWhole host port
+    → list_all is_login_byte (unwrap_or login []) ≡ true → list_all (is_host_byte s) host ≡ true
+    → IsWhole host port
     → CutsLogin (place_text login host port) login (place_text None host port)
 login_cut s None host port logs bytes whole =
     (refl, named_all no_at s host port (host_no_at s) digit_no_at refl bytes whole)
-login_cut s (Some login) host None logs bytes whole = (refl, all_more is_login_byte no_at login_no_at login logs)
+login_cut s (Some login) host None logs bytes whole =
+    (refl, all_more is_login_byte no_at login_no_at login logs)
 login_cut s (Some login) host (Some port) logs bytes whole =
     (refl, all_more is_login_byte no_at login_no_at login logs)
 
-port_cut : (host : List ℕ) (port : Option (List ℕ)) → IsWhole host port → CutsPort (place_text None host port) host port
+port_cut : (host : List ℕ) (port : Option (List ℕ)) → IsWhole host port
+    → CutsPort (place_text None host port) host port
 port_cut host None whole = (refl, whole)
 port_cut host (Some port) whole = (refl, all_more is_ascii_digit is_port_byte digit_port port whole)
 
@@ -270,7 +285,8 @@ whole_of : (text host : List ℕ) (port : Option (List ℕ)) → CutsPort text h
 whole_of text host None cut digits = cut.1
 whole_of text host (Some port) cut digits = digits
 
-named_is : (text host : List ℕ) (port : Option (List ℕ)) → CutsPort text host port → text ≡ place_text None host port
+named_is : (text host : List ℕ) (port : Option (List ℕ)) → CutsPort text host port
+    → text ≡ place_text None host port
 named_is text host None cut = cut.0
 named_is text host (Some port) cut = cut.0
 
@@ -287,7 +303,8 @@ login_of place named (Some login) cut pass =
     all_with is_place_byte no_at is_login_byte login_byte login
     (all_front is_place_byte login (64 ∷ named) (subst (λ t. list_all is_place_byte t ≡ true) cut.0 pass)) cut.1
 
-pub cut_written : {s : Bool} {text : List ℕ} (p : SplitUrl) → IsCutUrl text p → list_all (is_host_byte s) p.host ≡ true
+pub cut_written : {s : Bool} {text : List ℕ} (p : SplitUrl) → IsCutUrl text p
+    → list_all (is_host_byte s) p.host ≡ true
     → list_all is_ascii_digit (unwrap_or p.port []) ≡ true → IsWritten s text p
 cut_written p cut bytes digits = record {
   joined = cut.cuts_scheme.joined ∙ ap (λ t. p.scheme ++ (codes "://" ++ t)) (cut.cuts_place.joined
@@ -307,10 +324,12 @@ digits_of host (Some port) whole = whole
 
 -- ---- what is not written
 
-pub unwritten : {s : Bool} {text : List ℕ} → ((p : SplitUrl) → ¬ (IsCutUrl text p)) → (p : SplitUrl) → ¬ (IsWritten s text p)
+pub unwritten : {s : Bool} {text : List ℕ} → ((p : SplitUrl) → ¬ (IsCutUrl text p)) → (p : SplitUrl)
+    → ¬ (IsWritten s text p)
 unwritten non p w = non p (written_cut p w)
 
-pub wrong_host : {s : Bool} {text : List ℕ} (p : SplitUrl) → IsCutUrl text p → list_all (is_host_byte s) p.host ≡ false
+pub wrong_host : {s : Bool} {text : List ℕ} (p : SplitUrl) → IsCutUrl text p
+    → list_all (is_host_byte s) p.host ≡ false
     → (q : SplitUrl) → ¬ (IsWritten s text q)
 wrong_host {s = s} p cut non q w =
     let same : p ≡ q = parts_only p q cut (written_cut q w) in
@@ -322,5 +341,6 @@ wrong_port p cut non q w =
     let same : p ≡ q = parts_only p q cut (written_cut q w) in
     false≢true (sym non ∙ ap (λ r. list_all is_ascii_digit (unwrap_or r.port [])) same ∙ digits_of q.host q.port w.port)
 
-pub written_only : {s : Bool} {text : List ℕ} (p q : SplitUrl) → IsWritten s text p → IsWritten s text q → p ≡ q
+pub written_only : {s : Bool} {text : List ℕ} (p q : SplitUrl) → IsWritten s text p → IsWritten s text q
+    → p ≡ q
 written_only p q v w = parts_only p q (written_cut p v) (written_cut q w)

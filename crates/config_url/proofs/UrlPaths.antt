@@ -47,7 +47,8 @@ up_back {front = front} {rest = rest} {all = all} last e f (drops {front = other
     subst (λ k. Leads k rest all) (snoc_same other front one last (sym h ∙ f)) l
 up_back last e f (keeps n m l) = absurd (m e)
 
-pub up_steps : (kept front : List (List ℕ)) (name last : List ℕ) → name ≡ codes ".." → kept ≡ front ++ last ∷ []
+pub up_steps : (kept front : List (List ℕ)) (name last : List ℕ) → name ≡ codes ".."
+    → kept ≡ front ++ last ∷ []
     → (rest all : List (List ℕ)) → (Leads front rest all ↔ Leads kept (name ∷ rest) all)
 up_steps kept front name last e f rest all = (λ l. drops last e f l, λ l. up_back last e f l)
 
@@ -83,7 +84,8 @@ pub names_end : (kept next : List (List ℕ)) (name left path : List ℕ) → Cu
 names_end kept next name left path cut steps same =
     (same next).0 (subst (λ ps. Leads kept ps next) (sym (closed_last 47 left name cut)) ((steps [] next).0 ends))
 
-pub names_more : (kept next : List (List ℕ)) (name left after path : List ℕ) → CutsPiece 47 left name (Some after)
+pub names_more : (kept next : List (List ℕ)) (name left after path : List ℕ)
+    → CutsPiece 47 left name (Some after)
     → Steps kept name true next → LeadsAs kept left path → LeadsAs next after path
 names_more kept next name left after path cut steps same all = (
   λ l. (same all).0 (subst (λ ps. Leads kept ps all) (sym (closed_next 47 left name after cut))
@@ -125,7 +127,8 @@ leads_only (keeps d u l) (keeps v w m) = leads_only l m
 
 pub no_path : {text normal : List ℕ} (names query root : List ℕ) → IsNormal text normal
     → Run is_path_byte normal names query → root ≡ without_root names
-    → ((all : List (List ℕ)) → ¬ (Leads [] (pieces 47 (root ++ 47 ∷ [])) all)) → (path : List ℕ) → ¬ (IsPath text path)
+    → ((all : List (List ℕ)) → ¬ (Leads [] (pieces 47 (root ++ 47 ∷ [])) all)) → (path : List ℕ)
+    → ¬ (IsPath text path)
 no_path names_of query root is cut e never path p =
     let same = normal_only p.is_normal is in
     let (names, rest) = run_only (subst (λ t. Run is_path_byte t p.names p.query) same p.is_cut) cut in
@@ -135,6 +138,7 @@ pub path_only : {text : List ℕ} (a b : List ℕ) → IsPath text a → IsPath 
 path_only a b p q =
     let same = normal_only p.is_normal q.is_normal in
     let (names, rest) = run_only (subst (λ t. Run is_path_byte t p.names p.query) same p.is_cut) q.is_cut in
-    let kept : p.kept ≡ q.kept = leads_only (subst (λ t. Leads [] (pieces 47 (without_root t ++ 47 ∷ [])) p.kept) names p.leads)
+    let kept : p.kept ≡ q.kept =
+    leads_only (subst (λ t. Leads [] (pieces 47 (without_root t ++ 47 ∷ [])) p.kept) names p.leads)
     q.leads in
     p.joined ∙ ap (λ k. joined_names k ++ p.query) kept ∙ ap (λ r. joined_names q.kept ++ r) rest ∙ sym q.joined

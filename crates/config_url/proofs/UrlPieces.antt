@@ -1,5 +1,6 @@
 -- The pieces of texts, and runs that end at a separator.
-use Rattle.std.proofs.Common.{◌≡◌, ◌≢◌, ◌++◌, ◌∙◌, ℕ, Bool, true, false, List, [], ◌∷◌, Some, None, take, drop, not, ◌==◌}
+use Rattle.std.proofs.Common.{◌≡◌, ◌≢◌, ◌++◌, ◌∙◌, ℕ, Bool, true, false, List, [], ◌∷◌, Some, None, take}
+use Rattle.std.proofs.Common.{drop, not, ◌==◌}
 use Rattle.std.proofs.Common.{refl, sym, subst, ap, arith}
 use Rattle.std.specs.List.{list_all, prefix_len}
 use Rattle.std.proofs.lemmas.Bool.{and_parts}
@@ -10,7 +11,8 @@ use Rattle.config_url.specs.Url.{pieces, onto}
 use Rattle.config_url.specs.Reading.Urls.{CutsPiece}
 use Rattle.config_file.proofs.Runs.{run_split}
 
-pub counted : (test : ℕ → Bool) {text front rest : List ℕ} (n : ℕ) → n ≡ prefix_len test text → front ≡ take n text
+pub counted : (test : ℕ → Bool) {text front rest : List ℕ} (n : ℕ) → n ≡ prefix_len test text
+    → front ≡ take n text
     → rest ≡ drop n text → Run test text front rest
 counted test {text = text} n e f g = rw (f, g, e) (run_split test text)
 
@@ -23,11 +25,13 @@ other_byte b s h = grind (arith, nat_tests)
 pub self_byte : (s : ℕ) → (s == s) ≡ true
 self_byte s = grind (arith, nat_tests)
 
-pub piece_whole : (s : ℕ) {text front : List ℕ} (rest : List ℕ) → Run (λ b. not (b == s)) text front rest → rest ≡ []
+pub piece_whole : (s : ℕ) {text front : List ℕ} (rest : List ℕ) → Run (λ b. not (b == s)) text front rest
+    → rest ≡ []
     → CutsPiece s text front None
 piece_whole s {front = front} rest run e = (run.joined ∙ ap (λ r. front ++ r) e ∙ append-nil front, run.pass)
 
-pub piece_before : (s : ℕ) {text front after : List ℕ} {b : ℕ} (rest : List ℕ) → Run (λ b. not (b == s)) text front rest
+pub piece_before : (s : ℕ) {text front after : List ℕ} {b : ℕ} (rest : List ℕ)
+    → Run (λ b. not (b == s)) text front rest
     → rest ≡ b ∷ after → CutsPiece s text front (Some after)
 piece_before s {front = front} {after = after} {b = b} rest run e =
     let here : b ≡ s = same_byte b s (subst (λ x. StopsRun (λ c. not (c == s)) x) e run.longest) in

@@ -9,8 +9,8 @@ use Rattle.config_url.specs.Url.{Url, IsUrl, Matches, Fit, weakest, fit_of, IsCl
 use Rattle.config_file.specs.Views.{entry_of}
 use Rattle.config_file.specs.declared.settings.Setting.{Setting}
 
--- Git lists the entry under this section and this name, ignoring ASCII case, with this subsection or with none
--- between them. The asked key is a section and a name alone.
+-- Git lists the entry under this section and this name, ignoring ASCII case, with this subsection or with
+-- none between them. The asked key is a section and a name alone.
 pub record IsUnder (key : Key) (entry : Entry) (subsection : Option (List ℕ)) : Type 0 where
   pub text : List ℕ
   pub parts : Key
@@ -21,8 +21,8 @@ pub record IsUnder (key : Key) (entry : Entry) (subsection : Option (List ℕ)) 
   pub has_subsection : parts.subsection ≡ subsection
   pub alone : key.subsection ≡ None
 
--- the entry is of the URL: it has no pattern, which is the weakest fit, or its subsection is a pattern that matches
--- the URL, which fits as closely as that
+-- the entry is of the URL: it has no pattern, which is the weakest fit, or its subsection is a pattern that
+-- matches the URL, which fits as closely as that
 abbrev pub Fits : Key → Url → Entry → Fit → Type 0
 Fits key u entry f = (IsUnder key entry None × (f ≡ weakest))
     ⊎ ((text : List ℕ) × (pattern : Url) × IsUnder key entry (Some text) × IsUrl true text pattern
@@ -32,7 +32,8 @@ Fits key u entry f = (IsUnder key entry None × (f ≡ weakest))
 abbrev pub LacksFit : Key → Url → List Setting → Type 0
 LacksFit key u settings = All (λ setting. (f : Fit) → ¬ (Fits key u (entry_of setting.entry) f)) settings
 
--- this setting decides for the URL: no earlier one fits more closely, and each later one that fits does so less
+-- this setting decides for the URL: no earlier one fits more closely, and each later one that fits does so
+-- less
 pub record IsClosest (key : Key) (u : Url) (settings : List Setting) (setting : Setting) : Type 0 where
   pub before : List Setting
   pub after : List Setting

@@ -1,7 +1,8 @@
--- URLs of settings: the texts that are URLs, the form in which Git compares them, the URLs that a pattern matches,
--- and the setting that decides for a URL.
+-- URLs of settings: the texts that are URLs, the form in which Git compares them, the URLs that a pattern
+-- matches, and the setting that decides for a URL.
 use Rattle.std.specs.Prelude.{◌≡◌, ◌≢◌, ◌⊎◌, ◌<◌, ◌+◌, ◌-◌, ◌*◌, ◌/◌, ◌%◌, ℕ, Bool, true, false, not, is_some}
-use Rattle.std.specs.Prelude.{◌&&◌, ◌||◌, ◌==◌, nat_le, nat_lt, if◌then◌else◌, List, [], ◌∷◌, ◌++◌, length, map, flat_map}
+use Rattle.std.specs.Prelude.{◌&&◌, ◌||◌, ◌==◌, nat_le, nat_lt, if◌then◌else◌, List, [], ◌∷◌, ◌++◌, length}
+use Rattle.std.specs.Prelude.{map, flat_map}
 use Rattle.std.specs.Prelude.{Option, Some, None, unwrap_or, codes, ⊤}
 use Rattle.std.specs.Char.{to_ascii_lowercase, is_ascii_alphabetic, is_ascii_alphanumeric, is_ascii_digit}
 use Rattle.std.specs.List.{list_all, list_any, AllZip}
@@ -48,8 +49,8 @@ is_login_byte b = is_place_byte b && not (b == at_sign)
 abbrev pub is_host_byte : Bool → ℕ → Bool
 is_host_byte has_stars b = is_ascii_alphanumeric b || (is_one_of (codes ".-_[:]") b || has_stars && b == star)
 
--- the parts of a URL as they are written: its scheme, what precedes `@`, its host, what follows the colon behind
--- the host, and the path with the query and the fragment
+-- the parts of a URL as they are written: its scheme, what precedes `@`, its host, what follows the colon
+-- behind the host, and the path with the query and the fragment
 pub record SplitUrl : Type 0 where
   pub scheme : List ℕ
   pub login : Option (List ℕ)
@@ -105,8 +106,8 @@ abbrev pub escaped : Bool → ℕ → List ℕ
 escaped false b = b ∷ []
 escaped true b = percent ∷ hex_digit (b / 16) ∷ hex_digit (b % 16) ∷ []
 
--- a text, and the same with the escapes that it needs and no others: a byte that is written as it is is escaped if
--- it is unsafe, and an escaped one stays so if it is unsafe or separates parts
+-- a text, and the same with the escapes that it needs and no others: a byte that is written as it is is
+-- escaped if it is unsafe, and an escaped one stays so if it is unsafe or separates parts
 pub data IsNormal : List ℕ → List ℕ → Type 0 where
   done : IsNormal [] []
   plain : {b : ℕ} {rest normal : List ℕ}
@@ -127,8 +128,8 @@ pieces separator [] = []
 pieces separator (b ∷ rest) =
     if b == separator then [] ∷ pieces separator rest else onto b (pieces separator rest)
 
--- Going on by these names leads from the kept names to those at the end: `.` stays, `..` drops the last name, and
--- any other name is kept.
+-- Going on by these names leads from the kept names to those at the end: `.` stays, `..` drops the last name,
+-- and any other name is kept.
 pub data Leads : List (List ℕ) → List (List ℕ) → List (List ℕ) → Type 0 where
   ends : {kept : List (List ℕ)} → Leads kept [] kept
   stays : {kept rest all : List (List ℕ)} {name : List ℕ}
@@ -136,7 +137,8 @@ pub data Leads : List (List ℕ) → List (List ℕ) → List (List ℕ) → Typ
   drops : {kept front rest all : List (List ℕ)} {name : List ℕ} (last : List ℕ)
       → name ≡ codes ".." → kept ≡ front ++ last ∷ [] → Leads front rest all → Leads kept (name ∷ rest) all
   keeps : {kept rest all : List (List ℕ)} {name : List ℕ}
-      → name ≢ codes "." → name ≢ codes ".." → Leads (kept ++ name ∷ []) rest all → Leads kept (name ∷ rest) all
+      → name ≢ codes "." → name ≢ codes ".." → Leads (kept ++ name ∷ []) rest all
+      → Leads kept (name ∷ rest) all
 
 -- the names with a slash before each, and the root for no names
 abbrev pub joined_names : List (List ℕ) → List ℕ
@@ -152,7 +154,8 @@ abbrev pub without_root : List ℕ → List ℕ
 without_root [] = []
 without_root (b ∷ rest) = if b == slash then rest else b ∷ rest
 
--- the text of a path and of what follows it, and its normal form: the names that its names lead to from the root
+-- the text of a path and of what follows it, and its normal form: the names that its names lead to from the
+-- root
 pub record IsPath (text path : List ℕ) : Type 0 where
   pub normal : List ℕ
   pub names : List ℕ
@@ -187,10 +190,12 @@ number_after n (digit ∷ rest) = number_after (n * 10 + (digit - 48)) rest
 abbrev pub IsDefault : List ℕ → ℕ → Type 0
 IsDefault scheme port = ((scheme ≡ codes "http") × (port ≡ 80)) ⊎ ((scheme ≡ codes "https") × (port ≡ 443))
 
--- the digits that are written as a port, and the port: from 1 to 65535, or none for no digits or the scheme's own
+-- the digits that are written as a port, and the port: from 1 to 65535, or none for no digits or the scheme's
+-- own
 abbrev pub IsPort : List ℕ → List ℕ → Option ℕ → Type 0
 IsPort scheme digits None = (digits ≡ []) ⊎ IsDefault scheme (number_after 0 digits)
-IsPort scheme digits (Some port) = (digits ≢ []) × (number_after 0 digits ≡ port) × (0 < port) × (port < 65536)
+IsPort scheme digits (Some port) =
+    (digits ≢ []) × (number_after 0 digits ≡ port) × (0 < port) × (port < 65536)
     × ¬ (IsDefault scheme port)
 
 -- a URL in the form in which Git compares URLs
@@ -234,8 +239,8 @@ closed [] = slash ∷ []
 closed (b ∷ []) = if b == slash then b ∷ [] else b ∷ slash ∷ []
 closed (b ∷ c ∷ rest) = b ∷ closed (c ∷ rest)
 
--- the pattern matches the URL: their schemes and ports are the same, the labels of its host stand for those of the
--- URL, one for one, and its path is that of the URL or of a directory above it
+-- the pattern matches the URL: their schemes and ports are the same, the labels of its host stand for those
+-- of the URL, one for one, and its path is that of the URL or of a directory above it
 pub record Matches (pattern u : Url) : Type 0 where
   pub scheme : pattern.scheme ≡ u.scheme
   pub user : AllowsUser pattern.user u.user
@@ -243,8 +248,8 @@ pub record Matches (pattern u : Url) : Type 0 where
   pub port : pattern.port ≡ u.port
   pub path : (rest : List ℕ) × (u.path ++ slash ∷ [] ≡ closed pattern.path ++ rest)
 
--- how closely a setting fits a URL: the lengths of the host and of the path of its pattern, and whether that names
--- a user
+-- how closely a setting fits a URL: the lengths of the host and of the path of its pattern, and whether that
+-- names a user
 pub record Fit : Type 0 where
   pub host : ℕ
   pub path : ℕ

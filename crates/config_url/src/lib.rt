@@ -348,11 +348,11 @@ fn fit_of(
     }
 }
 
-/// The setting that decides for a URL, as `git config --get-urlmatch` finds it, or `None` if no setting of the key is
-/// of the URL. The key is a section and a name; with a subsection no setting has it. A setting without a subsection is
-/// of every URL, and any other is of those that the pattern in its subsection matches. The one with the longest host in
-/// its pattern decides, then the one with the longest path, then one with a user, and of equals the last. It fails only
-/// if memory is refused.
+/// The setting that decides for a URL, as `git config --get-urlmatch` finds it, or `None` if no setting of
+/// the key is of the URL. The key is a section and a name; with a subsection no setting has it. A setting
+/// without a subsection is of every URL, and any other is of those that the pattern in its subsection
+/// matches. The one with the longest host in its pattern decides, then the one with the longest path, then
+/// one with a user, and of equals the last. It fails only if memory is refused.
 ///
 /// ```rust
 /// use config_file::{Key, Settings};

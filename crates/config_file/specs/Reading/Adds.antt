@@ -1,6 +1,7 @@
 -- What the steps of a walk add to settings.
 use denote.Ref.{Bor}
-use Rattle.std.specs.Prelude.{◌≡◌, ◌≤◌, ◌⊎◌, Contains, Option, None, Some, ℕ, Bool, true, false, List, [], ◌∷◌, ◌++◌, length, map, Result, Ok, Err}
+use Rattle.std.specs.Prelude.{◌≡◌, ◌≤◌, ◌⊎◌, Contains, Option, None, Some, ℕ, Bool, true, false, List, []}
+use Rattle.std.specs.Prelude.{◌∷◌, ◌++◌, length, map, Result, Ok, Err}
 use Rattle.std.specs.declared.alloc.AllocError.{AllocError}
 use Rattle.config_file.specs.File.{Entry}
 use Rattle.config_file.specs.Walk.{Content, Item, Stops, Stop}
@@ -22,7 +23,8 @@ AddsEntry found old new (Err _) = new ≡ old
 -- the text, if there is one, is among these, or it is put behind them
 abbrev pub AddsOnce : Option (List ℕ) → List (List ℕ) → List (List ℕ) → Type 0
 AddsOnce None old new = new ≡ old
-AddsOnce (Some text) old new = (Contains old text × (new ≡ old)) ⊎ (¬ (Contains old text) × (new ≡ old ++ text ∷ []))
+AddsOnce (Some text) old new =
+    (Contains old text × (new ≡ old)) ⊎ (¬ (Contains old text) × (new ≡ old ++ text ∷ []))
 
 -- what the text of a key is: a key that no setting has, a key that this setting decides, or no key
 abbrev pub Decides : List Setting → List ℕ → Result (Option (Bor Setting)) KeyError → Type 0
@@ -34,14 +36,17 @@ Decides settings text (Err error) = RefusesKey text error
 abbrev pub Within : (List ℕ → Content → Type 0) → (List ℕ → Content → Type 0) → Type 0
 Within some all = (name : List ℕ) (content : Content) → some name content → all name content
 
--- with these contents, the walk of the old frames comes to these items, and then goes on as that of the new ones
-abbrev pub Comes : (List ℕ → Content → Type 0) → Known → List Frame → List (List ℕ × Item) → List Frame → Type 0
+-- with these contents, the walk of the old frames comes to these items, and then goes on as that of the new
+-- ones
+abbrev pub Comes : (List ℕ → Content → Type 0) → Known → List Frame → List (List ℕ × Item) → List Frame
+    → Type 0
 Comes contents known old items new = (answers : List (List ℕ × Content)) × Within (Said answers) contents
     × ((more : List (List ℕ × Content)) → Within (Said answers) (Said more) → Passes more known old items new)
 
--- what the next step of a walk adds: an entry; nothing at the end, or if memory is refused; or, where Git stops, an
--- entry or none
-abbrev pub AddsNext : (List ℕ → Content → Type 0) → Known → List Frame → List Frame → List Setting → List Setting
+-- what the next step of a walk adds: an entry; nothing at the end, or if memory is refused; or, where Git
+-- stops, an entry or none
+abbrev pub AddsNext : (List ℕ → Content → Type 0) → Known → List Frame → List Frame → List Setting
+    → List Setting
     → Result Bool AddError → Type 0
 AddsNext contents known from to old new (Ok true) =
     (found : List ℕ × Entry) × AddsEach (found ∷ []) old new × Comes contents known from (found_item found ∷ []) to

@@ -1,5 +1,6 @@
 -- What the pieces of the reader of parameters give.
-use Rattle.std.specs.Prelude.{◌≡◌, ◌≢◌, ◌<◌, ◌≤◌, ℕ, Bool, true, false, List, [], ◌∷◌, ◌++◌, Option, Result, Ok, Err, length, option_map, ⊤}
+use Rattle.std.specs.Prelude.{◌≡◌, ◌≢◌, ◌<◌, ◌≤◌, ℕ, Bool, true, false, List, [], ◌∷◌, ◌++◌, Option, Result}
+use Rattle.std.specs.Prelude.{Ok, Err, length, option_map, ⊤}
 use Rattle.std.specs.declared.vec.Vec.{Vec}
 use Rattle.std.specs.declared.alloc.Global.{Global}
 use Rattle.config_file.specs.declared.key.KeyError.{KeyError}
@@ -10,7 +11,8 @@ use Rattle.config_file.specs.declared.command.Piece.TheVariants.{Byte, Close, En
 use Rattle.config_file.specs.declared.command.CommandError.{CommandError}
 use Rattle.config_file.specs.declared.command.CommandError.TheVariants as error
 use Rattle.config_file.specs.Bytes.{dash, backslash}
-use Rattle.config_file.specs.Command.{Parameter, whole, pair, KeyValue, Quotes, Says, Accepts, AddsSettings, RefusesParameter, plus_sign, single_quote, goes_on}
+use Rattle.config_file.specs.Command.{Parameter, whole, pair, KeyValue, Quotes, Says, Accepts, AddsSettings}
+use Rattle.config_file.specs.Command.{RefusesParameter, plus_sign, single_quote, goes_on}
 
 -- nothing is taken here
 abbrev pub Lacks : {A : Type 0} → (List ℕ → A → List ℕ → Type 0) → List ℕ → Type 0

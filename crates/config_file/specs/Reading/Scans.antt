@@ -1,9 +1,13 @@
 -- What the scans of the reader have passed, and where they go on.
-use Rattle.std.specs.Prelude.{◌≡◌, ◌≢◌, ℕ, Bool, true, false, not, List, [], ◌∷◌, ◌++◌, Option, Some, None, ⊤, ◌&&◌, ◌==◌, if◌then◌else◌, is_some, drop, length}
+use Rattle.std.specs.Prelude.{◌≡◌, ◌≢◌, ℕ, Bool, true, false, not, List, [], ◌∷◌, ◌++◌, Option, Some, None, ⊤}
+use Rattle.std.specs.Prelude.{◌&&◌, ◌==◌, if◌then◌else◌, is_some, drop, length}
 use Rattle.std.specs.List.{list_all}
 use Rattle.config_file.specs.declared.bytes.Class.{Class}
-use Rattle.config_file.specs.declared.bytes.Class.TheVariants.{Name, Key, Blank, Space, Comment, Unescaped, Word, Plain}
-use Rattle.config_file.specs.Bytes.{line_feed, carriage_return, double_quote, backslash, is_name_byte, is_key_byte, is_blank, is_space, is_comment_byte, is_comment_sign, is_text_byte}
+use Rattle.config_file.specs.declared.bytes.Class.TheVariants.{Name, Key, Blank, Space, Comment, Unescaped}
+use Rattle.config_file.specs.declared.bytes.Class.TheVariants.{Word, Plain}
+use Rattle.config_file.specs.Bytes.{line_feed, carriage_return, double_quote, backslash, is_name_byte}
+use Rattle.config_file.specs.Bytes.{is_key_byte, is_blank, is_space, is_comment_byte, is_comment_sign}
+use Rattle.config_file.specs.Bytes.{is_text_byte}
 use Rattle.config_file.specs.Runs.{StopsRun}
 use Rattle.config_file.specs.Subsection.{SpellsSubsection, IsSubsection}
 use Rattle.config_file.specs.Value.{Ending, Spells, SpellsValue, itself, escape, line_feeds}
@@ -40,7 +44,8 @@ is_unescaped b = not (b == backslash)
 abbrev pub is_word_byte : ℕ → Bool
 is_word_byte b = (not (is_blank b) && not (b == double_quote)) && not (b == backslash)
 
--- the scan of a value goes on after this byte, in quotes and outside them, and it is no quote and no backslash
+-- the scan of a value goes on after this byte, in quotes and outside them, and it is no quote and no
+-- backslash
 abbrev pub is_plain_byte : ℕ → Bool
 is_plain_byte b = (goes_on false b && not (b == double_quote)) && not (b == backslash)
 
@@ -86,7 +91,8 @@ abbrev pub append_some : List ℕ → Option ℕ → List ℕ
 append_some value None = value
 append_some value (Some b) = value ++ b ∷ []
 
--- After the first blanks of a value, the scan has passed its text so far, of this length, and then a gap of blanks.
+-- After the first blanks of a value, the scan has passed its text so far, of this length, and then a gap of
+-- blanks.
 pub record PassedPlain (raw start at : List ℕ) (count : ℕ) : Type 0 where
   pub front : List ℕ
   pub gap : List ℕ

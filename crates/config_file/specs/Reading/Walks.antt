@@ -14,7 +14,8 @@ use Rattle.config_file.specs.declared.walk.Step.{Step}
 use Rattle.config_file.specs.declared.walk.Step.TheVariants as step
 use Rattle.config_file.specs.declared.walk.Include.TheVariants as include
 
--- the walk of the frames, from the last to the first: of what is left of the last file, and then of the others
+-- the walk of the frames, from the last to the first: of what is left of the last file, and then of the
+-- others
 pub data LeftOf (contents : List ℕ → Content → Type 0) (known : Known)
     : List Frame → List (List ℕ × Item) → Bool → Type 0 where
   nothing : {whole : Bool} → LeftOf contents known [] [] whole

@@ -22,5 +22,6 @@ BestOf view key u settings best = MatchOption best (LacksFit key u settings)
 abbrev pub TakesNext : {V E : Type 0} → (V → Fit) → Key → Url → Setting → Option (V × Bor Setting)
     → Result (Option (V × Bor Setting)) E → Type 0
 TakesNext view key u setting best result = (settings : List Setting) (text : List ℕ)
-    → IsListed (entry_of setting.entry).section (entry_of setting.entry).key text → BestOf view key u settings best
+    → IsListed (entry_of setting.entry).section (entry_of setting.entry).key text
+    → BestOf view key u settings best
     → IfOk result (BestOf view key u (settings ++ setting ∷ []))

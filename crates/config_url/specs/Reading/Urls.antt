@@ -1,5 +1,6 @@
 -- How the parts of a URL are cut, one after the other.
-use Rattle.std.specs.Prelude.{◌≡◌, ◌↔◌, ℕ, Bool, true, false, not, ◌&&◌, ◌||◌, ◌==◌, List, ◌∷◌, ◌++◌, Option, Some, None, codes}
+use Rattle.std.specs.Prelude.{◌≡◌, ◌↔◌, ℕ, Bool, true, false, not, ◌&&◌, ◌||◌, ◌==◌, List, ◌∷◌, ◌++◌, Option}
+use Rattle.std.specs.Prelude.{Some, None, codes}
 use Rattle.std.specs.List.{list_all}
 use Rattle.config_file.specs.Bytes.{right_bracket}
 use Rattle.config_file.specs.Runs.{Run}

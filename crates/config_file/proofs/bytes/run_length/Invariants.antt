@@ -4,7 +4,8 @@ use Rattle.config_file.specs.Reading.Scans.{passes}
 use Rattle.config_file.proofs.bytes.run_length.Given as goal
 
 abbrev pub invariant-bytes : goal.invariant-bytes
-invariant-bytes l = (l.passed + prefix_len (passes l.class) (drop l.passed l.text) ≡ prefix_len (passes l.class) l.text)
+invariant-bytes l =
+    (l.passed + prefix_len (passes l.class) (drop l.passed l.text) ≡ prefix_len (passes l.class) l.text)
     × (l.passed ≤ length l.text)
 
 abbrev pub decreases-bytes : goal.decreases-bytes

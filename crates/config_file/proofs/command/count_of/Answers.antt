@@ -14,13 +14,15 @@ returns-then-not-are_digits c = (
 pub returns-in-Some : goal.returns-in-Some
 returns-in-Some c =
     let small : c.in-Some.number < 2 ^ 64 = omega arith in
-    let is = number_here c.args.text.now c.after_spaces.result.now c.cut_sign-is_negative.result.1.now c.cut_sign-is_negative.result.0
+    let is =
+    number_here c.args.text.now c.after_spaces.result.now c.cut_sign-is_negative.result.1.now c.cut_sign-is_negative.result.0
     c.after_spaces.ensures c.cut_sign-is_negative.ensures (c.are_digits.ensures.0 c.if-not-are_digits.false) in
     counted c.args.text.now c.cut_sign-is_negative.result.1.now c.cut_sign-is_negative.result.0 c.in-Some.number c.signed.result
     c.limited.result is c.in-Some.ensures small c.signed.ensures c.limited.ensures
 
 pub returns-in-None : goal.returns-in-None
 returns-in-None c =
-    let is = number_here c.args.text.now c.after_spaces.result.now c.cut_sign-is_negative.result.1.now c.cut_sign-is_negative.result.0
+    let is =
+    number_here c.args.text.now c.after_spaces.result.now c.cut_sign-is_negative.result.1.now c.cut_sign-is_negative.result.0
     c.after_spaces.ensures c.cut_sign-is_negative.ensures (c.are_digits.ensures.0 c.if-not-are_digits.false) in
     (c.cut_sign-is_negative.result.0, c.cut_sign-is_negative.result.1.now, is, λ small. absurd (omega (arith, c.in-None.ensures, small)))

@@ -4,7 +4,8 @@ use Rattle.config_file.specs.Runs.{Run}
 use Rattle.config_file.proofs.Commands.{run_both}
 use Rattle.config_file.proofs.command.cut.Goals as goal
 
-run_here : (c : goal.In-Some) → Run is_no_equals c.args.text.now c.split_at.result.0.now c.split_at.result.1.now
+run_here : (c : goal.In-Some)
+    → Run is_no_equals c.args.text.now c.split_at.result.0.now c.split_at.result.1.now
 run_here c =
     run_both is_no_equals c.args.text.now c.split_at.result.0.now c.split_at.result.1.now c.key_length.result
     c.key_length.ensures.count c.split_at.ensures.front c.split_at.ensures.back

@@ -2,7 +2,8 @@ use Rattle.std.proofs.Common.{◌≡◌, ◌≢◌, ◌<◌, [], length, arith, 
 use Rattle.config_file.specs.Command.{AddsSettings, RefusesParameter, format, this}
 use Rattle.config_file.specs.declared.command.CommandError.TheVariants.{BadFormat}
 use Rattle.config_file.specs.Reading.Commands.{parameter_of}
-use Rattle.config_file.proofs.Commands.{none_left, some_left, passed_on, memory_of_format, adds_none, parameter_shortens, settings_next, refused_later, all_settings}
+use Rattle.config_file.proofs.Commands.{none_left, some_left, passed_on, memory_of_format, adds_none}
+use Rattle.config_file.proofs.Commands.{parameter_shortens, settings_next, refused_later, all_settings}
 use Rattle.config_file.proofs.command.lines_of.Goals as goal
 
 pub parameters-init : goal.parameters-init

@@ -22,6 +22,7 @@ returns-in_err-number c =
 
 pub digits-preserved : goal.digits-preserved
 digits-preserved c =
-    let e = number_more c.args.digits.now c.digits.digit-index c.digits.number c.requires c.digits-test.true c.digits.invariant in
+    let e =
+    number_more c.args.digits.now c.digits.digit-index c.digits.number c.requires c.digits-test.true c.digits.invariant in
     let is : c.in_ok-number.number ≡ digits_value 10 (take (c.digits.digit-index + 1) c.args.digits.now) =
     omega (arith, e, c.in_ok-number.ensures, c.in_ok-checked_mul.ensures, c.from.ensures) in is

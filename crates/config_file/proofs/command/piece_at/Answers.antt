@@ -3,7 +3,8 @@ use Rattle.config_file.proofs.Commands.{piece_plain, piece_escaped}
 use Rattle.config_file.proofs.command.piece_at.Goals as goal
 
 pub returns-then-byte-ne39 : goal.returns-then-byte-ne39
-returns-then-byte-ne39 c = piece_plain c.args.text.now c.in-Some.rest.now c.in-Some.byte c.in-Some.ensures c.if-byte-ne39.true
+returns-then-byte-ne39 c =
+    piece_plain c.args.text.now c.in-Some.rest.now c.in-Some.byte c.in-Some.ensures c.if-byte-ne39.true
 
 pub returns-in-Some-escaped : goal.returns-in-Some-escaped
 returns-in-Some-escaped c =

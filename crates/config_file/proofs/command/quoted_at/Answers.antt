@@ -1,4 +1,5 @@
-use Rattle.std.proofs.Common.{◌≡◌, ℕ, List, ◌∷◌, Result, Ok, Err, Option, Some, None, IfOk, MatchOption, subst, sym, refl}
+use Rattle.std.proofs.Common.{◌≡◌, ℕ, List, ◌∷◌, Result, Ok, Err, Option, Some, None, IfOk, MatchOption}
+use Rattle.std.proofs.Common.{subst, sym, refl}
 use Rattle.std.specs.declared.alloc.AllocError.{AllocError}
 use Rattle.config_file.specs.declared.command.Quoted.{Quoted}
 use Rattle.config_file.specs.Command.{Quotes, TakesQuoted, opens}
@@ -10,8 +11,10 @@ opened : (text inner : List ℕ) → text ≡ 39 ∷ inner → (result : Result 
     → IfOk result (λ found. MatchOption found (Lacks Quotes inner) (λ quoted. Quotes inner quoted.text.items quoted.rest.now))
     → IfOk result (λ found. MatchOption found (Lacks TakesQuoted text) (λ quoted. TakesQuoted text quoted.text.items quoted.rest.now))
 opened text inner e (Ok None) lacks = not_opened text inner e lacks
-opened text inner e (Ok (Some quoted)) takes = subst (λ t. TakesQuoted t quoted.text.items quoted.rest.now) (sym e) (opens refl takes)
+opened text inner e (Ok (Some quoted)) takes =
+    subst (λ t. TakesQuoted t quoted.text.items quoted.rest.now) (sym e) (opens refl takes)
 opened text inner e (Err refused) h = h
 
 pub returns-in-Some : goal.returns-in-Some
-returns-in-Some c = opened c.args.text.now c.in-Some.inner.now c.in-Some.ensures c.closed.result c.closed.ensures
+returns-in-Some c =
+    opened c.args.text.now c.in-Some.inner.now c.in-Some.ensures c.closed.result c.closed.ensures

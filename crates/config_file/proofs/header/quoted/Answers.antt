@@ -1,5 +1,6 @@
 use Rattle.std.proofs.Common.{rules}
-use Rattle.config_file.proofs.Subsections.{passed_none, passed_plain, passed_escaped, takes, stops_here, stops_after_backslash, plain_byte}
+use Rattle.config_file.proofs.Subsections.{passed_none, passed_plain, passed_escaped, takes, stops_here}
+use Rattle.config_file.proofs.Subsections.{stops_after_backslash, plain_byte}
 use Rattle.config_file.proofs.header.quoted.Goals as goal
 
 pub bytes-init : goal.bytes-init

@@ -21,8 +21,10 @@ returns-in_default c =
 
 pub returns-in_err-subsection : goal.returns-in_err-subsection
 returns-in_err-subsection c =
-    let (stop, is, same) = err_from_is_err_and c.from_residual-in_err-subsection.result c.from_residual-in_err-subsection.ensures.1 in
+    let (stop, is, same) =
+    err_from_is_err_and c.from_residual-in_err-subsection.result c.from_residual-in_err-subsection.ensures.1 in
     rw (is, same) (subsection (opened _ _ _ c.run.ensures c.run-2.ensures (search rules) c.in-Some.ensures) c.in_err-subsection.ensures)
 
 pub returns : goal.returns
-returns c = quoted (opened _ _ _ c.run.ensures c.run-2.ensures (search rules) c.in-Some.ensures) c.in_ok-subsection.ensures
+returns c =
+    quoted (opened _ _ _ c.run.ensures c.run-2.ensures (search rules) c.in-Some.ensures) c.in_ok-subsection.ensures

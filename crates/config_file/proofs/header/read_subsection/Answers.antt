@@ -13,4 +13,5 @@ pub returns-then-is_at_line_end : goal.returns-then-is_at_line_end
 returns-then-is_at_line_end c = closed_at_line_end c.in-Ok.ensures (search rules)
 
 pub returns : goal.returns
-returns c = rw (c.stop_at-2.ensures.lines, c.stop_at-2.ensures.fault) (closed c.in-Ok.ensures c.in_default.ensures (search rules))
+returns c =
+    rw (c.stop_at-2.ensures.lines, c.stop_at-2.ensures.fault) (closed c.in-Ok.ensures c.in_default.ensures (search rules))

@@ -6,5 +6,6 @@ use Rattle.config_file.proofs.include.matches_dir.Goals as goal
 
 pub returns-in_ok-push_below-in-Some : goal.returns-in_ok-push_below-in-Some
 returns-in_ok-push_below-in-Some c =
-    let near = strip_prefix_is Decides-eqb c.args.pattern.now (codes "./") (Some c.in-Some.rest) c.in-Some.ensures.cases in
+    let near =
+    strip_prefix_is Decides-eqb c.args.pattern.now (codes "./") (Some c.in-Some.rest) c.in-Some.ensures.cases in
     is_near c.args.pattern.now near c.in_ok-whole-in-Some.ensures c.in_ok-push_below-in-Some.ensures (rw c.deref.ensures.value at c.matches_below.ensures)

@@ -8,6 +8,7 @@ returns-in_default-clause-stops c = stops_at_end c.items.at.text.now c.in_defaul
 
 pub items-preserved : goal.items-preserved
 items-preserved c = record {
-  follows = follows_more c.items.at.text.now c.items.invariant.follows c.in-Some.ensures c.in-Some-after_item.ensures;
+  follows =
+      follows_more c.items.at.text.now c.items.invariant.follows c.in-Some.ensures c.in-Some-after_item.ensures;
   within = let short = item_shortens c.in-Some-after_item.ensures in omega arith;
 }

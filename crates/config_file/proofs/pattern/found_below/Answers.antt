@@ -17,5 +17,6 @@ returns-in_default-split-clause-is c = λ later.
 pub places-preserved : goal.places-preserved
 places-preserved c = record {
   there = λ later. c.places.invariant.there (later_step c.places.at.now c.in-Some.ensures refl later);
-  back = λ later. later_back c.places.at.now c.in-Some.ensures c.in-Nothing.ensures.is (c.places.invariant.back later);
+  back =
+      λ later. later_back c.places.at.now c.in-Some.ensures c.in-Nothing.ensures.is (c.places.invariant.back later);
 }

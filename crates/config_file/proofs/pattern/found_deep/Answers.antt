@@ -11,7 +11,8 @@ returns-then-crosses-clause-is c =
     c.steps.found c.in-Stars.at c.in-Stars.is c.steps.invariant.is c.stars.ensures (sym c.crosses.ensures ∙ c.if-crosses.true)
 
 pub steps-smaller : goal.steps-smaller
-steps-smaller c = smaller c.steps.found c.found_later-found.result c.in-Stars.at c.in-Stars.is c.stars.ensures c.found_later-found.ensures.shorter
+steps-smaller c =
+    smaller c.steps.found c.found_later-found.result c.in-Stars.at c.in-Stars.is c.stars.ensures c.found_later-found.ensures.shorter
 
 pub steps-preserved : goal.steps-preserved
 steps-preserved c = record {
@@ -20,6 +21,7 @@ steps-preserved c = record {
       c.steps.found c.in-Stars.at c.in-Stars.is c.steps.invariant.is c.stars.ensures (sym c.crosses.ensures ∙ c.if-crosses.false)
       (λ m. inl m) c.found_later-found.result c.found_later-found.ensures.is;
   shorter =
-      let less = smaller c.steps.found c.found_later-found.result c.in-Stars.at c.in-Stars.is c.stars.ensures c.found_later-found.ensures.shorter in
+      let less =
+      smaller c.steps.found c.found_later-found.result c.in-Stars.at c.in-Stars.is c.stars.ensures c.found_later-found.ensures.shorter in
       omega (arith, less, c.steps.invariant.shorter);
 }

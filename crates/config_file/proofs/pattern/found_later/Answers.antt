@@ -22,6 +22,8 @@ pub places-preserved : goal.places-preserved
 places-preserved c = record {
   there = λ later. c.places.invariant.there
       (later_step c.places.at.now c.in-Some.ensures (passes_other c.in-Some.byte c.if-byte-eq47.false) later);
-  back = λ later. later_back c.places.at.now c.in-Some.ensures c.in-Nothing.ensures.is (c.places.invariant.back later);
-  from = λ d f. from_back c.places.at.now c.in-Some.ensures c.in-Nothing.ensures.is (c.places.invariant.from d f);
+  back =
+      λ later. later_back c.places.at.now c.in-Some.ensures c.in-Nothing.ensures.is (c.places.invariant.back later);
+  from =
+      λ d f. from_back c.places.at.now c.in-Some.ensures c.in-Nothing.ensures.is (c.places.invariant.from d f);
 }

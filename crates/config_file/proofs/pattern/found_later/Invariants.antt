@@ -5,9 +5,12 @@ use Rattle.config_file.proofs.pattern.found_later.Given as goal
 
 abbrev pub invariant-places : goal.invariant-places
 invariant-places l = record {
-  there : MatchesLater l.fn.ignores_case false l.fn.pattern l.at → MatchesLater l.fn.ignores_case false l.fn.pattern l.fn.text;
-  back : MatchesLater l.fn.ignores_case false l.fn.pattern l.fn.text → MatchesLater l.fn.ignores_case false l.fn.pattern l.at;
-  from : (c : Bool) → FromHere l.fn.ignores_case c false l.fn.pattern l.fn.text → FromHere l.fn.ignores_case c false l.fn.pattern l.at;
+  there : MatchesLater l.fn.ignores_case false l.fn.pattern l.at
+      → MatchesLater l.fn.ignores_case false l.fn.pattern l.fn.text;
+  back : MatchesLater l.fn.ignores_case false l.fn.pattern l.fn.text
+      → MatchesLater l.fn.ignores_case false l.fn.pattern l.at;
+  from : (c : Bool) → FromHere l.fn.ignores_case c false l.fn.pattern l.fn.text
+      → FromHere l.fn.ignores_case c false l.fn.pattern l.at;
 }
 
 abbrev pub decreases-places : goal.decreases-places

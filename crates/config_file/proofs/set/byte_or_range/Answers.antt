@@ -12,7 +12,8 @@ returns-after-is_first c =
     range c.in_ok-first.first c.in-Some.last c.in_ok-first.after.now c.requires c.in_ok-first.ensures c.in-Some.ensures
     (elim c.if-is_first.branch [
       | then-is_first w ↦ w.result-is ∙ is_first _ _ _ _ w.if-is_first.true c.folded.ensures
-      | else-is_first w ↦ w.result-is ∙ w.range_has.ensures ∙ is_no_first _ _ _ (λ e. w.if-is_first.false (e ∙ sym c.folded.ensures))
+      | else-is_first w ↦
+          w.result-is ∙ w.range_has.ensures ∙ is_no_first _ _ _ (λ e. w.if-is_first.false (e ∙ sym c.folded.ensures))
     ])
 
 pub returns-in-None : goal.returns-in-None

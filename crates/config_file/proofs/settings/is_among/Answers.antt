@@ -7,12 +7,14 @@ pub loop-other-init : goal.loop-other-init
 loop-other-init c = among_first (λ text. text.items) c.args.texts.now c.args.text.now
 
 pub loop-other-preserved : goal.loop-other-preserved
-loop-other-preserved c = among_no_more (λ text. text.items) c.args.texts.now c.loop-other.other-index c.other-item.result
+loop-other-preserved c =
+    among_no_more (λ text. text.items) c.args.texts.now c.loop-other.other-index c.other-item.result
     c.args.text.now (at_index c.args.texts.now c.loop-other.other-index c.other-item.result (search rules) (search rules))
     (search rules) (λ same. search rules) c.loop-other.invariant
 
 pub returns : goal.returns
-returns c = among_none (λ text. text.items) c.args.texts.now c.loop-other.other-index c.args.text.now (search rules)
+returns c =
+    among_none (λ text. text.items) c.args.texts.now c.loop-other.other-index c.args.text.now (search rules)
     c.loop-other.invariant
 
 pub returns-then-eq : goal.returns-then-eq

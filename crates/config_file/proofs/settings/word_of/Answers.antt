@@ -11,7 +11,8 @@ loop-word-preserved c = word_no_more c.args.words.now c.loop-word.word-index _ c
     c.if-is_word.ensures c.loop-word.invariant
 
 pub returns : goal.returns
-returns c = among_none (λ word. word.now) c.args.words.now c.loop-word.word-index c.args.text.now (search rules)
+returns c =
+    among_none (λ word. word.now) c.args.words.now c.loop-word.word-index c.args.text.now (search rules)
     c.loop-word.invariant
 
 pub returns-then-is_word : goal.returns-then-is_word

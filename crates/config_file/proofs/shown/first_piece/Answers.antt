@@ -13,5 +13,6 @@ returns c =
       shown =
           rw (c.decode-character.ensures.char, c.split_at.ensures.front, c.split_at.ensures.back, c.decode-character.ensures.size)
           (shown_front c.args.text.now some);
-      shorter = rw (c.split_at.ensures.back, c.decode-character.ensures.size) (shorter_rest c.args.text.now some);
+      shorter =
+          rw (c.split_at.ensures.back, c.decode-character.ensures.size) (shorter_rest c.args.text.now some);
     }

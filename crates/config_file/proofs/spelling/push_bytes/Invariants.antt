@@ -4,4 +4,5 @@ use Rattle.config_file.specs.Spelling.{spelled_byte}
 use Rattle.config_file.proofs.spelling.push_bytes.Given as goal
 
 abbrev pub invariant-bytes : goal.invariant-bytes
-invariant-bytes l = l.spelling.items ≡ l.fn.spelling.items ++ flat_map spelled_byte (take l.byte-index l.value)
+invariant-bytes l =
+    l.spelling.items ≡ l.fn.spelling.items ++ flat_map spelled_byte (take l.byte-index l.value)

@@ -13,7 +13,8 @@ written : (c : goal.In_ok-push_line)
 written c =
     let header = 91 ∷ spelled_section c.args.name.now (option_copied c.args.subsection) in
     let line = spelled_line c.args.key.now (option_copied c.args.value) in
-    let first : c.push_header.new.spelling.items ≡ header = c.in_ok-push_header.ensures ∙ ap (λ x. x ++ header) c.new-line.ensures.items in
+    let first : c.push_header.new.spelling.items ≡ header =
+    c.in_ok-push_header.ensures ∙ ap (λ x. x ++ header) c.new-line.ensures.items in
     c.in_ok-push_line.ensures ∙ ap (λ x. x ++ line) first
 
 pub returns-clause-adds : goal.returns-clause-adds

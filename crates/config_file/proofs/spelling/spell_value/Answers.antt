@@ -11,5 +11,6 @@ returns c =
     let value = c.args.value.now in
     let written : c.push_as_git.new.spelling.items ≡ git_spelled value =
     c.in_ok-push_as_git.ensures ∙ ap (λ x. x ++ git_spelled value) c.new-spelling.ensures.items in
-    let is : IsGitSpelling c.push_as_git.new.spelling.items value = (rw written (git_spelling value (search rules)), written) in
+    let is : IsGitSpelling c.push_as_git.new.spelling.items value =
+    (rw written (git_spelling value (search rules)), written) in
     is

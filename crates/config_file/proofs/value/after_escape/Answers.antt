@@ -10,4 +10,5 @@ pub returns-then-letter-eq10 : goal.returns-then-letter-eq10
 returns-then-letter-eq10 c = line c.in_ok-letter.ensures c.if-letter-eq10.true
 
 pub returns-then-letter-eq13 : goal.returns-then-letter-eq13
-returns-then-letter-eq13 c = line_end_after_return c.in_ok-letter.ensures c.in_ok-after.ensures c.if-letter-eq13.true refl
+returns-then-letter-eq13 c =
+    line_end_after_return c.in_ok-letter.ensures c.in_ok-after.ensures c.if-letter-eq13.true refl

@@ -3,4 +3,5 @@ use Rattle.config_url.proofs.UrlMatches.{read_is}
 use Rattle.config_url.proofs.Url.read.Goals as goal
 
 pub returns-in-Some : goal.returns-in-Some
-returns-in-Some c = read_is url_of (parts_of c.in-Some.parts) c.of_parts.result c.in-Some.ensures c.of_parts.ensures
+returns-in-Some c =
+    read_is url_of (parts_of c.in-Some.parts) c.of_parts.result c.in-Some.ensures c.of_parts.ensures

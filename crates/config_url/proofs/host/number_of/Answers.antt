@@ -4,7 +4,8 @@ use Rattle.config_url.proofs.host.number_of.Goals as goal
 
 pub returns-then-number-gt65535 : goal.returns-then-number-gt65535
 returns-then-number-gt65535 c =
-    let next = number_next c.digits.number c.in-Some.digit c.digits.rest.now c.in-Some.after.now c.in-Some.ensures in
+    let next =
+    number_next c.digits.number c.in-Some.digit c.digits.rest.now c.in-Some.after.now c.in-Some.ensures in
     let grows = number_grows (c.digits.number * 10 + (c.in-Some.digit - 48)) c.in-Some.after.now in
     subst (λ n. 65536 ≤ n) (sym next ∙ c.digits.invariant.same) (omega (arith, grows, c.if-number-gt65535.true))
 

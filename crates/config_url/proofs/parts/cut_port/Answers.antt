@@ -1,4 +1,5 @@
-use Rattle.std.proofs.Common.{rules, refl, length, drop, take, ◌-◌, ◌+◌, arith, ◌≡◌, ◌≢◌, get_or, ◌∙◌, ap, ◌∷◌, ◌++◌}
+use Rattle.std.proofs.Common.{rules, refl, length, drop, take, ◌-◌, ◌+◌, arith, ◌≡◌, ◌≢◌, get_or, ◌∙◌, ap}
+use Rattle.std.proofs.Common.{◌∷◌, ◌++◌}
 use Rattle.std.proofs.lemmas.List.{take_all, length-drop}
 use Rattle.config_url.proofs.UrlParts.{last_port, all_ports, whole_none, whole_bracket, bracket_byte}
 use Rattle.config_url.proofs.parts.cut_port.Goals as goal

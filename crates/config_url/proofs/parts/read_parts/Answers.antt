@@ -7,7 +7,8 @@ pub returns-in_err-parts : goal.returns-in_err-parts
 returns-in_err-parts c = rw c.from_residual.ensures (unwritten c.in_err-parts.ensures)
 
 pub returns-then-not-are_host_bytes : goal.returns-then-not-are_host_bytes
-returns-then-not-are_host_bytes c = wrong_host (parts_of c.in_ok-parts.parts) c.in_ok-parts.ensures (search rules)
+returns-then-not-are_host_bytes c =
+    wrong_host (parts_of c.in_ok-parts.parts) c.in_ok-parts.ensures (search rules)
 
 pub returns-then-not-are_digits : goal.returns-then-not-are_digits
 returns-then-not-are_digits c = wrong_port (parts_of c.in_ok-parts.parts) c.in_ok-parts.ensures (search rules)

@@ -7,20 +7,23 @@ pub overflow_add-self : goal.overflow_add-self
 overflow_add-self c =
     let (b, rest, is, letter) = c.requires in
     let bound = entry_bound_at c.args.self.now.rest.now is letter c.in-Ok.ensures in
-    let fits : c.args.self.now.line + length c.args.self.now.rest.now < 2 ^ 63 + 2 = c.args.self.now.line_fits in
+    let fits : c.args.self.now.line + length c.args.self.now.rest.now < 2 ^ 63 + 2 =
+    c.args.self.now.line_fits in
     omega arith
 
 pub invariant_of-self : goal.invariant_of-self
 invariant_of-self c =
     let (b, rest, is, letter) = c.requires in
     let bound = entry_bound_at c.args.self.now.rest.now is letter c.in-Ok.ensures in
-    let fits : c.args.self.now.line + length c.args.self.now.rest.now < 2 ^ 63 + 2 = c.args.self.now.line_fits in
+    let fits : c.args.self.now.line + length c.args.self.now.rest.now < 2 ^ 63 + 2 =
+    c.args.self.now.line_fits in
     omega arith
 
 pub refused-requires : goal.refused-requires
 refused-requires c =
     let bound = entry_stops_bound c.in-Err.ensures in
-    let fits : c.args.self.now.line + length c.args.self.now.rest.now < 2 ^ 63 + 2 = c.args.self.now.line_fits in
+    let fits : c.args.self.now.line + length c.args.self.now.rest.now < 2 ^ 63 + 2 =
+    c.args.self.now.line_fits in
     omega arith
 
 pub returns-in-Ok-clause-gives : goal.returns-in-Ok-clause-gives

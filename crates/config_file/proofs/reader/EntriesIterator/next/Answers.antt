@@ -1,13 +1,15 @@
 use Rattle.std.proofs.Common.{arith, rules, length, ap, ◌+◌, ◌<◌, ◌^◌, ◌∙◌, []}
 use Rattle.config_file.proofs.Bounds.{header_shortens, header_stops_soon, run_shortens}
-use Rattle.config_file.proofs.Readings.{at_blank, at_line_end, at_comment, at_header, header_refused, no_item, none_left, gives_from, begins_none}
+use Rattle.config_file.proofs.Readings.{at_blank, at_line_end, at_comment, at_header, header_refused, no_item}
+use Rattle.config_file.proofs.Readings.{none_left, gives_from, begins_none}
 use Rattle.config_file.proofs.reader.EntriesIterator.next.Goals as goal
 
 pub items-preserved-then-is_blank : goal.items-preserved-then-is_blank
 items-preserved-then-is_blank c =
     let all = ap length c.in-Some.ensures in
     record {
-      same = λ left error h. c.items.invariant.same left error (at_blank left error _ c.in-Some.ensures (search rules) h);
+      same =
+          λ left error h. c.items.invariant.same left error (at_blank left error _ c.in-Some.ensures (search rules) h);
       shorter = omega arith;
     }
 
@@ -15,7 +17,8 @@ pub items-preserved-then-byte-eq10 : goal.items-preserved-then-byte-eq10
 items-preserved-then-byte-eq10 c =
     let all = ap length c.in-Some.ensures in
     record {
-      same = λ left error h. c.items.invariant.same left error (at_line_end left error _ c.in-Some.ensures c.if-byte-eq10.true h);
+      same =
+          λ left error h. c.items.invariant.same left error (at_line_end left error _ c.in-Some.ensures c.if-byte-eq10.true h);
       shorter = omega arith;
     }
 
@@ -24,7 +27,8 @@ items-preserved-then-is_comment_sign c =
     let all = ap length c.in-Some.ensures in
     let less = run_shortens c.run.ensures in
     record {
-      same = λ left error h. c.items.invariant.same left error (at_comment left error _ c.in-Some.ensures (search rules) c.run.ensures h);
+      same =
+          λ left error h. c.items.invariant.same left error (at_comment left error _ c.in-Some.ensures (search rules) c.run.ensures h);
       shorter = omega arith;
     }
 
@@ -46,7 +50,8 @@ items-preserved c =
     let less = header_shortens c.in-Ok.ensures in
     let all = ap length c.in-Some.ensures in
     record {
-      same = λ left error h. c.items.invariant.same left error (at_header left error _ c.in-Some.ensures c.if-byte-eq91.true c.in-Ok.ensures h);
+      same =
+          λ left error h. c.items.invariant.same left error (at_header left error _ c.in-Some.ensures c.if-byte-eq91.true c.in-Ok.ensures h);
       shorter = omega arith;
     }
 
@@ -66,7 +71,8 @@ returns-then-is_ascii_alphabetic-clause-steps c =
 
 pub returns-else-is_ascii_alphabetic-clause-steps : goal.returns-else-is_ascii_alphabetic-clause-steps
 returns-else-is_ascii_alphabetic-clause-steps c =
-    let other = begins_none c.in-Some.byte (search rules) c.if-byte-eq10.false (search rules) c.if-byte-eq91.false (search rules) in
+    let other =
+    begins_none c.in-Some.byte (search rules) c.if-byte-eq10.false (search rules) c.if-byte-eq91.false (search rules) in
     let error = c.refused-else-is_ascii_alphabetic in
     (c.items.invariant.same _ _ (no_item _ _ c.in-Some.ensures other error.ensures.line (error.ensures.fault ∙ c.fault_at-fault.ensures)), error.ensures.left)
 

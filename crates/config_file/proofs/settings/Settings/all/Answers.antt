@@ -21,4 +21,5 @@ loop-setting-preserved c =
     ]) c.loop-setting.invariant
 
 pub returns : goal.returns
-returns c = picks_done c.args.self.now.entries.items c.loop-setting.setting-index (search rules) c.loop-setting.invariant
+returns c =
+    picks_done c.args.self.now.entries.items c.loop-setting.setting-index (search rules) c.loop-setting.invariant

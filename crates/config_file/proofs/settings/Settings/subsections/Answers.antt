@@ -17,4 +17,5 @@ loop-setting-preserved c =
     (search rules) c.in_ok-subsection.ensures (search rules) c.loop-setting.invariant
 
 pub returns : goal.returns
-returns c = subs_done c.args.self.now.entries.items c.loop-setting.setting-index (search rules) c.loop-setting.invariant
+returns c =
+    subs_done c.args.self.now.entries.items c.loop-setting.setting-index (search rules) c.loop-setting.invariant

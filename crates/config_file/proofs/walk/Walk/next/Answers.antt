@@ -28,4 +28,5 @@ returns-in-Some-clause-takes c = λ answers.
     c.in_ok-include.ensures
 
 pub returns-clause-takes : goal.returns-clause-takes
-returns-clause-takes c = λ answers. (search rules, λ items whole has. c.frames.invariant.0 answers items whole (search rules))
+returns-clause-takes c =
+    λ answers. (search rules, λ items whole has. c.frames.invariant.0 answers items whole (search rules))
