@@ -27,12 +27,27 @@ fn both(alloc: Global) -> Result<Settings<'static>, Fail> {
     Ok(settings)
 }
 
-/// The keys of settings, as Git lists them, each with a space behind it.
-fn keys(alloc: Global, settings: &[&Setting<'_>]) -> Result<Vec<u8>, AllocError> {
+/// Appends the key of a setting, as Git lists it, and a space.
+fn push_key(alloc: Global, keys: &mut Vec<u8>, setting: &Setting<'_>) -> Result<(), AllocError> {
+    keys.extend_from_slice(&setting.entry.key_text(alloc)?)?;
+    keys.push(b' ')?;
+    Ok(())
+}
+
+/// The keys that begin with a prefix.
+fn below(alloc: Global, settings: &Settings<'_>, prefix: &str) -> Result<Vec<u8>, AllocError> {
     let mut keys = Vec::new(alloc);
-    for setting in settings {
-        keys.extend_from_slice(&setting.entry.key_text(alloc)?)?;
-        keys.push(b' ')?;
+    for setting in settings.below(alloc, prefix.as_bytes())? {
+        push_key(alloc, &mut keys, setting)?;
+    }
+    Ok(keys)
+}
+
+/// The keys of the settings of a scope.
+fn in_scope(alloc: Global, settings: &Settings<'_>, scope: Scope) -> Result<Vec<u8>, AllocError> {
+    let mut keys = Vec::new(alloc);
+    for setting in settings.in_scope(alloc, scope)? {
+        push_key(alloc, &mut keys, setting)?;
     }
     Ok(keys)
 }
@@ -65,11 +80,11 @@ fn lists_settings_and_subsections(rt: HostRuntime) -> Result<(), Fail> {
     assert!(rt; Settings::new(alloc).scope == Scope::Command);
     for row in BELOW.lines() {
         let (prefix, wanted) = row.split_once(": ").ok_or("a prefix")?;
-        let given = keys(alloc, &settings.below(alloc, prefix.as_bytes())?)?;
+        let given = below(alloc, &settings, prefix)?;
         equal(&rt, BStr::new(&given), BStr::from(wanted), prefix);
     }
     for (scope, wanted) in SCOPES {
-        let given = keys(alloc, &settings.in_scope(alloc, scope)?)?;
+        let given = in_scope(alloc, &settings, scope)?;
         equal(&rt, BStr::new(&given), BStr::from(wanted), wanted);
     }
     assert!(rt; settings.subsections(alloc, b"remote")?.is_empty());
