@@ -1,5 +1,5 @@
 -- Values that stand in the place of others.
-use Rattle.std.proofs.Common.{◌≡◌, ◌≢◌, ℕ, Bool, true, false, List, [], ◌∷◌, ◌++◌, Option, Some, None, refl}
+use Rattle.std.proofs.Common.{◌≡◌, ◌≢◌, ℕ, ◌+◌, Bool, true, false, List, [], ◌∷◌, ◌++◌, Option, Some, None, refl}
 use Rattle.std.proofs.Common.{sym, ap, ◌∙◌, subst, append_assoc, append-nil, arith, inl, inr, ◌⊎◌, true≢false}
 use Rattle.std.specs.List.{list_all}
 use Rattle.std.specs.Char.{is_ascii_alphabetic}
@@ -17,7 +17,7 @@ use Rattle.config_file.specs.Value.{TakesValue, closed, open_end, EndsValue, lin
 use Rattle.config_file.specs.File.{TakesKey, TakesEntry, alone, valued}
 use Rattle.config_edit.specs.Edit as spec
 use Rattle.config_edit.specs.Edit.{HasValue, IsGap, PutsValue, value_bytes}
-use Rattle.config_edit.specs.Reading.{IsPutIn, IsSet}
+use Rattle.config_edit.specs.Reading.{HasHow, IsPutIn, IsSet}
 use Rattle.config_edit.specs.Edit.{AreBlank, IsTail, IsEntry, IsComment, absent, present}
 use Rattle.config_file.specs.Bytes.{BeginsWithLetter}
 use Rattle.config_file.specs.Reading.Spellings.{is_spellable}
@@ -51,10 +51,10 @@ blanks_end : {w : ℕ → ℕ} {text held : List ℕ} (trail : List ℕ) → Are
 blanks_end [] all = value.ends_outside
 blanks_end (b ∷ trail) all = value.blank (first_blank b trail all) (blanks_end trail (other_blanks b trail all))
 
-inside_is_not_outside : inside ≡ outside → ⊥
+pub inside_is_not_outside : inside ≡ outside → ⊥
 inside_is_not_outside e = cc
 
-backslash_is_not_outside : at_backslash ≡ outside → ⊥
+pub backslash_is_not_outside : at_backslash ≡ outside → ⊥
 backslash_is_not_outside e = cc
 
 before_trail : {w : ℕ → ℕ} {q : Bool} {held raw text so_far : List ℕ} {ending : Ending} (trail : List ℕ)
@@ -104,11 +104,11 @@ put_between lead rest core trail value spellable run some joined all last =
           (spec.in_place lead trail run.pass (no_core trail rest run some joined all, begins, last) all (spelling, refl));
     }
 
-gap_blank : (gap : List ℕ) → IsGap gap → AreBlank gap
+pub gap_blank : (gap : List ℕ) → IsGap gap → AreBlank gap
 gap_blank gap (inl none) = rw none refl
 gap_blank gap (inr space) = rw space refl
 
-parts_blank : (a b : List ℕ) → AreBlank (a ++ b) → AreBlank a × AreBlank b
+pub parts_blank : (a b : List ℕ) → AreBlank (a ++ b) → AreBlank a × AreBlank b
 parts_blank a b all =
     and_parts (list_all is_blank a) (list_all is_blank b) (sym (list_all-append is_blank a b) ∙ all)
 
@@ -147,6 +147,8 @@ letter_before (x ∷ front) b after other (c, more, e, letter) =
 -- what precedes the value of an entry, which may have another value there, before another rest
 pub record CanHold (key raw at front : List ℕ) : Type 0 where
   pub start : List ℕ
+  pub before : List ℕ
+  pub start_is : start ≡ before ++ 61 ∷ []
   pub joined : front ≡ start ++ raw
   pub ends : EndsValue at
   pub holds : (put value other : List ℕ) → SpellsValue put value outside → EndsValue other
@@ -171,6 +173,8 @@ can_hold {text = text} {key = key} {raw = raw} {at = at} front joined e begins (
     ∙ sym (append_assoc before (61 ∷ []) (raw ++ at)) ∙ sym (append_assoc start raw at) in
     record {
       start = start;
+      before = before;
+      start_is = refl;
       joined = append_cancel_right front (start ++ raw) at whole;
       ends = ends;
       holds = λ put value other spells ends_now.
@@ -234,6 +238,7 @@ value_changed {parts = parts} {piece = piece} raw value put start held e bytes_i
           gone = e.front;
           now = inner ++ put;
           tail = e.tail;
+          left = e.left;
           bytes_are = e.joined;
           put_is = ap (λ s. s ++ (put ++ e.tail)) (sym start_is) ∙ append_assoc blanks inner (put ++ e.tail)
               ∙ ap (λ x. blanks ++ x) (sym (append_assoc inner put e.tail));
@@ -309,7 +314,7 @@ letter_in_front [] at other (b, more, e, letter) end =
 letter_in_front (x ∷ front) at other (b, more, e, letter) end =
     let same : b ≡ x = cc in (x, front ++ other, refl, subst (λ y. is_ascii_alphabetic y ≡ true) same letter)
 
-with_value : {text key at : List ℕ} {lines : ℕ} {held : Option (List ℕ)} (front gap raw value : List ℕ)
+pub with_value : {text key at : List ℕ} {lines : ℕ} {held : Option (List ℕ)} (front gap raw value : List ℕ)
     {rest : List ℕ}
     → text ≡ front ++ at → held ≡ None → BeginsWithLetter text
     → TakesEntry text key held lines at → IsGap gap → SpellsValue raw value outside → EndsValue rest
@@ -393,6 +398,7 @@ value_given {parts = parts} {piece = piece} {value = value} {gap = gap} held e s
           gone = e.front;
           now = e.front ++ put;
           tail = e.tail;
+          left = e.left;
           bytes_are = e.joined;
           put_is = append_assoc blanks e.front (put ++ e.tail) ∙ ap (λ x. blanks ++ x) (sym (append_assoc e.front put e.tail));
           gives = record {
@@ -410,36 +416,42 @@ value_given {parts = parts} {piece = piece} {value = value} {gap = gap} held e s
     }
 
 -- an entry that has the value already
-value_spelled : {after raw at : List ℕ} {lines : ℕ} → TakesValue after raw lines at
-    → (spelled : List ℕ) × HasValue (Some raw) spelled
-value_spelled (closed {value = spelled} joined spells ends) = (spelled, (outside, spells))
-value_spelled (open_end {value = spelled} spells) = (spelled, (at_backslash, spells))
+how_spelled : {after raw at : List ℕ} {lines : ℕ} → TakesValue after raw lines at
+    → (spelled : List ℕ) × ((SpellsValue raw spelled outside × (lines ≡ line_feeds raw))
+    ⊎ (SpellsValue raw spelled at_backslash × (lines ≡ line_feeds raw + 1)))
+how_spelled (closed {value = spelled} joined spells ends) = (spelled, inl (spells, refl))
+how_spelled (open_end {value = spelled} spells) = (spelled, inr (spells, refl))
 
-value_of_entry : {text key raw at : List ℕ} {lines : ℕ} {held : Option (List ℕ)} → held ≡ Some raw
-    → TakesEntry text key held lines at → (spelled : List ℕ) × HasValue (Some raw) spelled
-value_of_entry e (alone takes end) = cc
-value_of_entry {raw = raw} e (valued {raw = raw_too} takes is taken) =
+how_entry_spelled : {text key raw at : List ℕ} {lines : ℕ} {held : Option (List ℕ)} → held ≡ Some raw
+    → TakesEntry text key held lines at
+    → (spelled : List ℕ) × ((SpellsValue raw spelled outside × (lines ≡ line_feeds raw))
+    ⊎ (SpellsValue raw spelled at_backslash × (lines ≡ line_feeds raw + 1)))
+how_entry_spelled e (alone takes end) = cc
+how_entry_spelled {raw = raw} {lines = lines} e (valued {raw = raw_too} takes is taken) =
     let same : raw_too ≡ raw =
-    cc in subst (λ r. (spelled : List ℕ) × HasValue (Some r) spelled) same (value_spelled taken)
+    cc in subst (λ r. (spelled : List ℕ) × ((SpellsValue r spelled outside × (lines ≡ line_feeds r))
+    ⊎ (SpellsValue r spelled at_backslash × (lines ≡ line_feeds r + 1)))) same (how_spelled taken)
 
+-- what the value of an entry is
 pub spelled_of : {text key at : List ℕ} {lines : ℕ} (held : Option (List ℕ))
     → TakesEntry text key held lines at
-    → (held ≡ None) ⊎ ((raw spelled : List ℕ) × (ending : Ending) × (held ≡ Some raw) × SpellsValue raw spelled ending)
+    → (held ≡ None) ⊎ ((raw spelled : List ℕ) × (held ≡ Some raw) × ((SpellsValue raw spelled outside × (lines ≡ line_feeds raw))
+    ⊎ (SpellsValue raw spelled at_backslash × (lines ≡ line_feeds raw + 1))))
 spelled_of None takes = inl refl
 spelled_of (Some raw) takes =
-    let (spelled, (ending, spells)) = value_of_entry refl takes in inr (raw, spelled, ending, refl, spells)
+    let (spelled, how) = how_entry_spelled refl takes in inr (raw, spelled, refl, how)
 
-pub value_kept : {parts : EntryParts} {piece : Piece} {value raw spelled : List ℕ} {ending : Ending}
-    → value_of parts.value ≡ Some raw → SpellsValue raw spelled ending → spelled ≡ value
+pub value_kept : {parts : EntryParts} {piece : Piece} {value raw : List ℕ} {ending : Ending}
+    → value_of parts.value ≡ Some raw → SpellsValue raw value ending → HasHow parts value
     → (e : IsEntry parts.key.now (value_of parts.value) parts.lines parts.rest.now piece.blanks.now piece.bytes.now piece.rest.now piece.is_line)
     → IsSet parts piece value piece.bytes.now
-value_kept {parts = parts} {piece = piece} {value = value} {raw = raw} {ending = ending} held spells same e =
-    let has : HasValue (Some raw) value = (ending, subst (λ s. SpellsValue raw s ending) same spells) in
+value_kept {parts = parts} {piece = piece} {value = value} {raw = raw} {ending = ending} held spells how e =
+    let has : HasValue (Some raw) value = (ending, spells) in
     record {
       raw = raw;
       lines = parts.lines;
       at = parts.rest.now;
       has_value = has;
       entry = subst (λ v. IsEntry parts.key.now v parts.lines parts.rest.now piece.blanks.now piece.bytes.now piece.rest.now piece.is_line) held e;
-      given = inl (subst (λ v. HasValue v value) (sym held) has, refl);
+      given = inl (subst (λ v. HasValue v value) (sym held) has, refl, how);
     }

@@ -104,8 +104,8 @@ header_lost {key = key} {text = text} {rest = rest} {new = new} piece lost r is 
     ∙ append-nil r.old in
     let past = past_more piece r.past is shorter in
     let bytes = piece.bytes.now in
-    let head : IsHead key bytes piece.rest.now true =
-    header_may_go key piece.held header piece.blanks.now bytes piece.rest.now piece.is_line e is.blank is.made is_in true piece.rest.now in
+    let head : IsHead key None r.old bytes piece.rest.now true =
+    header_may_go key None r.old piece.held header piece.blanks.now bytes piece.rest.now piece.is_line e is.blank is.made is_in true piece.rest.now in
     record {
       front = r.front;
       gone = bytes;

@@ -109,7 +109,7 @@ blanks_after : {w : ℕ → ℕ} {text held : List ℕ} (return : List ℕ) → 
 blanks_after return (inl none) = rw none value.ends_outside
 blanks_after return (inr one) = rw one (value.blank refl value.ends_outside)
 
-goes_on_over : {w : ℕ → ℕ} {q : Bool} {so_far held raw text : List ℕ} {ending : Ending}
+pub goes_on_over : {w : ℕ → ℕ} {q : Bool} {so_far held raw text : List ℕ} {ending : Ending}
     (line_end return : List ℕ)
     → IsLineEnd line_end → (return ≡ []) ⊎ (return ≡ 13 ∷ []) → ending ≡ at_backslash
     → Spells w q so_far held raw text ending
@@ -180,7 +180,7 @@ tail_bytes t =
 feed_is_no_byte : (b : ℕ) (more : List ℕ) → list_all is_comment_byte (b ∷ more) ≡ true → b ≡ 10 → ⊥
 feed_is_no_byte b more all is = grind (arith, nat_tests)
 
-more_bytes : (b : ℕ) (more : List ℕ) → list_all is_comment_byte (b ∷ more) ≡ true
+pub more_bytes : (b : ℕ) (more : List ℕ) → list_all is_comment_byte (b ∷ more) ≡ true
     → list_all is_comment_byte more ≡ true
 more_bytes b more all = grind (arith, nat_tests)
 

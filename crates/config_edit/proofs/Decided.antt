@@ -35,7 +35,7 @@ none_is_of (spec.kept x {old = old} {new = new} w other) all =
     let more = one_longer old x in
     let also = one_longer new x in
     let rest : length old ≤ length new = omega arith in
-    spec.kept x (none_is_of w rest) (λ is. other is.0)
+    spec.kept x (none_is_of w rest) (λ is. other is.0.0)
 
 replaced_decides : {key : Key} {name value text : List ℕ} {old now : List Content} → IsKey name key
     → HasContents text now → Replaces key value old now → Decides name value text

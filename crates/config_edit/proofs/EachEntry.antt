@@ -2,6 +2,7 @@
 use Rattle.std.proofs.Common.{◌≡◌, ◌≢◌, ℕ, ◌+◌, ◌<◌, ◌≤◌, Bool, true, List, [], ◌∷◌, ◌++◌, Option, Some, None}
 use Rattle.std.proofs.Common.{length, drop, refl, sym, ap, ◌∙◌, subst, append_assoc, append-nil, ◌⊎◌, arith}
 use Rattle.std.proofs.Common.{option_copied, MatchOption, inl, inr}
+use Rattle.std.specs.Bool.{⊤}
 use Rattle.std.proofs.lemmas.List.{append_cancel_left, append_cancel_right, length-append, length-drop}
 use Rattle.config_edit.specs.declared.Change.{Change}
 use Rattle.config_edit.specs.declared.piece.Held.{Held}
@@ -14,9 +15,10 @@ use Rattle.config_file.specs.File.{TakesKey, TakesEntry, alone, valued}
 use Rattle.config_file.specs.Value.{TakesValue, closed, open_end}
 use Rattle.config_file.specs.Key.{is_name}
 use Rattle.config_edit.specs.Edit as spec
-use Rattle.config_edit.specs.Edit.{Content, Becomes, ChangesEach, ChangesValueTo, MayChange, AreInOrder, IsChanged, IsEntry}
+use Rattle.config_edit.specs.Edit.{Content, Becomes, ChangesEach, ChangesValueTo, ChangesEntry, MayChange, AreInOrder, IsChanged, IsEntry}
 use Rattle.config_edit.specs.Edit.{Has, HasValue, PutsValue, name_after, value_bytes}
-use Rattle.config_edit.specs.Reading.{Ends, Passed, anywhere, IsRead, IsPiece, IsSet, IsChangedIn, IsValued}
+use Rattle.config_edit.specs.Reading.{Ends, HasHow, Passed, anywhere, IsRead, IsPiece, IsSet, IsChangedIn, IsNamed, IsValued}
+use Rattle.config_edit.specs.Reading.{IsWritableComment}
 use Rattle.config_edit.specs.Reading.{AreLater, AreWritable, Changing, IsEachChanged, contents_in}
 use Rattle.config_edit.specs.Reading.{section_after, content_of, Comes, IsShaped, IsGiven}
 use Rattle.config_file.specs.Views.{value_of}
@@ -37,7 +39,7 @@ takes_named name is t =
       space_run = t.space_run;
     }
 
-begins_named : (name rest : List ℕ) → is_name name ≡ true → BeginsWithLetter (name ++ rest)
+pub begins_named : (name rest : List ℕ) → is_name name ≡ true → BeginsWithLetter (name ++ rest)
 begins_named name rest is =
     let (b, more, name_is, letter, all) = name_parts name is in
     (b, more ++ rest, ap (λ n. n ++ rest) name_is, letter)
@@ -46,7 +48,7 @@ value_joined : {after raw rest : List ℕ} {lines : ℕ} → TakesValue after ra
 value_joined (closed joined spells ends) = joined
 value_joined (open_end {raw = raw} spells) = sym (append-nil raw)
 
-entry_named : {text key rest : List ℕ} {value : Option (List ℕ)} {lines : ℕ} (name : List ℕ)
+pub entry_named : {text key rest : List ℕ} {value : Option (List ℕ)} {lines : ℕ} (name : List ℕ)
     → is_name name ≡ true → TakesEntry text key value lines rest
     → (more : List ℕ) × (text ≡ (key ++ more) ++ rest) × TakesEntry ((name ++ more) ++ rest) name value lines rest
 entry_named name is (alone {key = key} {rest = rest} t end) =
@@ -109,8 +111,9 @@ shaped_old : {value : Option (List ℕ)} {parts : EntryParts} {piece : Piece}
     → IsEntry parts.key.now (value_of parts.value) parts.lines parts.rest.now piece.blanks.now piece.bytes.now piece.rest.now piece.is_line
     → MatchOption value (value_bytes (value_of parts.value) ≡ value_bytes (value_of parts.value))
     (λ new. ChangesValueTo new (value_of parts.value) (value_bytes (value_of parts.value)))
+    → MatchOption value ⊤ (λ new. HasValue (value_of parts.value) new → HasHow parts new)
     → IsShaped parts.key.now value parts piece piece.bytes.now
-shaped_old {parts = parts} {piece = piece} e is_valued =
+shaped_old {parts = parts} {piece = piece} e is_valued how =
     let key = parts.key.now in
     let raw = value_bytes (value_of parts.value) in
     let (between, text_is) = value_at_end e.takes in
@@ -122,6 +125,7 @@ shaped_old {parts = parts} {piece = piece} e is_valued =
       between = between;
       bytes = raw;
       tail = e.tail;
+      left = e.left;
       begins = subst (λ f. BeginsWithLetter (f ++ (e.tail ++ piece.rest.now))) front_is
           (subst (λ a. BeginsWithLetter (e.front ++ a)) e.left e.begins);
       takes = subst (λ f. TakesEntry (f ++ (e.tail ++ piece.rest.now)) key (value_of parts.value) parts.lines (e.tail ++ piece.rest.now)) front_is
@@ -129,6 +133,7 @@ shaped_old {parts = parts} {piece = piece} e is_valued =
       bytes_are = joined;
       put_is = joined;
       is_valued = is_valued;
+      how = how;
     }
 
 -- an entry of which only the bytes of the value change
@@ -153,11 +158,13 @@ shaped_new {parts = parts} {piece = piece} other g =
       between = between;
       bytes = g.gives.bytes;
       tail = g.tail;
+      left = g.left;
       begins = subst (λ f. BeginsWithLetter (f ++ rest)) gone_is g.gives.begins;
       takes = subst (λ f. TakesEntry (f ++ rest) key was g.gives.lines rest) gone_is g.gives.takes;
       bytes_are = g.bytes_are ∙ ap (λ f. piece.blanks.now ++ (f ++ g.tail)) gone_is;
       put_is = g.put_is ∙ ap (λ f. piece.blanks.now ++ (f ++ g.tail)) now_is;
       is_valued = inr (other, g.gives.puts);
+      how = λ has. absurd (other has);
     }
 
 shaped_set : {value : List ℕ} {parts : EntryParts} {piece : Piece} {put : List ℕ}
@@ -165,7 +172,7 @@ shaped_set : {value : List ℕ} {parts : EntryParts} {piece : Piece} {put : List
     → IsSet parts piece value put → IsShaped parts.key.now (Some value) parts piece put
 shaped_set {value = value} {parts = parts} {piece = piece} e s = elim s.given [
   | inl same ↦ subst (λ p. IsShaped parts.key.now (Some value) parts piece p) (sym same.1)
-      (shaped_old {value = Some value} e (inl (same.0, refl)))
+      (shaped_old {value = Some value} e (inl (same.0, refl)) (λ has. same.2))
   | inr other ↦ shaped_new other.0 other.1
 ]
 
@@ -179,29 +186,18 @@ pub valued_old : {parts : EntryParts} {piece : Piece}
     → IsEntry parts.key.now (value_of parts.value) parts.lines parts.rest.now piece.blanks.now piece.bytes.now piece.rest.now piece.is_line
     → IsValued None parts piece piece.bytes.now
 valued_old {parts = parts} e =
-    record { raw = value_of parts.value; lines = parts.lines; at = parts.rest.now; value_is = refl; entry = e; shaped = shaped_old {value = None} e refl }
+    record { raw = value_of parts.value; lines = parts.lines; at = parts.rest.now; value_is = refl; entry = e; shaped = shaped_old {value = None} e refl tt }
 
-pub named_old : {change : Change} {parts : EntryParts} {piece : Piece} {put : List ℕ}
-    → (e : IsEntry parts.key.now (value_of parts.value) parts.lines parts.rest.now piece.blanks.now piece.bytes.now piece.rest.now piece.is_line)
-    → option_copied change.name ≡ None → IsValued (option_copied change.value) parts piece put
-    → IsChangedIn change parts piece put
-named_old {change = change} {parts = parts} {piece = piece} {put = put} e none v =
-    record {
-      raw = v.raw;
-      lines = v.lines;
-      at = v.at;
-      value_is = v.value_is;
-      entry = rw none v.entry;
-      shaped = rw none v.shaped;
-    }
+pub named_old : {value : Option (List ℕ)} {parts : EntryParts} {piece : Piece} {put : List ℕ}
+    → IsValued value parts piece put → IsNamed None value parts piece put
+named_old v =
+    record { raw = v.raw; lines = v.lines; at = v.at; value_is = v.value_is; entry = v.entry; shaped = v.shaped }
 
-pub named_new : {change : Change} {parts : EntryParts} {piece : Piece} {line : List ℕ} (name more : List ℕ)
-    → (e : IsEntry parts.key.now (value_of parts.value) parts.lines parts.rest.now piece.blanks.now piece.bytes.now piece.rest.now piece.is_line)
-    → option_copied change.name ≡ Some name → is_name name ≡ true
-    → IsValued (option_copied change.value) parts piece line
+pub named_new : {value : Option (List ℕ)} {parts : EntryParts} {piece : Piece} {line : List ℕ} (name more : List ℕ)
+    → is_name name ≡ true → IsValued value parts piece line
     → line ≡ piece.blanks.now ++ (parts.key.now ++ more)
-    → IsChangedIn change parts piece (piece.blanks.now ++ (name ++ more))
-named_new {change = change} {parts = parts} {piece = piece} {line = line} name more e some is v line_is =
+    → IsNamed (Some name) value parts piece (piece.blanks.now ++ (name ++ more))
+named_new {parts = parts} {piece = piece} {line = line} name more is v line_is =
     let (m, joined, entry) = named name is v.entry in
     let blanks = piece.blanks.now in
     let same : m ≡ more = append_cancel_left (blanks ++ parts.key.now) m more
@@ -218,19 +214,67 @@ named_new {change = change} {parts = parts} {piece = piece} {line = line} name m
       lines = v.lines;
       at = v.at;
       value_is = v.value_is;
-      entry = rw (some, sym same) entry;
+      entry = rw (sym same) entry;
       shaped = record {
         lines = shape.lines;
         between = shape.between;
         bytes = shape.bytes;
         tail = shape.tail;
+        left = shape.left;
         begins = shape.begins;
         takes = shape.takes;
         bytes_are = shape.bytes_are;
-        put_is = rw some (ap (λ m. blanks ++ (name ++ m)) more_is
-            ∙ ap (λ x. blanks ++ x) (sym (append_assoc name (shape.between ++ shape.bytes) shape.tail)));
+        put_is = ap (λ m. blanks ++ (name ++ m)) more_is
+            ∙ ap (λ x. blanks ++ x) (sym (append_assoc name (shape.between ++ shape.bytes) shape.tail));
         is_valued = shape.is_valued;
+        how = shape.how;
       };
+    }
+
+-- a change without a comment
+pub no_comment : (value comment : Option (List ℕ)) → IsWritableComment value comment → (value ≡ None) ⊎ (comment ≡ None)
+    → comment ≡ None
+no_comment None None is either = refl
+no_comment None (Some comment) is either = absurd is
+no_comment (Some value) None is either = refl
+no_comment (Some value) (Some comment) is (inl none) = cc
+no_comment (Some value) (Some comment) is (inr none) = none
+
+pub changed_plain : {change : Change} {parts : EntryParts} {piece : Piece} {put : List ℕ}
+    → option_copied change.comment ≡ None
+    → IsNamed (option_copied change.name) (option_copied change.value) parts piece put
+    → IsChangedIn change parts piece put
+changed_plain {change = change} {parts = parts} {piece = piece} none n =
+    let shape = n.shaped in
+    let was = value_of parts.value in
+    let gone = parts.key.now ++ (shape.between ++ value_bytes was) in
+    let now = name_after (option_copied change.name) parts.key.now ++ (shape.between ++ shape.bytes) in
+    let changes : ChangesEntry change parts.key.now was gone now (shape.tail ++ piece.rest.now) =
+    record {
+      lines = shape.lines;
+      between = shape.between;
+      bytes = shape.bytes;
+      tail = [];
+      after = shape.bytes;
+      begins = shape.begins;
+      takes = shape.takes;
+      gone_is = sym (append-nil gone);
+      put_is = refl;
+      is_valued = shape.is_valued;
+      is_commented = rw none (refl, refl);
+    } in
+    record {
+      raw = n.raw;
+      lines = n.lines;
+      at = n.at;
+      gone = gone;
+      now = now;
+      kept = shape.tail;
+      value_is = n.value_is;
+      entry = n.entry;
+      bytes_are = shape.bytes_are;
+      put_is = shape.put_is;
+      changes = changes;
     }
 
 -- the changes that are left
@@ -378,25 +422,15 @@ changing_changes {changes = changes} {left = left} {more = more} {change = chang
     let made_now : Passed r.section put (y ∷ []) r.section piece.rest.now =
     entry_passed piece.blanks.now piece.is_line is.blank c.entry r.section in
     let split : changes ≡ r.done ++ change ∷ more = r.split ∙ ap (λ l. r.done ++ l) left_is in
-    let shape = c.shaped in
-    let was = value_of parts.value in
-    let gone = parts.key.now ++ (shape.between ++ value_bytes was) in
-    let put_now = name ++ (shape.between ++ shape.bytes) in
-    let cut : rest ≡ (piece.blanks.now ++ (gone ++ shape.tail)) ++ piece.rest.now =
-    is.joined ∙ ap (λ b. b ++ piece.rest.now) shape.bytes_are in
-    let inner : rest ≡ piece.blanks.now ++ (gone ++ (shape.tail ++ piece.rest.now)) =
-    cut ∙ append_assoc piece.blanks.now (gone ++ shape.tail) piece.rest.now
-    ∙ ap (λ x. piece.blanks.now ++ x) (append_assoc gone shape.tail piece.rest.now) in
-    let place : Comes text r.old r.section (gone ++ (shape.tail ++ piece.rest.now)) =
-    comes_blanks r.front piece.blanks.now (gone ++ (shape.tail ++ piece.rest.now)) r.joined inner is.blank (passed_holds some r.passed) in
-    let may : MayChange changes r.old r.section gone put_now (shape.tail ++ piece.rest.now) = (
-      change,
-      parts.key.now,
-      was,
-      (r.done, more, split),
-      due ∙ r.index_is,
-      record { lines = shape.lines; between = shape.between; bytes = shape.bytes; begins = shape.begins; takes = shape.takes; gone_is = refl; put_is = refl; is_valued = shape.is_valued },
-    ) in
+    let cut : rest ≡ (piece.blanks.now ++ (c.gone ++ c.kept)) ++ piece.rest.now =
+    is.joined ∙ ap (λ b. b ++ piece.rest.now) c.bytes_are in
+    let inner : rest ≡ piece.blanks.now ++ (c.gone ++ (c.kept ++ piece.rest.now)) =
+    cut ∙ append_assoc piece.blanks.now (c.gone ++ c.kept) piece.rest.now
+    ∙ ap (λ x. piece.blanks.now ++ x) (append_assoc c.gone c.kept piece.rest.now) in
+    let place : Comes text r.old r.section (c.gone ++ (c.kept ++ piece.rest.now)) =
+    comes_blanks r.front piece.blanks.now (c.gone ++ (c.kept ++ piece.rest.now)) r.joined inner is.blank (passed_holds some r.passed) in
+    let may : MayChange changes r.old r.section c.gone c.now (c.kept ++ piece.rest.now) =
+    (change, parts.key.now, value_of parts.value, (r.done, more, split), due ∙ r.index_is, c.changes) in
     record {
       front = r.front ++ piece.bytes.now;
       done = r.done ++ change ∷ [];
@@ -409,10 +443,10 @@ changing_changes {changes = changes} {left = left} {more = more} {change = chang
       split = split ∙ sym (append_assoc r.done (change ∷ []) more);
       each = spec.changed change x y r.each (due ∙ r.index_is) (refl, name_is (option_copied change.name) parts.key.now, c.value_is);
       index_is = ap (λ i. i + 1) r.index_is ∙ sym (one_longer r.old x);
-      bytes = subst (λ b. Becomes (Comes text) (MayChange changes) (r.front ++ b) piece.rest.now (new ++ put)) (sym shape.bytes_are)
-          (subst (λ p. Becomes (Comes text) (MayChange changes) (r.front ++ (piece.blanks.now ++ (gone ++ shape.tail))) piece.rest.now (new ++ p))
-          (sym shape.put_is)
-          (becomes_piece piece.blanks.now gone put_now shape.tail piece.rest.now (becomes_before r.bytes cut) place may));
+      bytes = subst (λ b. Becomes (Comes text) (MayChange changes) (r.front ++ b) piece.rest.now (new ++ put)) (sym c.bytes_are)
+          (subst (λ p. Becomes (Comes text) (MayChange changes) (r.front ++ (piece.blanks.now ++ (c.gone ++ c.kept))) piece.rest.now (new ++ p))
+          (sym c.put_is)
+          (becomes_piece piece.blanks.now c.gone c.now c.kept piece.rest.now (becomes_before r.bytes cut) place may));
       ordered = λ count order.
           order_done change more index count due (subst (λ l. AreInOrder index l count) left_is (r.ordered count order));
       writable = (subst AreWritable left_is r.writable).1;

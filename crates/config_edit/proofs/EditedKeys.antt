@@ -106,9 +106,9 @@ added_key {key = key} {value = value} {text = text} {mark = mark} {new = new} {c
       (sym (split_joined split)) (line_marked split ends r.bytes),
 )
 
-pub taken_key : {key : Key} {text mark body : List ℕ} {contents : List Content} {taken : Taken}
-    → IsSplit text mark body → Ends None body contents → IsTaken key body contents taken
-    → (now : List Content) × HasContents (mark ++ taken.text.items) now × Without key contents now × Changes (MayUnset key) text (mark ++ taken.text.items)
+pub taken_key : {key : Key} {places : Option (List ℕ)} {text mark body : List ℕ} {contents : List Content} {taken : Taken}
+    → IsSplit text mark body → Ends None body contents → IsTaken key places body contents taken
+    → (now : List Content) × HasContents (mark ++ taken.text.items) now × Without key places contents now × Changes (MayUnset key places) text (mark ++ taken.text.items)
 taken_key split ends r = (
   r.now,
   file_of split r.ends,
@@ -117,12 +117,12 @@ taken_key split ends r = (
 )
 
 pub one_taken : {key : Key} {text mark body : List ℕ} {contents : List Content} {taken : Taken}
-    → IsSplit text mark body → Ends None body contents → IsTaken key body contents taken → taken.count ≡ count.One
-    → (now : List Content) × HasContents (mark ++ taken.text.items) now × LosesOne key contents now × Changes (MayUnset key) text (mark ++ taken.text.items)
+    → IsSplit text mark body → Ends None body contents → IsTaken key None body contents taken → taken.count ≡ count.One
+    → (now : List Content) × HasContents (mark ++ taken.text.items) now × LosesOne key contents now × Changes (MayUnset key None) text (mark ++ taken.text.items)
 one_taken {key = key} {contents = contents} split ends r one = (
   r.now,
   file_of split r.ends,
-  subst (λ n. Counted key contents r.now n) one r.counted,
+  subst (λ n. Counted key None contents r.now n) one r.counted,
   becomes_marked split ends r.changes,
 )
 
@@ -180,6 +180,7 @@ lacks_header name error.Section text_is (other, is, lacking) = λ key names.
     (cut_same is.cut (subst (λ t. IsKey t key) (sym text_is) names).cut) lacking
 lacks_header name (error.Memory e) text_is refused = absurd refused
 lacks_header name error.Value text_is refused = absurd refused
+lacks_header name error.Comment text_is refused = absurd refused
 lacks_header name (error.File e) text_is refused = absurd refused
 lacks_header name error.Several text_is refused = absurd refused
 lacks_header name error.Absent text_is refused = absurd refused

@@ -13,3 +13,5 @@ mod EachEntry
 mod Removed
 mod Cleared
 mod Decided
+mod AtPlaces
+mod Commented

@@ -1,7 +1,7 @@
 -- Texts without the entries of a key.
 use Rattle.std.proofs.Common.{◌≡◌, ◌≢◌, ℕ, ◌<◌, Bool, true, false, not, ◌||◌, List, [], ◌∷◌, ◌++◌, Option}
 use Rattle.std.proofs.Common.{Some, None, length, refl, sym, ap, ◌∙◌, subst, append_assoc, append-nil, inl}
-use Rattle.std.proofs.Common.{inr, ◌⊎◌, true≢false}
+use Rattle.std.proofs.Common.{inr, ◌⊎◌, ◌+◌, true≢false, length-append}
 use Rattle.config_edit.specs.declared.removal.Count.{Count}
 use Rattle.config_edit.specs.declared.removal.Count.TheVariants as count
 use Rattle.config_edit.specs.declared.removal.Group.{Group}
@@ -14,14 +14,14 @@ use Rattle.config_file.specs.declared.section.Section as code
 use Rattle.config_file.specs.Header.{Section}
 use Rattle.config_file.specs.Key.{Key}
 use Rattle.config_edit.specs.Edit as spec
-use Rattle.config_edit.specs.Edit.{Content, IsTail, IsIn, IsOf, Without, HasNone, HasSeveral, LosesOne}
+use Rattle.config_edit.specs.Edit.{Content, IsTail, IsIn, IsOf, IsPlaceOf, Without, HasNone, HasSeveral, LosesOne}
 use Rattle.config_edit.specs.Edit.{Becomes, MayUnset, LosesEntry, LosesHeader, IsLostTail, IsHeaderOf, IsEnd}
 use Rattle.config_edit.specs.Edit.{AreBlank, IsEntry}
 use Rattle.config_edit.specs.Reading as edit
 use Rattle.config_edit.specs.Reading.{Holds, Ends, Passed, anywhere, at_end, IsRead, IsMade, IsHeaderAt}
 use Rattle.config_edit.specs.Reading.{IsPiece, contents_in, section_after, IsPast, IsEntryHeld}
 use Rattle.config_edit.specs.Reading.{content_of, Counted, one_more, IsHead, IsGroup, Losing}
-use Rattle.config_edit.specs.Reading.{IsFinished, IsPushed, IsTaken, is_blank_held, Comes, IsComeTo}
+use Rattle.config_edit.specs.Reading.{IsFinished, IsPushed, IsTaken, is_blank_held, Comes}
 use Rattle.config_file.specs.Views.{section_of, value_of}
 use Rattle.config_edit.proofs.Pieces.{made_passed}
 use Rattle.config_edit.proofs.Edits.{holds_nothing, holds_join, passed_holds, passed_join, passed_ends}
@@ -37,11 +37,14 @@ none_before_entry : {key : Key} (before : List Content) (x : Content) → HasNon
 none_before_entry before x nothing is =
     record { before = before; x = x; after = []; old_is = refl; is_of = is; none_before = nothing; none_after = spec.none; new_is = sym (append-nil before) }
 
-count_more : (key : Key) (old new : List Content) (n : Count) (x : Content) → Counted key old new n
-    → IsOf key x → Counted key (old ++ x ∷ []) new (one_more n)
-count_more key old new count.None x (nothing, same) is =
+count_more : (key : Key) (places : Option (List ℕ)) (old new : List Content) (n : Count) (x : Content)
+    → Counted key places old new n → IsOf key x → Counted key places (old ++ x ∷ []) new (one_more n)
+count_more key (Some places) old new count.None x counted is = tt
+count_more key (Some places) old new count.One x counted is = tt
+count_more key (Some places) old new count.Several x counted is = tt
+count_more key None old new count.None x (nothing, same) is =
     subst (λ n. LosesOne key (old ++ x ∷ []) n) (sym same) (none_before_entry old x nothing is)
-count_more key old new count.One x one is = (
+count_more key None old new count.One x one is = (
   one.before,
   one.after,
   [],
@@ -52,7 +55,7 @@ count_more key old new count.One x one is = (
   one.is_of,
   is,
 )
-count_more key old new count.Several x (before, between, after, a, b, e, is_a, is_b) is = (
+count_more key None old new count.Several x (before, between, after, a, b, e, is_a, is_b) is = (
   before,
   between,
   after ++ x ∷ [],
@@ -64,11 +67,30 @@ count_more key old new count.Several x (before, between, after, a, b, e, is_a, i
   is_b,
 )
 
-count_kept : (key : Key) (old new more : List Content) (n : Count) → Counted key old new n → HasNone key more
-    → Counted key (old ++ more) (new ++ more) n
-count_kept key old new more count.None (nothing, same) also =
-    (without_both old old nothing also, ap (λ c. c ++ more) same)
-count_kept key old new more count.One one also =
+-- what a piece has is no entry of the key at one of the places
+abbrev Stays : Key → Option (List ℕ) → Option Section → Held → List Content → Type 0
+Stays key places section h old = ¬ (IsEntryHeld key section h × IsPlaceOf places (length old))
+
+without_kept : {key : Key} {places : Option (List ℕ)} {old new : List Content} (h : Held) (section : Option Section)
+    → Without key places old new → Stays key places section h old
+    → Without key places (old ++ contents_in h section) (new ++ contents_in h section)
+without_kept (held.Entry parts) section w stays = spec.kept (content_of section parts) w stays
+without_kept {key = key} {places = places} {old = old} {new = new} (held.Header next) section w stays =
+    rw (append-nil old, append-nil new) w
+without_kept {key = key} {places = places} {old = old} {new = new} held.Nothing section w stays =
+    rw (append-nil old, append-nil new) w
+without_kept {key = key} {places = places} {old = old} {new = new} held.Comment section w stays =
+    rw (append-nil old, append-nil new) w
+
+count_kept : (key : Key) (places : Option (List ℕ)) (old new : List Content) (n : Count) (h : Held) (section : Option Section)
+    → Counted key places old new n → Stays key places section h old
+    → Counted key places (old ++ contents_in h section) (new ++ contents_in h section) n
+count_kept key places old new count.None h section (nothing, same) stays =
+    (without_kept h section nothing stays, ap (λ c. c ++ contents_in h section) same)
+count_kept key (Some places) old new count.One h section counted stays = tt
+count_kept key (Some places) old new count.Several h section counted stays = tt
+count_kept key None old new count.One h section one stays =
+    let more = contents_in h section in
     record {
       before = one.before;
       x = one.x;
@@ -76,38 +98,43 @@ count_kept key old new more count.One one also =
       old_is = ap (λ c. c ++ more) one.old_is ∙ append_assoc one.before (one.x ∷ one.after) more;
       is_of = one.is_of;
       none_before = one.none_before;
-      none_after = without_both one.after one.after one.none_after also;
+      none_after = without_both one.after one.after one.none_after (none_in h section (λ is. stays (is, tt)));
       new_is = ap (λ c. c ++ more) one.new_is ∙ append_assoc one.before one.after more;
     }
-count_kept key old new more count.Several (before, between, after, a, b, e, is_a, is_b) also = (
-  before,
-  between,
-  after ++ more,
-  a,
-  b,
-  ap (λ c. c ++ more) e ∙ append_assoc before (a ∷ (between ++ b ∷ after)) more
-      ∙ ap (λ c. before ++ a ∷ c) (append_assoc between (b ∷ after) more),
-  is_a,
-  is_b,
-)
+count_kept key None old new count.Several h section (before, between, after, a, b, e, is_a, is_b) stays =
+    let more = contents_in h section in (
+      before,
+      between,
+      after ++ more,
+      a,
+      b,
+      ap (λ c. c ++ more) e ∙ append_assoc before (a ∷ (between ++ b ∷ after)) more
+          ∙ ap (λ c. before ++ a ∷ c) (append_assoc between (b ∷ after) more),
+      is_a,
+      is_b,
+    )
 
 -- before the first header
-pub losing_begins : (key : Key) (text : List ℕ) (g : Group) → g.head.items ≡ [] → g.body.items ≡ []
+pub losing_begins : (key : Key) (places : Option (List ℕ)) (text : List ℕ) (g : Group) → g.head.items ≡ [] → g.body.items ≡ []
     → g.in_head ≡ false → g.has_lost ≡ false → g.is_kept ≡ true
-    → Losing key text text [] None g count.None
-losing_begins key text g head_is body_is in_head has_lost is_kept =
+    → Losing key places text text [] None g count.None 0
+losing_begins key places text g head_is body_is in_head has_lost is_kept =
     record {
       front = [];
       head_was = [];
       body_was = [];
+      before = [];
+      at = None;
       old = [];
       now = [];
       now_group = [];
       base = None;
       past = past_begins text;
+      index_is = refl;
       new_is = holds_nothing None;
       changes = spec.none;
-      begins = ([], None, ([], refl, holds_nothing None));
+      begins = ([], refl, holds_nothing None);
+      nothing_read = λ is. absurd (true≢false (sym is ∙ in_head));
       group = record {
         passed = rw (head_is, body_is) (anywhere (holds_nothing None));
         in_head = λ is. absurd (true≢false (sym is ∙ in_head));
@@ -122,33 +149,34 @@ losing_begins key text g head_is body_is in_head has_lost is_kept =
     }
 
 -- a section that is finished
-finished : {key : Key} {g : Group} {text put : List ℕ} (head_was body_was rest : List ℕ) (now : List Content)
+finished : {key : Key} {places : Option (List ℕ)} {g : Group} {text put : List ℕ} {before : List Content} {at : Option Section}
+    (head_was body_was rest : List ℕ) (now : List Content)
     (base section : Option Section)
-    → IsComeTo text (head_was ++ (body_was ++ rest))
-    → IsGroup key g text head_was body_was now base section rest → IsFinished g put
-    → (next : Option Section) × Passed base put now next rest × Becomes (Comes text) (MayUnset key) (head_was ++ body_was) rest put
+    → Comes text before at (head_was ++ (body_was ++ rest))
+    → IsGroup key places before g text head_was body_was now base section rest → IsFinished g put
+    → (next : Option Section) × Passed base put now next rest × Becomes (Comes text) (MayUnset key places) (head_was ++ body_was) rest put
 finished {g = g} head_was body_was rest now base section begins group edit.whole =
     (section, group.passed, becomes_both head_was g.head.items group.head_changes group.body_changes)
-finished {key = key} {g = g} {text = text} head_was body_was rest now base section (before, at, place) group (edit.without_head {end = end} not_kept has_lost is_end) =
+finished {key = key} {places = places} {g = g} {text = text} {before = before} {at = at} head_was body_was rest now base section place group (edit.without_head {end = end} not_kept has_lost is_end) =
     let (nothing, empty) = group.empty not_kept in
     let head = group.can_go not_kept (group.in_section has_lost) in
-    let gone : LosesHeader key head_was end (body_was ++ rest) =
+    let gone : LosesHeader key places before head_was end (body_was ++ rest) =
     record { blanks = head.blanks; header = head.header; tail = head.tail; joined = head.joined; are_blank = head.are_blank; is_header = head.is_header; is_tail = head.is_tail; is_end = is_end } in
     let passed : Passed base (end ++ g.body.items) [] base rest =
     holds_then end g.body.items (end_holds base end is_end) (empty base) in
-    let may : MayUnset key before at head_was end (body_was ++ rest) = inr gone in
-    let here : Becomes (Comes text) (MayUnset key) head_was (body_was ++ rest) end = spec.changed spec.none place may in (
+    let may : MayUnset key places before at head_was end (body_was ++ rest) = inr gone in
+    let here : Becomes (Comes text) (MayUnset key places) head_was (body_was ++ rest) end = spec.changed spec.none place may in (
       base,
       subst (λ c. Passed base (end ++ g.body.items) c base rest) (sym nothing) passed,
       becomes_both head_was end here group.body_changes,
     )
 
 -- another section begins
-pub header_may_go : (key : Key) (h : Held) (header : code.Section) (blanks bytes rest : List ℕ)
+pub header_may_go : (key : Key) (places : Option (List ℕ)) (before : List Content) (h : Held) (header : code.Section) (blanks bytes rest : List ℕ)
     (is_line : Bool)
     → h ≡ held.Header header → AreBlank blanks → IsMade h blanks bytes rest is_line
-    → IsIn key (Some (section_of header)) → (goes_on : Bool) → (left : List ℕ) → IsHead key bytes left goes_on
-header_may_go key h header blanks bytes rest is_line e all made is goes_on left =
+    → IsIn key (Some (section_of header)) → (goes_on : Bool) → (left : List ℕ) → IsHead key places before bytes left goes_on
+header_may_go key places before h header blanks bytes rest is_line e all made is goes_on left =
     let at : IsHeaderAt (section_of header) blanks bytes =
     subst (λ x. IsMade x blanks bytes rest is_line) e made in
     record {
@@ -162,22 +190,22 @@ header_may_go key h header blanks bytes rest is_line e all made is goes_on left 
       alone = λ on. refl;
     }
 
-pub losing_header : {key : Key} {text rest new put : List ℕ} {section : Option Section} {g : Group}
-    {n : Count} (now : Group) (piece : Piece)
-    → Losing key text rest new section g n → IsPiece rest piece
+pub losing_header : {key : Key} {places : Option (List ℕ)} {text rest new put : List ℕ} {section : Option Section} {g : Group}
+    {n : Count} {index : ℕ} (now : Group) (piece : Piece)
+    → Losing key places text rest new section g n index → IsPiece rest piece
     → length piece.rest.now < length rest → (header : code.Section) → piece.held ≡ held.Header header
     → IsFinished g put
     → now.head.items ≡ piece.bytes.now → now.body.items ≡ [] → now.in_head ≡ true → now.has_lost ≡ false
-    → Losing key text piece.rest.now (new ++ put) (section_after piece.held section) now n
-losing_header {key = key} {text = text} {rest = rest} {new = new} {put = put} {section = section} {n = n} now piece r is shorter header e done head_is body_is in_head has_lost =
+    → Losing key places text piece.rest.now (new ++ put) (section_after piece.held section) now n index
+losing_header {key = key} {places = places} {text = text} {rest = rest} {new = new} {put = put} {section = section} {n = n} now piece r is shorter header e done head_is body_is in_head has_lost =
     let some = some_left rest piece.rest.now shorter in
     let bytes = piece.bytes.now in
     let more = contents_in piece.held section in
     let was = r.head_was ++ r.body_was in
     let (next, passed, changes) =
     finished r.head_was r.body_was rest r.now_group r.base section r.begins r.group done in
-    let no_entry : HasNone key more =
-    none_in piece.held section (λ entry. subst (IsEntryHeld key section) e entry) in
+    let stays : Stays key places section piece.held r.old =
+    λ entry. subst (IsEntryHeld key section) e entry.0 in
     let nothing : (s : Option Section) → contents_in piece.held s ≡ [] = λ s. ap (λ h. contents_in h s) e in
     let after : (s : Option Section) → section_after piece.held s ≡ Some (section_of header) =
     λ s. ap (λ h. section_after h s) e in
@@ -196,36 +224,36 @@ losing_header {key = key} {text = text} {rest = rest} {new = new} {put = put} {s
       front = r.front ++ was;
       head_was = bytes;
       body_was = [];
+      before = r.old;
+      at = section;
       old = r.old ++ more;
       now = r.now ++ r.now_group;
       now_group = more;
       base = next;
       past = subst (λ f. IsPast text piece.rest.now f (r.old ++ more)
           (section_after piece.held section)) front_is past;
+      index_is = r.index_is ∙ ap (λ o. length o) (sym (ap (λ m. r.old ++ m) (nothing section) ∙ append-nil r.old));
       new_is = holds_join new put r.new_is (passed_holds some passed);
       changes = becomes_before (becomes_both r.front new r.changes changes)
           (is.joined ∙ ap (λ b. b ++ piece.rest.now) (sym (append-nil bytes)));
-      begins = (
-        r.old,
-        section,
-        (r.front ++ was, r.past.joined ∙ ap (λ x. (r.front ++ was) ++ x) is.joined, passed_holds some r.past.passed),
-      );
+      begins = (r.front ++ was, r.past.joined ∙ ap (λ x. (r.front ++ was) ++ x) is.joined, passed_holds some r.past.passed);
+      nothing_read = λ on. ap (λ m. r.old ++ m) (nothing section) ∙ append-nil r.old;
       group = record {
         passed = subst (λ t. Passed next t more
             (section_after piece.held section) piece.rest.now) group_text group_passed;
         in_head = λ on. (body_is, refl);
-        head_changes = subst (λ h. Becomes (Comes text) (MayUnset key) bytes piece.rest.now h) (sym head_is) (spec.kept bytes spec.none);
-        body_changes = subst (λ b. Becomes (Comes text) (MayUnset key) [] piece.rest.now b) (sym body_is) spec.none;
+        head_changes = subst (λ h. Becomes (Comes text) (MayUnset key places) bytes piece.rest.now h) (sym head_is) (spec.kept bytes spec.none);
+        body_changes = subst (λ b. Becomes (Comes text) (MayUnset key places) [] piece.rest.now b) (sym body_is) spec.none;
         in_section = λ lost. absurd (true≢false (sym lost ∙ has_lost));
         empty = λ not_kept. (
           nothing section,
           λ any. subst (λ b. Passed any b [] any piece.rest.now)
               (sym body_is) (anywhere (holds_nothing any)),
         );
-        can_go = λ not_kept is_in. header_may_go key piece.held header piece.blanks.now bytes piece.rest.now piece.is_line e is.blank is.made (subst (IsIn key) (after section) is_in) now.in_head piece.rest.now;
+        can_go = λ not_kept is_in. header_may_go key places r.old piece.held header piece.blanks.now bytes piece.rest.now piece.is_line e is.blank is.made (subst (IsIn key) (after section) is_in) now.in_head piece.rest.now;
       };
-      without = without_both r.old (r.now ++ r.now_group) r.without no_entry;
-      counted = count_kept key r.old (r.now ++ r.now_group) more n r.counted no_entry;
+      without = without_kept piece.held section r.without stays;
+      counted = count_kept key places r.old (r.now ++ r.now_group) n piece.held section r.counted stays;
     }
 
 -- what is pushed
@@ -269,12 +297,12 @@ left_joined head_was body_was bytes more p nothing joined =
     ap (λ x. (head_was ++ body_was) ++ x) joined ∙ sym (append_assoc (head_was ++ body_was) bytes more)
     ∙ ap (λ x. x ++ more) (was_joined [] head_was body_was bytes p nothing)
 
-begun : {g now : Group} {put text rest : List ℕ} (head_was body_was bytes more : List ℕ)
+begun : {g now : Group} {put text rest : List ℕ} {before : List Content} {at : Option Section} (head_was body_was bytes more : List ℕ)
     → (p : IsPushed g now put) → (g.in_head ≡ true → body_was ≡ []) → rest ≡ bytes ++ more
-    → IsComeTo text (head_was ++ (body_was ++ rest))
-    → IsComeTo text (head_with p head_was bytes ++ (body_with p body_was bytes ++ more))
-begun {text = text} {rest = rest} head_was body_was bytes more p nothing joined come =
-    subst (λ t. IsComeTo text t) (sym (append_assoc head_was body_was rest) ∙ left_joined head_was body_was bytes more p nothing joined
+    → Comes text before at (head_was ++ (body_was ++ rest))
+    → Comes text before at (head_with p head_was bytes ++ (body_with p body_was bytes ++ more))
+begun {text = text} {rest = rest} {before = before} {at = at} head_was body_was bytes more p nothing joined come =
+    subst (λ t. Comes text before at t) (sym (append_assoc head_was body_was rest) ∙ left_joined head_was body_was bytes more p nothing joined
     ∙ append_assoc (head_with p head_was bytes) (body_with p body_was bytes) more) come
 
 -- a piece that stays
@@ -297,9 +325,9 @@ blank_holds_none held.Comment section blank = absurd (true≢false (sym blank))
 blank_holds_none (held.Header header) section blank = absurd (true≢false (sym blank))
 blank_holds_none (held.Entry parts) section blank = absurd (true≢false (sym blank))
 
-tail_is_lost : (key : Key) (section : Section) (bytes blanks rest : List ℕ) (is_line : Bool) → AreBlank blanks
-    → edit.IsBlankLine blanks bytes rest is_line → IsLostTail key section bytes rest
-tail_is_lost key section bytes blanks rest is_line all (tail, joined, t, none) =
+tail_is_lost : (key : Key) (places : Option (List ℕ)) (before : List Content) (section : Section) (bytes blanks rest : List ℕ) (is_line : Bool) → AreBlank blanks
+    → edit.IsBlankLine blanks bytes rest is_line → IsLostTail key places before section bytes rest
+tail_is_lost key places before section bytes blanks rest is_line all (tail, joined, t, none) =
     let both : AreBlank (blanks ++ t.blanks) = both_blank blanks t.blanks all t.are_blank in
     let whole : IsTail bytes rest is_line =
     record {
@@ -324,11 +352,12 @@ tail_is_lost key section bytes blanks rest is_line all (tail, joined, t, none) =
     inr (inl (is_line, whole, none))
 
 -- a head to which a piece is pushed that leaves it empty
-head_more : {key : Key} {g now : Group} {put bytes head_was body_was rest more : List ℕ} → (p : IsPushed g now put)
-    → (head : IsHead key head_was (body_was ++ rest) g.in_head) → IsLostTail key head.is_header.1 bytes more
+head_more : {key : Key} {places : Option (List ℕ)} {before : List Content} {g now : Group} {put bytes head_was body_was rest more : List ℕ} → (p : IsPushed g now put)
+    → (head : IsHead key places before head_was (body_was ++ rest) g.in_head)
+    → (g.in_head ≡ true → IsLostTail key places before head.is_header.1 bytes more)
     → (g.in_head ≡ true → body_was ≡ []) → rest ≡ bytes ++ more → now.in_head ≡ false
-    → IsHead key (head_with p head_was bytes) (body_with p body_was bytes ++ more) now.in_head
-head_more {key = key} {bytes = bytes} {head_was = head_was} {body_was = body_was} {more = more} (edit.to_head on h b) head lost nothing left off =
+    → IsHead key places before (head_with p head_was bytes) (body_with p body_was bytes ++ more) now.in_head
+head_more {key = key} {places = places} {before = before} {bytes = bytes} {head_was = head_was} {body_was = body_was} {more = more} (edit.to_head on h b) head lost nothing left off =
     let joined : head_was ++ bytes ≡ head.blanks ++ (head.header ++ bytes) =
     ap (λ w. w ++ bytes) (head.joined ∙ ap (λ t. head.blanks ++ (head.header ++ t)) (head.alone on) ∙ ap
     (λ h. head.blanks ++ h) (append-nil head.header))
@@ -340,10 +369,10 @@ head_more {key = key} {bytes = bytes} {head_was = head_was} {body_was = body_was
       joined = joined;
       are_blank = head.are_blank;
       is_header = head.is_header;
-      is_tail = subst (λ w. IsLostTail key head.is_header.1 bytes (w ++ more)) (sym (nothing on)) lost;
+      is_tail = subst (λ w. IsLostTail key places before head.is_header.1 bytes (w ++ more)) (sym (nothing on)) (lost on);
       alone = λ still. absurd (true≢false (sym still ∙ off));
     }
-head_more {key = key} {bytes = bytes} {body_was = body_was} {more = more} (edit.to_body off_before h b) head lost nothing left off =
+head_more {key = key} {places = places} {before = before} {bytes = bytes} {body_was = body_was} {more = more} (edit.to_body off_before h b) head lost nothing left off =
     record {
       blanks = head.blanks;
       header = head.header;
@@ -351,35 +380,35 @@ head_more {key = key} {bytes = bytes} {body_was = body_was} {more = more} (edit.
       joined = head.joined;
       are_blank = head.are_blank;
       is_header = head.is_header;
-      is_tail = subst (λ w. IsLostTail key head.is_header.1 head.tail w)
+      is_tail = subst (λ w. IsLostTail key places before head.is_header.1 head.tail w)
           (ap (λ r. body_was ++ r) left ∙ sym (append_assoc body_was bytes more)) head.is_tail;
       alone = λ still. absurd (true≢false (sym still ∙ off));
     }
 
-head_changed : {key : Key} {text : List ℕ} {g now : Group} {put rest more : List ℕ} (bytes head_was body_was : List ℕ)
+head_changed : {key : Key} {places : Option (List ℕ)} {text : List ℕ} {g now : Group} {put rest more : List ℕ} (bytes head_was body_was : List ℕ)
     → (p : IsPushed g now put) → (g.in_head ≡ true → body_was ≡ []) → rest ≡ bytes ++ more
-    → Becomes (Comes text) (MayUnset key) head_was (body_was ++ rest) g.head.items
-    → Becomes (Comes text) (MayUnset key) bytes more put
-    → Becomes (Comes text) (MayUnset key) (head_with p head_was bytes) (body_with p body_was bytes ++ more) now.head.items
-head_changed {key = key} {text = text} {g = g} {rest = rest} {more = more} bytes head_was body_was (edit.to_head on head body) nothing left before here =
+    → Becomes (Comes text) (MayUnset key places) head_was (body_was ++ rest) g.head.items
+    → Becomes (Comes text) (MayUnset key places) bytes more put
+    → Becomes (Comes text) (MayUnset key places) (head_with p head_was bytes) (body_with p body_was bytes ++ more) now.head.items
+head_changed {key = key} {places = places} {text = text} {g = g} {rest = rest} {more = more} bytes head_was body_was (edit.to_head on head body) nothing left before here =
     let first = becomes_before before (ap (λ w. w ++ rest) (nothing on) ∙ left) in
     let whole = becomes_before (becomes_both head_was g.head.items first here) (ap (λ w. w ++ more) (sym (nothing on))) in
-    subst (λ n. Becomes (Comes text) (MayUnset key) (head_was ++ bytes) (body_was ++ more) n) (sym head) whole
-head_changed {key = key} {text = text} {more = more} bytes head_was body_was (edit.to_body off head body) nothing left before here =
-    subst (λ n. Becomes (Comes text) (MayUnset key) head_was ((body_was ++ bytes) ++ more) n) (sym head)
+    subst (λ n. Becomes (Comes text) (MayUnset key places) (head_was ++ bytes) (body_was ++ more) n) (sym head) whole
+head_changed {key = key} {places = places} {text = text} {more = more} bytes head_was body_was (edit.to_body off head body) nothing left before here =
+    subst (λ n. Becomes (Comes text) (MayUnset key places) head_was ((body_was ++ bytes) ++ more) n) (sym head)
     (becomes_before before (ap (λ r. body_was ++ r) left ∙ sym (append_assoc body_was bytes more)))
 
-body_changed : {key : Key} {text : List ℕ} {g now : Group} {put rest more : List ℕ} (bytes body_was : List ℕ)
+body_changed : {key : Key} {places : Option (List ℕ)} {text : List ℕ} {g now : Group} {put rest more : List ℕ} (bytes body_was : List ℕ)
     → (p : IsPushed g now put) → (g.in_head ≡ true → body_was ≡ []) → (g.in_head ≡ true → g.body.items ≡ [])
     → rest ≡ bytes ++ more
-    → Becomes (Comes text) (MayUnset key) body_was rest g.body.items
-    → Becomes (Comes text) (MayUnset key) bytes more put
-    → Becomes (Comes text) (MayUnset key) (body_with p body_was bytes) more now.body.items
-body_changed {key = key} {text = text} {more = more} bytes body_was (edit.to_head on head body) nothing empty left before here =
-    subst (λ n. Becomes (Comes text) (MayUnset key) body_was more n) (sym (body ∙ empty on))
-    (subst (λ o. Becomes (Comes text) (MayUnset key) o more []) (sym (nothing on)) spec.none)
-body_changed {key = key} {text = text} {g = g} {more = more} bytes body_was (edit.to_body off head body) nothing empty left before here =
-    subst (λ n. Becomes (Comes text) (MayUnset key) (body_was ++ bytes) more n) (sym body)
+    → Becomes (Comes text) (MayUnset key places) body_was rest g.body.items
+    → Becomes (Comes text) (MayUnset key places) bytes more put
+    → Becomes (Comes text) (MayUnset key places) (body_with p body_was bytes) more now.body.items
+body_changed {key = key} {places = places} {text = text} {more = more} bytes body_was (edit.to_head on head body) nothing empty left before here =
+    subst (λ n. Becomes (Comes text) (MayUnset key places) body_was more n) (sym (body ∙ empty on))
+    (subst (λ o. Becomes (Comes text) (MayUnset key places) o more []) (sym (nothing on)) spec.none)
+body_changed {key = key} {places = places} {text = text} {g = g} {more = more} bytes body_was (edit.to_body off head body) nothing empty left before here =
+    subst (λ n. Becomes (Comes text) (MayUnset key places) (body_was ++ bytes) more n) (sym body)
     (becomes_both body_was g.body.items (becomes_before before left) here)
 
 empty_body : {g now : Group} {put rest more : List ℕ} → IsPushed g now put → rest ≢ []
@@ -390,41 +419,47 @@ empty_body {more = more} (edit.to_head on head body) some nothing any before her
 empty_body {g = g} {put = put} {more = more} (edit.to_body off head body) some nothing any before here =
     subst (λ b. Passed any b [] any more) (sym body) (passed_join some before here)
 
-pub losing_keeps : {key : Key} {text rest new : List ℕ} {section : Option Section} {g : Group} {n : Count}
-    (now : Group) (piece : Piece)
-    → Losing key text rest new section g n → IsPiece rest piece
-    → length piece.rest.now < length rest → ¬ (IsEntryHeld key section piece.held)
+pub losing_keeps : {key : Key} {places : Option (List ℕ)} {text rest new : List ℕ} {section : Option Section} {g : Group} {n : Count}
+    {index next : ℕ} (now : Group) (piece : Piece)
+    → Losing key places text rest new section g n index → IsPiece rest piece
+    → length piece.rest.now < length rest → ¬ (IsEntryHeld key section piece.held × IsPlaceOf places index)
+    → next ≡ index + length (contents_in piece.held section)
     → ((header : code.Section) → piece.held ≡ held.Header header → ⊥)
     → IsPushed g now piece.bytes.now → now.in_head ≡ false → now.has_lost ≡ g.has_lost
     → now.is_kept ≡ (g.is_kept || not (is_blank_held piece.held))
-    → Losing key text piece.rest.now new (section_after piece.held section) now n
-losing_keeps {key = key} {text = text} {rest = rest} {new = new} {section = section} {g = g} {n = n} now piece r is shorter other no_header pushed off lost_is kept_is =
+    → Losing key places text piece.rest.now new (section_after piece.held section) now n next
+losing_keeps {key = key} {places = places} {text = text} {rest = rest} {new = new} {section = section} {g = g} {n = n} {index = index} now piece r is shorter other next_is no_header pushed off lost_is kept_is =
     let some = some_left rest piece.rest.now shorter in
     let bytes = piece.bytes.now in
     let more = contents_in piece.held section in
     let group = r.group in
     let nothing : g.in_head ≡ true → g.body.items ≡ [] = λ on. (group.in_head on).0 in
     let was_nothing : g.in_head ≡ true → r.body_was ≡ [] = λ on. (group.in_head on).1 in
-    let no_entry : HasNone key more = none_in piece.held section other in
+    let stays : Stays key places section piece.held r.old =
+    subst (λ i. ¬ (IsEntryHeld key section piece.held × IsPlaceOf places i)) r.index_is other in
     let same : section_after piece.held section ≡ section = other_after piece.held section no_header in
     let passed =
     passed_join some group.passed
     (made_passed piece.held piece.blanks.now piece.is_line is.blank is.made section) in
     let past = past_more piece r.past is shorter in
-    let kept_changes : Becomes (Comes text) (MayUnset key) bytes piece.rest.now bytes = spec.kept bytes spec.none in
+    let kept_changes : Becomes (Comes text) (MayUnset key places) bytes piece.rest.now bytes = spec.kept bytes spec.none in
     record {
       front = r.front;
       head_was = head_with pushed r.head_was bytes;
       body_was = body_with pushed r.body_was bytes;
+      before = r.before;
+      at = r.at;
       old = r.old ++ more;
       now = r.now;
       now_group = r.now_group ++ more;
       base = r.base;
       past = subst (λ f. IsPast text piece.rest.now f (r.old ++ more) (section_after piece.held section))
           (was_joined r.front r.head_was r.body_was bytes pushed was_nothing) past;
+      index_is = next_is ∙ ap (λ i. i + length more) r.index_is ∙ sym (length-append r.old more);
       new_is = r.new_is;
       changes = becomes_before r.changes (left_joined r.head_was r.body_was bytes piece.rest.now pushed was_nothing is.joined);
       begins = begun r.head_was r.body_was bytes piece.rest.now pushed was_nothing is.joined r.begins;
+      nothing_read = λ still. absurd (true≢false (sym still ∙ off));
       group = record {
         passed = subst (λ t. Passed r.base t (r.now_group ++ more)
             (section_after piece.held section) piece.rest.now) (pushed_text pushed nothing) passed;
@@ -450,13 +485,13 @@ losing_keeps {key = key} {text = text} {rest = rest} {new = new} {section = sect
             is_kept_before g.is_kept (is_blank_held piece.held) (sym kept_is ∙ not_kept) in
             let head = group.can_go before (subst (IsIn key) same is_in) in
             head_more pushed head
-            (tail_is_lost key head.is_header.1 bytes piece.blanks.now piece.rest.now piece.is_line is.blank
+            (λ on. tail_is_lost key places r.before head.is_header.1 bytes piece.blanks.now piece.rest.now piece.is_line is.blank
             (blank_line piece.held piece.blanks.now bytes piece.rest.now piece.is_line blank is.made)) was_nothing is.joined off;
       };
-      without = subst (λ c. Without key (r.old ++ more) c) (append_assoc r.now r.now_group more)
-          (without_both r.old (r.now ++ r.now_group) r.without no_entry);
-      counted = subst (λ c. Counted key (r.old ++ more) c n) (append_assoc r.now r.now_group more)
-          (count_kept key r.old (r.now ++ r.now_group) more n r.counted no_entry);
+      without = subst (λ c. Without key places (r.old ++ more) c) (append_assoc r.now r.now_group more)
+          (without_kept piece.held section r.without stays);
+      counted = subst (λ c. Counted key places (r.old ++ more) c n) (append_assoc r.now r.now_group more)
+          (count_kept key places r.old (r.now ++ r.now_group) n piece.held section r.counted stays);
     }
 
 -- an entry that goes
@@ -471,14 +506,14 @@ entry_is_lost key h parts section blanks bytes rest is_line put e all made is en
     subst (λ x. IsMade x blanks bytes rest is_line) e made in
     (parts.key.now, value_of parts.value, parts.lines, parts.rest.now, blanks, is_line, is, all, entry, end)
 
-pub losing_loses : {key : Key} {text rest new : List ℕ} {section : Option Section} {g : Group} {n : Count}
-    (now : Group) (piece : Piece) (parts : EntryParts) (put : List ℕ)
-    → Losing key text rest new section g n
+pub losing_loses : {key : Key} {places : Option (List ℕ)} {text rest new : List ℕ} {section : Option Section} {g : Group} {n : Count}
+    {index : ℕ} (now : Group) (piece : Piece) (parts : EntryParts) (put : List ℕ)
+    → Losing key places text rest new section g n index
     → IsPiece rest piece → length piece.rest.now < length rest → piece.held ≡ held.Entry parts
-    → IsOf key (content_of section parts)
+    → IsOf key (content_of section parts) → IsPlaceOf places index
     → IsEnd put → IsPushed g now put → now.in_head ≡ false → now.has_lost ≡ true → now.is_kept ≡ g.is_kept
-    → Losing key text piece.rest.now new (section_after piece.held section) now (one_more n)
-losing_loses {key = key} {text = text} {rest = rest} {new = new} {section = section} {g = g} {n = n} now piece parts put r is shorter e is_of is_end pushed off lost_is kept_is =
+    → Losing key places text piece.rest.now new (section_after piece.held section) now (one_more n) (index + 1)
+losing_loses {key = key} {places = places} {text = text} {rest = rest} {new = new} {section = section} {g = g} {n = n} now piece parts put r is shorter e is_of is_at is_end pushed off lost_is kept_is =
     let some = some_left rest piece.rest.now shorter in
     let bytes = piece.bytes.now in
     let group = r.group in
@@ -499,6 +534,7 @@ losing_loses {key = key} {text = text} {rest = rest} {new = new} {section = sect
     (subst (λ c. Passed r.base ((g.head.items ++ g.body.items) ++ put) c section piece.rest.now)
     (append-nil r.now_group) (anywhere with_end))) in
     let past = past_more piece r.past is shorter in
+    let here_is : IsPlaceOf places (length r.old) = subst (IsPlaceOf places) r.index_is is_at in
     let loses : LosesEntry key section bytes put piece.rest.now =
     entry_is_lost key piece.held parts section piece.blanks.now bytes piece.rest.now piece.is_line put e is.blank is.made is_of is_end in
     let place : Comes text r.old section (bytes ++ piece.rest.now) = (
@@ -506,12 +542,14 @@ losing_loses {key = key} {text = text} {rest = rest} {new = new} {section = sect
       r.past.joined ∙ ap (λ x. (r.front ++ (r.head_was ++ r.body_was)) ++ x) is.joined,
       passed_holds some r.past.passed,
     ) in
-    let may : MayUnset key r.old section bytes put piece.rest.now = inl loses in
-    let here : Becomes (Comes text) (MayUnset key) bytes piece.rest.now put = spec.changed spec.none place may in
+    let may : MayUnset key places r.old section bytes put piece.rest.now = inl (here_is, loses) in
+    let here : Becomes (Comes text) (MayUnset key places) bytes piece.rest.now put = spec.changed spec.none place may in
     record {
       front = r.front;
       head_was = head_with pushed r.head_was bytes;
       body_was = body_with pushed r.body_was bytes;
+      before = r.before;
+      at = r.at;
       old = r.old ++ x ∷ [];
       now = r.now;
       now_group = r.now_group;
@@ -520,9 +558,11 @@ losing_loses {key = key} {text = text} {rest = rest} {new = new} {section = sect
           (was_joined r.front r.head_was r.body_was bytes pushed was_nothing)
           (subst (λ o. IsPast text piece.rest.now ((r.front ++ (r.head_was ++ r.body_was)) ++ bytes) o
           (section_after piece.held section)) old_is past);
+      index_is = ap (λ i. i + 1) r.index_is ∙ sym (length-append r.old (x ∷ []));
       new_is = r.new_is;
       changes = becomes_before r.changes (left_joined r.head_was r.body_was bytes piece.rest.now pushed was_nothing is.joined);
       begins = begun r.head_was r.body_was bytes piece.rest.now pushed was_nothing is.joined r.begins;
+      nothing_read = λ still. absurd (true≢false (sym still ∙ off));
       group = record {
         passed = passed;
         in_head = λ still. absurd (true≢false (sym still ∙ off));
@@ -539,20 +579,23 @@ losing_loses {key = key} {text = text} {rest = rest} {new = new} {section = sect
             let head = group.can_go (sym kept_is ∙ not_kept) (subst (IsIn key) same is_in) in
             let of_head : IsOf key (content_of (Some head.is_header.1) parts) = (head.is_header.4, is_of.1) in
             head_more pushed head
-            (inr (inr (entry_is_lost key piece.held parts (Some head.is_header.1) piece.blanks.now bytes piece.rest.now piece.is_line [] e is.blank is.made of_head (inl refl))))
+            (λ on. inr (inr (
+              subst (λ o. IsPlaceOf places (length o)) (r.nothing_read on) here_is,
+              entry_is_lost key piece.held parts (Some head.is_header.1) piece.blanks.now bytes piece.rest.now piece.is_line [] e is.blank is.made of_head (inl refl),
+            )))
             was_nothing is.joined off;
       };
-      without = spec.lost x r.without is_of;
-      counted = count_more key r.old (r.now ++ r.now_group) n x r.counted is_of;
+      without = spec.lost x r.without is_of here_is;
+      counted = count_more key places r.old (r.now ++ r.now_group) n x r.counted is_of;
     }
 
 -- at the end of the text
-pub losing_ends : {key : Key} {text rest new put : List ℕ} {contents : List Content}
-    {section : Option Section} {g : Group} (taken : Taken)
-    → Losing key text rest new section g taken.count → Ends None text contents
+pub losing_ends : {key : Key} {places : Option (List ℕ)} {text rest new put : List ℕ} {contents : List Content}
+    {section : Option Section} {g : Group} {index : ℕ} (taken : Taken)
+    → Losing key places text rest new section g taken.count index → Ends None text contents
     → (rest ≡ []) ⊎ (¬ (IsRead rest)) → IsFinished g put → taken.text.items ≡ new ++ put
-    → IsTaken key text contents taken
-losing_ends {key = key} {text = text} {rest = rest} {new = new} {put = put} {contents = contents} {section = section} taken r whole left done text_now =
+    → IsTaken key places text contents taken
+losing_ends {key = key} {places = places} {text = text} {rest = rest} {new = new} {put = put} {contents = contents} {section = section} taken r whole left done text_now =
     let (rest_is, text_is, contents_are) = all_passed r.past.joined r.past.passed whole left in
     let (next, passed, changes) =
     finished r.head_was r.body_was rest r.now_group r.base section r.begins r.group done in
@@ -562,10 +605,10 @@ losing_ends {key = key} {text = text} {rest = rest} {new = new} {put = put} {con
       now = now;
       ends = subst (λ t. Ends None t now) (sym text_now)
           (passed_ends rest_is (holds_then new put r.new_is passed));
-      without = subst (λ c. Without key c now) contents_are r.without;
-      counted = subst (λ c. Counted key c now taken.count) contents_are r.counted;
-      changes = subst (λ t. Becomes (Comes text) (MayUnset key) t [] taken.text.items) (sym text_is)
-          (subst (λ n. Becomes (Comes text) (MayUnset key) (r.front ++ (r.head_was ++ r.body_was)) [] n) (sym text_now) all);
+      without = subst (λ c. Without key places c now) contents_are r.without;
+      counted = subst (λ c. Counted key places c now taken.count) contents_are r.counted;
+      changes = subst (λ t. Becomes (Comes text) (MayUnset key places) t [] taken.text.items) (sym text_is)
+          (subst (λ n. Becomes (Comes text) (MayUnset key places) (r.front ++ (r.head_was ++ r.body_was)) [] n) (sym text_now) all);
     }
 
 -- what is no header
@@ -577,3 +620,8 @@ pub nothing_no_header : {h : Held} → (h ≡ held.Nothing) ⊎ (h ≡ held.Comm
     → h ≡ held.Header header → ⊥
 nothing_no_header (inl e) header f = cc
 nothing_no_header (inr e) header f = cc
+
+pub nothing_in : {h : Held} (section : Option Section) → (h ≡ held.Nothing) ⊎ (h ≡ held.Comment)
+    → contents_in h section ≡ []
+nothing_in section (inl e) = ap (λ h. contents_in h section) e
+nothing_in section (inr e) = ap (λ h. contents_in h section) e

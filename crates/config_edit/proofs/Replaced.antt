@@ -85,22 +85,22 @@ has_key entry key (is_in, same) =
     record { section = section; in_section = e; stem_listed = listed; same_name = same }
 
 -- contents without those of a key
-pub without_both : {key : Key} (a b : List Content) {c d : List Content} → Without key a b → Without key c d
-    → Without key (a ++ c) (b ++ d)
+pub without_both : {key : Key} (a b : List Content) {c d : List Content} → Without key None a b → Without key None c d
+    → Without key None (a ++ c) (b ++ d)
 without_both {key = key} a b first spec.none =
-    subst (λ x. Without key x (b ++ [])) (sym (append-nil a))
-    (subst (λ y. Without key a y) (sym (append-nil b)) first)
-without_both {key = key} a b first (spec.lost x {old = old} {new = new} second is) =
-    subst (λ o. Without key o (b ++ new)) (append_assoc a old (x ∷ []))
-    (spec.lost x (without_both a b first second) is)
+    subst (λ x. Without key None x (b ++ [])) (sym (append-nil a))
+    (subst (λ y. Without key None a y) (sym (append-nil b)) first)
+without_both {key = key} a b first (spec.lost x {old = old} {new = new} second is at) =
+    subst (λ o. Without key None o (b ++ new)) (append_assoc a old (x ∷ []))
+    (spec.lost x (without_both a b first second) is at)
 without_both {key = key} a b first (spec.kept x {old = old} {new = new} second other) =
-    subst (λ o. Without key o (b ++ (new ++ x ∷ []))) (append_assoc a old (x ∷ []))
-    (subst (λ n. Without key ((a ++ old) ++ x ∷ []) n) (append_assoc b new (x ∷ []))
+    subst (λ o. Without key None o (b ++ (new ++ x ∷ []))) (append_assoc a old (x ∷ []))
+    (subst (λ n. Without key None ((a ++ old) ++ x ∷ []) n) (append_assoc b new (x ∷ []))
     (spec.kept x (without_both a b first second) other))
 
 pub none_in : {key : Key} (h : Held) (section : Option Section) → ¬ (IsEntryHeld key section h)
     → HasNone key (contents_in h section)
-none_in (held.Entry parts) section other = spec.kept (content_of section parts) spec.none other
+none_in (held.Entry parts) section other = spec.kept (content_of section parts) spec.none (λ is. other is.0)
 none_in (held.Header new) section other = spec.none
 none_in held.Nothing section other = spec.none
 none_in held.Comment section other = spec.none
@@ -274,7 +274,7 @@ replacing_finds key text rest start new section several (Some g) f left between 
       is_entry = is_entry_held f.piece.held f e is.made;
       is_of = is_of;
       others = without_both r.before r.left r.others
-          (without_both (x ∷ []) [] (spec.lost x spec.none r.is_of) r.last);
+          (without_both (x ∷ []) [] (spec.lost x spec.none r.is_of tt) r.last);
       changes = subst (λ f. Becomes (Comes text) (MayLose key) f left_over (new ++ put))
           (append_assoc r.front g.piece.bytes.now r.between)
           (subst (λ n. Becomes (Comes text) (MayLose key) ((r.front ++ g.piece.bytes.now) ++ r.between) left_over n)
@@ -420,7 +420,7 @@ one_replaced {key = key} {text = text} {rest = rest} {start = start} {new = new}
             ]));
         single = λ one.
             let (new_is, left_is) = r.single one in (
-              subst (λ l. Without key r.before l) left_is r.others,
+              subst (λ l. Without key None r.before l) left_is r.others,
               subst (λ n. SetsIn value r.before x text (n ++ (put ++ start))) (sym new_is)
                   (subst (λ t. SetsIn value r.before x t (r.front ++ (put ++ start))) (sym r.joined)
                   (elim set.given [

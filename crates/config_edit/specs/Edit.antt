@@ -452,6 +452,7 @@ RefusesEdit Several Absent key value text (error.Key e) = RefusesKey key e
 RefusesEdit Several Absent key value text error.Section =
     (k : Key) × IsKey key k × HasNoHeader k.section k.subsection
 RefusesEdit Several Absent key value text error.Value = (k : Key) × IsKey key k × LacksSpelling value
+RefusesEdit Several Absent key value text error.Comment = ⊥
 RefusesEdit Several Absent key value text (error.File e) =
     (k : Key) × IsKey key k × (entries : List Entry) × IsFile text entries (Some e)
 RefusesEdit Several Absent key value text error.Several =
@@ -555,7 +556,7 @@ ChangesValueTo value was bytes =
 -- What Git writes for a comment: if spaces and TABs and `#` begin it, it stays as it is; a space comes before a `#` that
 -- begins it; and ` # ` comes before any other.
 pub data WritesComment : List ℕ → List ℕ → Type 0 where
-  spaced : {b : ℕ} {blanks more : List ℕ} → list_all is_space (b ∷ blanks) ≡ true
+  spaced : (b : ℕ) (blanks more : List ℕ) → list_all is_space (b ∷ blanks) ≡ true
       → WritesComment ((b ∷ blanks) ++ hash ∷ more) ((b ∷ blanks) ++ hash ∷ more)
   signed : {more : List ℕ} → WritesComment (hash ∷ more) (space ∷ hash ∷ more)
   plain : {comment : List ℕ}

@@ -28,7 +28,7 @@ use Rattle.config_edit.specs.declared.EditError.{EditError}
 use Rattle.config_edit.specs.declared.EditError.TheVariants as error
 use Rattle.config_file.specs.Key.{Key, IsKey, RefusesKey, is_name}
 use Rattle.config_file.specs.Spelling.{SpellsSection, HasNoHeader}
-use Rattle.config_file.specs.Value.{outside, SpellsValue, line_feeds}
+use Rattle.config_file.specs.Value.{outside, at_backslash, SpellsValue, line_feeds}
 use Rattle.config_edit.specs.Edit.{Content, content, WithoutIn, LosesSection, MayRemove, LosesOne, IsHeaderOf, IsBody}
 use Rattle.config_edit.specs.Edit.{IsLostTail, MayUnset, AreBlank, IsTail, IsEntry, IsEnd}
 use Rattle.config_edit.specs.Edit.{LosesEntry, MayReplace, IsIn, IsOf, HasValue, Renames, Without, HasNone, HasNoneAt, IsPlaceOf}
@@ -188,6 +188,12 @@ pub record IsGiven (parts : EntryParts) (piece : Piece) (value put : List ℕ) :
   pub put_is : put ≡ piece.blanks.now ++ (now ++ tail)
   pub gives : GivesValue value parts.key.now (value_of parts.value) gone now (tail ++ piece.rest.now)
 
+-- the entry has this value, before what follows it or at a backslash that ends the text
+abbrev pub HasHow : EntryParts → List ℕ → Type 0
+HasHow parts value = (raw : List ℕ) × (value_of parts.value ≡ Some raw)
+    × ((SpellsValue raw value outside × (parts.lines ≡ line_feeds raw))
+    ⊎ (SpellsValue raw value at_backslash × (parts.lines ≡ line_feeds raw + 1)))
+
 -- In the place of the piece of an entry, these bytes are an entry of the same key with this value. They are those of the
 -- piece if the entry has the value already.
 pub record IsSet (parts : EntryParts) (piece : Piece) (value put : List ℕ) : Type 0 where
@@ -196,7 +202,7 @@ pub record IsSet (parts : EntryParts) (piece : Piece) (value put : List ℕ) : T
   pub at : List ℕ
   pub has_value : HasValue (Some raw) value
   pub entry : IsEntry parts.key.now (Some raw) lines at piece.blanks.now put piece.rest.now piece.is_line
-  pub given : (HasValue (value_of parts.value) value × (put ≡ piece.bytes.now))
+  pub given : (HasValue (value_of parts.value) value × (put ≡ piece.bytes.now) × HasHow parts value)
       ⊎ (¬ (HasValue (value_of parts.value) value) × IsGiven parts piece value put)
 
 -- the new body is the old one, of which one stretch has changed as this allows, behind these contents and in this section
@@ -571,6 +577,7 @@ pub record IsShaped (name : List ℕ) (value : Option (List ℕ)) (parts : Entry
   pub put_is : put ≡ piece.blanks.now ++ ((name ++ (between ++ bytes)) ++ tail)
   pub is_valued : MatchOption value (bytes ≡ value_bytes (value_of parts.value))
       (λ new. ChangesValueTo new (value_of parts.value) bytes)
+  pub how : MatchOption value ⊤ (λ new. HasValue (value_of parts.value) new → HasHow parts new)
 
 -- in the place of the piece of an entry, these bytes are an entry of the same key with this value, or with the old one
 pub record IsValued (value : Option (List ℕ)) (parts : EntryParts) (piece : Piece) (put : List ℕ) : Type 0 where

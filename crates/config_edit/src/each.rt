@@ -83,11 +83,13 @@ fn push_change(
         × IsChangedIn change.now parts.now piece.now put) }
 {
     let (Some(value), Some(comment)) = (change.value, change.comment) else {
-        return push_named(new, alloc, piece, parts, change.name, change.value);
+        push_named(new, alloc, piece, parts, change.name, change.value)?;
+        return Ok(());
     };
     let mut line = Vec::new(alloc);
     push_named(&mut line, alloc, piece, parts, change.name, Some(value))?;
-    push_commented(new, alloc, piece, parts, line.as_slice(), value, comment)
+    push_commented(new, alloc, piece, parts, line.as_slice(), value, comment)?;
+    Ok(())
 }
 
 /// Appends the piece of an entry with this last part of its key and this value, where they are given.
@@ -106,7 +108,8 @@ fn push_named(
         × IsNamed (option_copied name.entry) (option_copied value.entry) parts.now piece.now put) }
 {
     let Some(name) = name else {
-        return push_valued(new, alloc, piece, parts, value);
+        push_valued(new, alloc, piece, parts, value)?;
+        return Ok(());
     };
     let mut line = Vec::new(alloc);
     push_valued(&mut line, alloc, piece, parts, value)?;

@@ -7,14 +7,16 @@
 #![tactic(auto)]
 
 ghost use Rattle.std.specs.Prelude.{◌≡◌, ◌++◌, ◌∷◌, [], List, ℕ, None, Some, true, map, ⊤, IfOk, MatchResult, option_copied};
-ghost use Rattle.config_edit.specs.Edit.{content, AddsOne, AreInOrder, ChangesEntries, HasNone, HasNoneAt, HasSeveral, Never, RefusesChanges, RefusesEdit, RefusesLastPart, RefusesOneChange, RefusesOneOf, RefusesRemoval, RefusesRenaming, RemovesSection, RenamesSection, ReplacesAll, Sets, Unsets, UnsetsAll, UnsetsAt, UnsetsEach};
-ghost use Rattle.config_file.specs.Spelling.{HasNoSpelling};
+ghost use Rattle.config_edit.specs.Edit.{content, AddsOne, AreInOrder, ChangesEntries, HasNone, HasNoneAt, HasSeveral, Never, RefusesChanges, RefusesComment, RefusesEdit, RefusesLastPart, RefusesOneChange, RefusesOneOf, RefusesRemoval, RefusesRenaming, RemovesSection, RenamesSection, ReplacesAll, Sets, Unsets, UnsetsAll, UnsetsAt, UnsetsEach};
+ghost use Rattle.std.specs.List.{list_all};
+ghost use Rattle.config_file.specs.Bytes.{is_comment_byte};
+ghost use Rattle.config_file.specs.Spelling.{HasNoSpelling, LacksSpelling};
 ghost use Rattle.config_file.specs.File.{Entry, IsFile};
-ghost use Rattle.config_edit.specs.Reading.{AreWritable, IsSplit, IsWritable, IsWritableName, RefusesName, RefusesText};
+ghost use Rattle.config_edit.specs.Reading.{AreWritable, IsSplit, IsWritable, IsWritableComment, IsWritableName, IsWritableValue, RefusesName, RefusesText};
 ghost use Rattle.config_file.specs.Key.{IsKey};
 ghost use Rattle.config_file.specs.KeyView.{key_of};
 ghost use Rattle.config_file.specs.Reading.Spellings as spec;
-ghost use Rattle.config_edit.specs.declared.EditError.TheVariants.{Memory, Value};
+ghost use Rattle.config_edit.specs.declared.EditError.TheVariants.{Comment, Memory, Value};
 
 mod each;
 pub mod laws;
@@ -28,6 +30,7 @@ use crate::each::{change_at, change_each};
 use crate::removal::{Count, without};
 use crate::sections::{renamed, without_section};
 use crate::setting::{Replacement, added, replace};
+use config_file::bytes::{Class, run};
 use config_file::errors::FileError;
 use config_file::key::{Key, KeyError, is_name};
 use config_file::reader::{Entries, after_mark};
@@ -294,8 +297,8 @@ fn unset_each(
     key: &[u8],
     places: Option<&[usize]>,
 ) -> Result<Vec<u8>, EditError>
-    ensures { MatchResult result (λ new. UnsetsEach (option_copied places) key.now text.now new.items)
-        (RefusesEdit Never (HasNoneAt (option_copied places)) key.now None text.now) }
+    ensures { MatchResult result (λ new. UnsetsEach (option_copied places.entry) key.now text.now new.items)
+        (RefusesEdit Never (HasNoneAt (option_copied places.entry)) key.now None text.now) }
 {
     let key = parse_key(key)?;
     check_file(text)?;
@@ -419,6 +422,37 @@ fn check_name(name: Option<&[u8]>) -> Result<(), KeyError>
     }
 }
 
+/// Refuses a new value that no bytes spell.
+fn check_given(value: Option<&[u8]>) -> Result<(), EditError>
+    ensures { MatchResult result (λ _. IsWritableValue (option_copied value.entry))
+        (λ error. (error ≡ Value) × LacksSpelling (option_copied value.entry)) }
+{
+    match value {
+        Some(value) => check_value(value),
+        None => Ok(()),
+    }
+}
+
+/// Whether no line end is in a comment.
+#[tactic(auto, using(crate::proofs::Commented::run_is_all))]
+fn is_one_line(comment: &[u8]) -> bool
+    ensures { result ≡ list_all is_comment_byte comment.now }
+{
+    run(comment, Class::Comment).1.is_empty()
+}
+
+/// Refuses a comment that comes without a value, or has a line end.
+fn check_comment(value: Option<&[u8]>, comment: Option<&[u8]>) -> Result<(), EditError>
+    ensures { MatchResult result (λ _. IsWritableComment (option_copied value.entry) (option_copied comment.entry))
+        (λ error. (error ≡ Comment) × RefusesComment (option_copied value.entry) (option_copied comment.entry)) }
+{
+    match (value, comment) {
+        (_, None) => Ok(()),
+        (Some(_), Some(comment)) if is_one_line(comment) => Ok(()),
+        _ => Err(EditError::Comment),
+    }
+}
+
 /// Refuses a change that cannot be written.
 fn check_change(change: &Change<'_>) -> Result<(), EditError>
     ensures { MatchResult result (λ _. IsWritable change.now) (RefusesOneChange change.now) }
@@ -426,15 +460,9 @@ fn check_change(change: &Change<'_>) -> Result<(), EditError>
     if let Err(error) = check_name(change.name) {
         return Err(EditError::Key(error));
     }
-    if let Some(value) = change.value {
-        check_value(value)?;
-    }
-    match change.comment {
-        Some(comment) if change.value.is_none() || comment.contains(&b'\n') => {
-            Err(EditError::Comment)
-        }
-        _ => Ok(()),
-    }
+    check_given(change.value)?;
+    check_comment(change.value, change.comment)?;
+    Ok(())
 }
 
 /// Refuses changes of which one cannot be written.

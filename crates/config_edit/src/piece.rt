@@ -169,7 +169,8 @@ fn line_piece<'a>(text: &'a [u8], blanks: &'a [u8], at: &'a [u8]) -> Option<Piec
 impl<'a> Piece<'a> {
     /// The line end of the piece, or nothing if none ends it.
     pub(crate) fn line_end(&self) -> &'static [u8]
-        ensures { IsEndOfLine self.now.bytes.now self.now.is_line result.now }
+        ensures is { IsEnd result.now }
+        ensures ends { IsEndOfLine self.now.bytes.now self.now.is_line result.now }
     {
         if !self.is_line {
             return &[];
@@ -195,7 +196,8 @@ impl<'a> Piece<'a> {
 
 /// The line end of a text that LF ends.
 fn line_end(line: &[u8]) -> &'static [u8]
-    ensures { IsEndOfLine line.now true result.now }
+    ensures is { IsLineEnd result.now }
+    ensures ends { IsEndOfLine line.now true result.now }
 {
     if line.ends_with(b"\r\n") {
         b"\r\n"

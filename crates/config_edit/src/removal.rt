@@ -154,13 +154,13 @@ impl Group {
 /// Whether one of these places is this one, if they rise, and those that are left after it. Without places,
 /// each is one.
 fn at_place(places: Option<&[usize]>, index: usize) -> (bool, Option<&[usize]>)
-    ensures here { IsTrue result.0 ↔ IsPlaceOf (option_copied places) index }
-    ensures left { AreLeft (option_copied places) (option_copied result.1) index }
+    ensures here { IsTrue result.0 ↔ IsPlaceOf (option_copied places.entry) index }
+    ensures left { AreLeft (option_copied places.entry) (option_copied result.1) index }
 {
     let Some(mut left) = places else {
         return (true, None);
     };
-    'before: while let [first, later @ ..] = left {
+    'smaller: while let [first, later @ ..] = left {
         if *first >= index {
             break;
         }
@@ -180,7 +180,7 @@ pub(crate) fn without(
     places: Option<&[usize]>,
 ) -> Result<Taken, AllocError>
     ensures { (contents : List Content) → Ends None text.now contents
-        → IfOk result (λ taken. IsTaken (key_of key.now) (option_copied places) text.now contents taken) }
+        → IfOk result (λ taken. IsTaken (key_of key.now) (option_copied places.entry) text.now contents taken) }
 {
     let mut new = Vec::with_capacity(alloc, text.len())?;
     let mut rest = text;

@@ -10,7 +10,7 @@ ghost use Rattle.config_file.specs.Reading.Spellings.{is_spellable};
 ghost use Rattle.config_file.specs.Spelling.{git_spelled};
 
 use crate::piece::{Held, Piece};
-use config_file::bytes::{Class, before, is_blank, is_comment_sign, run, split};
+use config_file::bytes::{Class, after_byte, before, is_blank, is_comment_sign, run, split};
 use config_file::entry::EntryParts;
 use config_file::spelling::push_as_git;
 use config_file::value::Value;
@@ -277,9 +277,9 @@ fn comment_front(comment: &[u8]) -> &'static [u8]
     ensures { WritesComment comment.now (result.now ++ comment.now) }
 {
     let (blanks, rest) = run(comment, Class::Space);
-    match rest {
-        [b'#', ..] if blanks.is_empty() => b" ",
-        [b'#', ..] => b"",
-        _ => b" # ",
+    match after_byte(b'#', rest) {
+        None => b" # ",
+        Some(_) if blanks.is_empty() => b" ",
+        Some(_) => b"",
     }
 }

@@ -150,7 +150,7 @@ stops_after {e = e} (value.plain {quoted = q} {b = b} {raw = raw} is s) rest (su
     (step_plain q b (raw ++ rest) (plain_goes_on q b is) (plain_no_quote q b is) (plain_no_backslash q b is)) (stops_after s rest n (omega arith) none)
 
 -- the bytes of a value that ends at a backslash end in that backslash
-before_backslash : {w : ℕ → ℕ} {q : Bool} {so_far raw spelled held : List ℕ}
+pub before_backslash : {w : ℕ → ℕ} {q : Bool} {so_far raw spelled held : List ℕ}
     → Spells w q so_far held raw spelled at_backslash → (front : List ℕ) × (raw ≡ front ++ 92 ∷ [])
 before_backslash (value.ends_at_backslash is) = ([], rw is)
 before_backslash (value.quote {b = b} is s) = let (front, e) = before_backslash s in (b ∷ front, ap (◌∷◌ b) e)

@@ -2,7 +2,7 @@
 
 use crate::support::equal;
 use bstr::BStr;
-use config_file::{Scope, Settings};
+use config_file::{Scope, Setting, Settings};
 use gix_config_value::{Fault, Integer};
 use std::alloc::{AllocError, Global};
 use std::test::Fail;
@@ -27,13 +27,19 @@ fn both(alloc: Global) -> Result<Settings<'static>, Fail> {
     Ok(settings)
 }
 
-/// The keys of the settings of a scope, as Git lists them, each with a space behind it.
-fn keys(alloc: Global, settings: &Settings<'_>, scope: Scope) -> Result<Vec<u8>, AllocError> {
+/// Appends the key of a setting, as Git lists it, and a space.
+fn push_key(alloc: Global, keys: &mut Vec<u8>, setting: &Setting<'_>) -> Result<(), AllocError> {
+    keys.extend_from_slice(&setting.entry.key_text(alloc)?)?;
+    keys.push(b' ')?;
+    Ok(())
+}
+
+/// The keys of the settings of a scope.
+fn in_scope(alloc: Global, settings: &Settings<'_>, scope: Scope) -> Result<Vec<u8>, AllocError> {
     let mut keys = Vec::new(alloc);
     for setting in &settings.entries {
         if setting.scope == scope {
-            keys.extend_from_slice(&setting.entry.key_text(alloc)?)?;
-            keys.push(b' ')?;
+            push_key(alloc, &mut keys, setting)?;
         }
     }
     Ok(keys)
@@ -58,7 +64,7 @@ fn lists_settings_and_subsections(rt: HostRuntime) -> Result<(), Fail> {
     let settings = both(alloc)?;
     assert!(rt; Settings::new(alloc).scope == Scope::Command);
     for (scope, wanted) in SCOPES {
-        let given = keys(alloc, &settings, scope)?;
+        let given = in_scope(alloc, &settings, scope)?;
         equal(&rt, BStr::new(&given), BStr::from(wanted), wanted);
     }
     assert!(rt; settings.subsections(alloc, b"remote")?.is_empty());

@@ -1,4 +1,4 @@
-use Rattle.std.proofs.Common.{sym, subst, map, List}
+use Rattle.std.proofs.Common.{sym, subst, map, List, None}
 use Rattle.config_edit.specs.declared.removal.Count.TheVariants as count
 use Rattle.config_file.specs.KeyView.{key_of}
 use Rattle.config_edit.specs.Edit.{Content, content, HasContents, LosesOne, Changes, MayUnset}
@@ -13,8 +13,8 @@ returns-in-None c =
     let (entries, is_file) = c.in_ok-check_file.ensures in
     let contents = map content entries in
     let taken = c.in_ok-taken.ensures contents (body_ends is_file c.split_mark.ensures) in
-    let none : Counted key contents taken.now count.None =
-    subst (λ n. Counted key contents taken.now n) c.in-None.is taken.counted in
+    let none : Counted key None contents taken.now count.None =
+    subst (λ n. Counted key None contents taken.now n) c.in-None.is taken.counted in
     (key, c.in_ok-key.ensures.0, contents, contents_of is_file, none.0)
 
 pub returns-in_ok-marked-in-One : goal.returns-in_ok-marked-in-One
@@ -28,7 +28,7 @@ returns-in_ok-marked-in-One c =
       contents,
       contents_of is_file,
       subst (λ n. (now : List Content) × HasContents n now × LosesOne key contents now × Changes
-          (MayUnset key) c.args.text.now n)
+          (MayUnset key None) c.args.text.now n)
           (sym c.in_ok-marked-in-One.ensures) (one_taken c.split_mark.ensures (body_ends is_file c.split_mark.ensures) taken c.in-One.is),
     )
 
@@ -43,5 +43,5 @@ returns-in-Several c =
       contents,
       contents_of is_file,
       subst
-          (λ n. Counted key contents taken.now n) c.in-Several.is taken.counted,
+          (λ n. Counted key None contents taken.now n) c.in-Several.is taken.counted,
     )

@@ -1,41 +1,45 @@
-use Rattle.std.proofs.Common.{◌≡◌, ◌++◌, ◌∙◌, ap, sym, subst, append_assoc, option_copied, true}
-use Rattle.config_file.specs.Key.{is_name}
-use Rattle.config_edit.specs.Reading.{IsWritableName}
-use Rattle.config_edit.proofs.EachEntry.{named, named_old, named_new}
+use Rattle.std.proofs.Common.{◌≡◌, ◌++◌, ◌∙◌, None, Some, ap, sym, subst, inl, inr, option_copied}
+use Rattle.config_edit.specs.Edit.{name_after}
+use Rattle.config_edit.specs.Reading.{IsNamed, IsShaped}
+use Rattle.config_edit.proofs.EachEntry.{no_comment, changed_plain}
+use Rattle.config_edit.proofs.Commented.{changed_commented, writable_comment}
 use Rattle.config_edit.proofs.each.push_change.Goals as goal
+use Rattle.config_edit.proofs.each.push_change.Goals.{in_default-via-in-Some+in_default, in_default-via-in_default}
 
-pub returns-in-None : goal.returns-in-None
-returns-in-None c =
-    let (put, pushed, valued) = c.in_ok-push_valued-in-None.ensures in
-    (put, pushed, named_old c.requires.entry (ap (λ n. option_copied n) c.in-None.is) valued)
+pub returns-in_default : goal.returns-in_default
+returns-in_default c =
+    let change = c.args.change.now in
+    let (put, pushed, named) = c.in_ok-push_named.ensures in
+    let none : option_copied change.comment ≡ None =
+    no_comment (option_copied change.value) (option_copied change.comment) c.requires.writable.2 (elim c.in_default.branch [
+      | in_default-via-in-Some+in_default w ↦ inr (ap (λ o. option_copied o) w.in_default.is-1)
+      | in_default-via-in_default w ↦ inl (ap (λ o. option_copied o) w.in_default.is-0)
+    ]) in
+    (put, pushed, changed_plain none named)
 
-pub behind-requires : goal.behind-requires
-behind-requires c =
-    let (line, pushed, valued) = c.in_ok-push_valued.ensures in
-    let name_is = ap (λ n. option_copied n) c.in-Some.is in
-    let is : is_name c.in-Some.name.now ≡ true = subst IsWritableName name_is c.requires.writable.0 in
-    let (more, joined, entry) = named c.in-Some.name.now is valued.entry in
+pub push_commented-requires-clause-shaped : goal.push_commented-requires-clause-shaped
+push_commented-requires-clause-shaped c =
+    let (line, pushed, named) = c.in_ok-push_named-2.ensures in
     let line_is : c.as_slice.result.now ≡ line =
     c.as_slice.ensures.value ∙ pushed ∙ ap (λ l. l ++ line) c.new-line.ensures.items in
-    (more, line_is ∙ joined)
+    let name = name_after (option_copied c.args.change.now.name) c.args.parts.now.key.now in
+    let value = c.in-Some-Some.value.now in (
+      name,
+      subst (λ l. IsShaped name (Some value) c.args.parts.now c.args.piece.now l) (sym line_is) named.shaped,
+    )
 
 pub returns : goal.returns
 returns c =
-    let (line, pushed, valued) = c.in_ok-push_valued.ensures in
-    let name = c.in-Some.name.now in
-    let blanks = c.args.piece.now.blanks.now in
-    let more = c.behind.result.now in
-    let new = c.args.new.now.items in
-    let name_is = ap (λ n. option_copied n) c.in-Some.is in
-    let is : is_name name ≡ true = subst IsWritableName name_is c.requires.writable.0 in
+    let change = c.args.change.now in
+    let (line, pushed_line, named) = c.in_ok-push_named-2.ensures in
     let line_is : c.as_slice.result.now ≡ line =
-    c.as_slice.ensures.value ∙ pushed ∙ ap (λ l. l ++ line) c.new-line.ensures.items in
-    let whole : c.extend_from_slice-3.new.self.items ≡ new ++ (blanks ++ (name ++ more)) =
-    c.in_ok-extend_from_slice-3.ensures.items
-    ∙ ap (λ x. x ++ more) (c.in_ok-extend_from_slice-2.ensures.items
-    ∙ ap (λ x. x ++ name) c.in_ok-extend_from_slice.ensures.items)
-    ∙ append_assoc (new ++ blanks) name more ∙ append_assoc new blanks (name ++ more) in (
-      blanks ++ (name ++ more),
-      whole,
-      named_new name more c.requires.entry name_is is valued (sym line_is ∙ c.behind.ensures),
-    )
+    c.as_slice.ensures.value ∙ pushed_line ∙ ap (λ l. l ++ line) c.new-line.ensures.items in
+    let value = c.in-Some-Some.value.now in
+    let comment = c.in-Some-Some.comment.now in
+    let (put, pushed, commented) = c.in_ok-push_commented.ensures in
+    let value_is : option_copied change.value ≡ Some value = ap (λ o. option_copied o) c.in-Some-Some.is-0 in
+    let comment_is : option_copied change.comment ≡ Some comment = ap (λ o. option_copied o) c.in-Some-Some.is-1 in
+    let all = writable_comment (option_copied change.value) (option_copied change.comment) value comment value_is comment_is c.requires.writable.2 in
+    let there : IsNamed (option_copied change.name) (Some value) c.args.parts.now c.args.piece.now c.as_slice.result.now =
+    subst (λ l. IsNamed (option_copied change.name) (Some value) c.args.parts.now c.args.piece.now l) (sym line_is) named in
+    (put, pushed, changed_commented value comment value_is comment_is all c.requires.writable.0 c.requires.entry there commented)

@@ -1,5 +1,6 @@
 use Rattle.std.proofs.Common.{◌≡◌, ◌++◌, ◌∷◌, ◌∙◌, refl, ap, sym, subst, List, ℕ, Some, None}
 use Rattle.std.proofs.Common.{append_assoc, inl, inr, true≢false}
+use Rattle.config_file.specs.Value.{outside, at_backslash, SpellsValue}
 use Rattle.config_edit.specs.Edit.{HasValue}
 use Rattle.config_file.specs.Spelling.{git_spelled}
 use Rattle.config_file.specs.Views.{value_of}
@@ -16,8 +17,16 @@ returns-then-branch c =
       c.in_ok-extend_from_slice.ensures.items,
       elim (spelled_of (value_of c.args.parts.now.value) e.takes) [
         | inl none ↦ absurd (true≢false (sym c.if-branch.true ∙ c.in_ok-has_value.ensures.alone none))
-        | inr (raw, spelled, ending, held, spells) ↦
-            value_kept held spells ((c.in_ok-has_value.ensures.spelled raw spelled ending held spells).0 c.if-branch.true) e
+        | inr (raw, spelled, held, how) ↦ elim how [
+          | inl closed ↦
+              let same = (c.in_ok-has_value.ensures.spelled raw spelled outside held closed.0).0 c.if-branch.true in
+              let spells = subst (λ v. SpellsValue raw v outside) same closed.0 in
+              value_kept held spells (raw, held, inl (spells, closed.1)) e
+          | inr broken ↦
+              let same = (c.in_ok-has_value.ensures.spelled raw spelled at_backslash held broken.0).0 c.if-branch.true in
+              let spells = subst (λ v. SpellsValue raw v at_backslash) same broken.0 in
+              value_kept held spells (raw, held, inr (spells, broken.1)) e
+        ]
       ],
     )
 

@@ -1,0 +1,573 @@
+-- Entries that get comments.
+use Rattle.std.proofs.Common.{◌≡◌, ◌≢◌, ℕ, ◌+◌, Bool, true, false, not, List, [], ◌∷◌, ◌++◌, Option, Some, None, refl}
+use Rattle.std.proofs.Common.{sym, ap, ◌∙◌, subst, append_assoc, append-nil, arith, inl, inr, ◌⊎◌, true≢false, ◌&&◌}
+use Rattle.std.proofs.Common.{option_copied, MatchOption, eqb-true, ◌==◌, length}
+use Rattle.std.specs.List.{list_all}
+use Rattle.std.specs.Char.{is_ascii_alphabetic}
+use Rattle.std.proofs.lemmas.Bool.{and_parts, cases_Bool}
+use Rattle.std.proofs.lemmas.Bool.Decides.{nat_tests}
+use Rattle.std.proofs.lemmas.List.{append_cancel_left, append_cancel_right}
+use Rattle.std.proofs.lemmas.List.Folds.{list_all-append}
+use Rattle.config_edit.specs.declared.Change.{Change}
+use Rattle.config_edit.specs.declared.piece.Piece.{Piece}
+use Rattle.config_file.specs.declared.entry.EntryParts.{EntryParts}
+use Rattle.config_file.specs.Bytes.{is_blank, is_space, is_comment_byte, is_comment_sign, is_plain, is_plain_in_quotes, BeginsWithLetter}
+use Rattle.config_file.specs.Header.{BeginsWithout}
+use Rattle.config_file.specs.Runs.{Run}
+use Rattle.config_file.specs.Value as value
+use Rattle.config_file.specs.Value.{Ending, outside, at_backslash, Spells, SpellsValue, EndsValue, line_feeds, escape}
+use Rattle.config_file.specs.File.{TakesEntry}
+use Rattle.config_file.specs.Key.{is_name}
+use Rattle.config_edit.specs.Edit as spec
+use Rattle.config_edit.specs.Edit.{AreBlank, IsTail, IsEntry, IsGap, HasValue, PutsValue, ChangesValueTo, ChangesEntry}
+use Rattle.config_edit.specs.Edit.{WritesComment, IsEndOfLine, FeedsComment, PutsComment, name_after, value_bytes}
+use Rattle.config_edit.specs.Edit.{present}
+use Rattle.config_edit.specs.Reading.{HasHow, IsOpen, IsNamed, IsCommented, IsChangedIn, IsWritableName, IsWritableComment}
+use Rattle.config_file.specs.Views.{value_of}
+use Rattle.config_edit.proofs.Pieces.{first_blank, other_blanks}
+use Rattle.config_edit.proofs.Changed.{parts_blank, both_blank, gap_blank, spells_between, spells_before, can_hold, with_value}
+use Rattle.config_edit.proofs.Changed.{inside_is_not_outside, backslash_is_not_outside, tail_cut}
+use Rattle.config_edit.proofs.EachEntry.{entry_named, begins_named}
+use Rattle.config_edit.proofs.Closed.{goes_on_over, more_bytes, some_same}
+use Rattle.config_file.proofs.OneValue.{before_backslash}
+use Rattle.config_file.proofs.OneRun.{run_same}
+use Rattle.config_file.proofs.LineEnds.{all_more}
+
+-- a text that is cut at two places
+cut : (a b c d : List ℕ) → a ++ b ≡ c ++ d
+    → ((m : List ℕ) × (c ≡ a ++ m) × (b ≡ m ++ d)) ⊎ ((m : List ℕ) × (a ≡ c ++ m) × (d ≡ m ++ b))
+cut [] b c d e = inl (c, refl, e)
+cut (x ∷ a) b [] d e = inr (x ∷ a, refl, sym e)
+cut (x ∷ a) b (y ∷ c) d e =
+    let same : x ≡ y = cc in
+    let more : a ++ b ≡ c ++ d = cc in
+    elim (cut a b c d more) [
+      | inl (m, front, back) ↦ inl (m, ap (λ f. y ∷ f) front ∙ ap (λ z. z ∷ (a ++ m)) (sym same), back)
+      | inr (m, front, back) ↦ inr (m, ap (λ f. x ∷ f) front ∙ ap (λ z. z ∷ (c ++ m)) same, back)
+    ]
+
+-- blanks do not hold a byte that is none
+last_of_blanks : (more : List ℕ) (x : ℕ) → AreBlank (more ++ x ∷ []) → is_blank x ≡ true
+last_of_blanks more x all = first_blank x [] (parts_blank more (x ∷ []) all).1
+
+nothing_behind : (c m : List ℕ) → [] ≡ c ++ m → m ≡ []
+nothing_behind [] m e = sym e
+nothing_behind (x ∷ c) m e = cc
+
+nothing_there : (b : ℕ) (more : List ℕ) → b ∷ more ≡ [] → ⊥
+nothing_there b more e = cc
+
+no_blank_left : (more : List ℕ) (x : ℕ) (c m : List ℕ) → more ++ x ∷ [] ≡ c ++ m → AreBlank m
+    → is_blank x ≡ false → m ≡ []
+no_blank_left more x [] m e all other =
+    absurd (true≢false (sym (last_of_blanks more x (subst AreBlank (sym e) all)) ∙ other))
+no_blank_left [] x (z ∷ c) m e all other =
+    let left : [] ≡ c ++ m = cc in nothing_behind c m left
+no_blank_left (w ∷ more) x (z ∷ c) m e all other =
+    let left : more ++ x ∷ [] ≡ c ++ m = cc in no_blank_left more x c m left all other
+
+-- the blanks at the end of a text stay behind a byte that is none
+trail_within : (xs ys core blanks more : List ℕ) (x : ℕ) → xs ≡ more ++ x ∷ [] → is_blank x ≡ false
+    → core ++ blanks ≡ xs ++ ys → AreBlank blanks → (inner : List ℕ) × (ys ≡ inner ++ blanks) × (core ≡ xs ++ inner)
+trail_within xs ys core blanks more x ends other joined all =
+    elim (cut xs ys core blanks (sym joined)) [
+      | inl (m, core_is, ys_is) ↦ (m, ys_is, core_is)
+      | inr (m, xs_is, blanks_is) ↦
+          let none : m ≡ [] =
+          no_blank_left more x core m (sym ends ∙ xs_is) (parts_blank m ys (subst AreBlank blanks_is all)).0 other in (
+            [],
+            sym (blanks_is ∙ ap (λ k. k ++ ys) none),
+            sym (append-nil xs ∙ xs_is ∙ ap (λ k. core ++ k) none ∙ append-nil core),
+          )
+    ]
+
+-- a value without the blanks behind it
+no_blank : (b c : ℕ) → is_blank b ≡ true → b ≡ c → is_blank c ≡ false → ⊥
+no_blank b c is same other = true≢false (sym (subst (λ x. is_blank x ≡ true) same is) ∙ other)
+
+no_plain : (b : ℕ) → is_blank b ≡ true → is_plain false b ≡ true → ⊥
+no_plain b is plain =
+    let outer = and_parts (is_plain_in_quotes b) (not (is_blank b) && not (is_comment_sign b)) plain in
+    let inner = and_parts (not (is_blank b)) (not (is_comment_sign b)) outer.1 in
+    true≢false (sym inner.0 ∙ ap not is)
+
+no_escape : (e k : ℕ) → is_blank e ≡ true → escape e ≡ Some k → ⊥
+no_escape e k is letter =
+    elim (cases_Bool (e == 32)) [
+      | inl at ↦ let same : e ≡ 32 = eqb-true e 32 at in
+          let none : escape 32 ≡ Some k = subst (λ x. escape x ≡ Some k) same letter in cc
+      | inr off ↦ elim (cases_Bool (e == 9)) [
+        | inl at ↦ let same : e ≡ 9 = eqb-true e 9 at in
+            let none : escape 9 ≡ Some k = subst (λ x. escape x ≡ Some k) same letter in cc
+        | inr also ↦ let same : e ≡ 13 = grind (arith, nat_tests) in
+            let none : escape 13 ≡ Some k = subst (λ x. escape x ≡ Some k) same letter in cc
+      ]
+    ]
+
+in_quotes : {w : ℕ → ℕ} {so_far held raw text : List ℕ} {ending : Ending} → Spells w true so_far held raw text ending
+    → AreBlank raw → ending ≡ outside → ⊥
+in_quotes value.ends_inside all e = inside_is_not_outside e
+in_quotes (value.quote {b = b} {raw = raw} is s) all e = no_blank b 34 (first_blank b raw all) is refl
+in_quotes (value.escaped {b = b} {e = l} {raw = raw} is letter s) all e = no_blank b 92 (first_blank b (l ∷ raw) all) is refl
+in_quotes (value.continued {b = b} {e = l} {raw = raw} is line s) all e = no_blank b 92 (first_blank b (l ∷ raw) all) is refl
+in_quotes (value.continued_after_return {b = b} {e = l} {f = m} {raw = raw} is return line s) all e =
+    no_blank b 92 (first_blank b (l ∷ m ∷ raw) all) is refl
+in_quotes (value.plain {b = b} {raw = raw} is s) all e = in_quotes s (other_blanks b raw all) e
+
+blanks_alone : {w : ℕ → ℕ} {so_far held raw text : List ℕ} {ending : Ending} → Spells w false so_far held raw text ending
+    → AreBlank raw → ending ≡ outside → text ≡ so_far
+blanks_alone value.ends_outside all e = refl
+blanks_alone (value.ends_at_backslash is) all e = absurd (backslash_is_not_outside e)
+blanks_alone (value.quote {b = b} {raw = raw} is s) all e = absurd (no_blank b 34 (first_blank b raw all) is refl)
+blanks_alone (value.escaped {b = b} {e = l} {raw = raw} is letter s) all e =
+    absurd (no_blank b 92 (first_blank b (l ∷ raw) all) is refl)
+blanks_alone (value.continued {b = b} {e = l} {raw = raw} is line s) all e =
+    absurd (no_blank b 92 (first_blank b (l ∷ raw) all) is refl)
+blanks_alone (value.continued_after_return {b = b} {e = l} {f = m} {raw = raw} is return line s) all e =
+    absurd (no_blank b 92 (first_blank b (l ∷ m ∷ raw) all) is refl)
+blanks_alone (value.blank {b = b} {raw = raw} is s) all e = blanks_alone s (other_blanks b raw all) e
+blanks_alone (value.plain {b = b} {raw = raw} is s) all e = absurd (no_plain b (first_blank b raw all) is)
+
+nothing_left : {w : ℕ → ℕ} (q : Bool) {so_far held raw text : List ℕ} {ending : Ending} → Spells w q so_far held raw text ending
+    → AreBlank raw → ending ≡ outside → Spells w q so_far held [] text outside
+nothing_left true s all e = absurd (in_quotes s all e)
+nothing_left {w = w} false {so_far = so_far} {held = held} s all e =
+    subst (λ t. Spells w false so_far held [] t outside) (sym (blanks_alone s all e)) value.ends_outside
+
+trimmed : {w : ℕ → ℕ} {q : Bool} {so_far held raw text : List ℕ} {ending : Ending} (core blanks : List ℕ)
+    → AreBlank blanks → ending ≡ outside → raw ≡ core ++ blanks → Spells w q so_far held raw text ending
+    → Spells w q so_far held core text outside
+trimmed {q = q} [] blanks all e joined s = nothing_left q s (subst AreBlank (sym joined) all) e
+trimmed (c ∷ core) blanks all e joined value.ends_outside = cc
+trimmed (c ∷ core) blanks all e joined value.ends_inside = absurd (inside_is_not_outside e)
+trimmed (c ∷ core) blanks all e joined (value.ends_at_backslash is) = absurd (backslash_is_not_outside e)
+trimmed {w = w} {q = q} {so_far = so_far} {held = held} {text = text} (c ∷ core) blanks all e joined (value.quote {b = b} {raw = raw} is s) =
+    let same : b ≡ c = cc in
+    let left : raw ≡ core ++ blanks = cc in
+    subst (λ x. Spells w q so_far held (x ∷ core) text outside) same (value.quote is (trimmed core blanks all e left s))
+trimmed {w = w} {q = q} {so_far = so_far} {held = held} {text = text} (c ∷ core) blanks all e joined (value.blank {b = b} {raw = raw} is s) =
+    let same : b ≡ c = cc in
+    let left : raw ≡ core ++ blanks = cc in
+    subst (λ x. Spells w false so_far held (x ∷ core) text outside) same (value.blank is (trimmed core blanks all e left s))
+trimmed {w = w} {q = q} {so_far = so_far} {held = held} {text = text} (c ∷ core) blanks all e joined (value.plain {b = b} {raw = raw} is s) =
+    let same : b ≡ c = cc in
+    let left : raw ≡ core ++ blanks = cc in
+    subst (λ x. Spells w q so_far held (x ∷ core) text outside) same (value.plain is (trimmed core blanks all e left s))
+trimmed (c ∷ []) blanks all e joined (value.escaped {e = l} {c = k} {raw = raw} is letter s) =
+    let left : l ∷ raw ≡ blanks = cc in
+    absurd (no_escape l k (first_blank l raw (subst AreBlank (sym left) all)) letter)
+trimmed {w = w} {q = q} {so_far = so_far} {held = held} {text = text} (c ∷ d ∷ core) blanks all e joined (value.escaped {b = b} {e = l} {raw = raw} is letter s) =
+    let same : b ≡ c = cc in
+    let also : l ≡ d = cc in
+    let left : raw ≡ core ++ blanks = cc in
+    subst (λ x. Spells w q so_far held (x ∷ d ∷ core) text outside) same
+    (subst (λ y. Spells w q so_far held (b ∷ y ∷ core) text outside) also
+    (value.escaped is letter (trimmed core blanks all e left s)))
+trimmed (c ∷ []) blanks all e joined (value.continued {e = l} {raw = raw} is line s) =
+    let left : l ∷ raw ≡ blanks = cc in
+    absurd (no_blank l 10 (first_blank l raw (subst AreBlank (sym left) all)) line refl)
+trimmed {w = w} {q = q} {so_far = so_far} {held = held} {text = text} (c ∷ d ∷ core) blanks all e joined (value.continued {b = b} {e = l} {raw = raw} is line s) =
+    let same : b ≡ c = cc in
+    let also : l ≡ d = cc in
+    let left : raw ≡ core ++ blanks = cc in
+    subst (λ x. Spells w q so_far held (x ∷ d ∷ core) text outside) same
+    (subst (λ y. Spells w q so_far held (b ∷ y ∷ core) text outside) also
+    (value.continued is line (trimmed core blanks all e left s)))
+trimmed (c ∷ []) blanks all e joined (value.continued_after_return {e = l} {f = m} {raw = raw} is return line s) =
+    let left : l ∷ m ∷ raw ≡ blanks = cc in
+    absurd (no_blank m 10 (first_blank m raw (other_blanks l (m ∷ raw) (subst AreBlank (sym left) all))) line refl)
+trimmed (c ∷ d ∷ []) blanks all e joined (value.continued_after_return {e = l} {f = m} {raw = raw} is return line s) =
+    let left : m ∷ raw ≡ blanks = cc in
+    absurd (no_blank m 10 (first_blank m raw (subst AreBlank (sym left) all)) line refl)
+trimmed {w = w} {q = q} {so_far = so_far} {held = held} {text = text} (c ∷ d ∷ g ∷ core) blanks all e joined (value.continued_after_return {b = b} {e = l} {f = m} {raw = raw} is return line s) =
+    let same : b ≡ c = cc in
+    let also : l ≡ d = cc in
+    let third : m ≡ g = cc in
+    let left : raw ≡ core ++ blanks = cc in
+    subst (λ x. Spells w q so_far held (x ∷ d ∷ g ∷ core) text outside) same
+    (subst (λ y. Spells w q so_far held (b ∷ y ∷ g ∷ core) text outside) also
+    (subst (λ z. Spells w q so_far held (b ∷ l ∷ z ∷ core) text outside) third
+    (value.continued_after_return is return line (trimmed core blanks all e left s))))
+
+-- what is written
+space_is_blank : (b : ℕ) → is_space b ≡ true → is_blank b ≡ true
+space_is_blank b is = grind (arith, nat_tests)
+
+comment_behind : (front more : List ℕ) → list_all is_comment_byte (front ++ 35 ∷ more) ≡ true
+    → list_all is_comment_byte more ≡ true
+comment_behind front more all =
+    let parts = and_parts (list_all is_comment_byte front) (list_all is_comment_byte (35 ∷ more))
+    (sym (list_all-append is_comment_byte front (35 ∷ more)) ∙ all) in
+    more_bytes 35 more parts.1
+
+written_parts : {comment written : List ℕ} → list_all is_comment_byte comment ≡ true → WritesComment comment written
+    → (blanks more : List ℕ) × (written ≡ blanks ++ 35 ∷ more) × AreBlank blanks × (list_all is_comment_byte more ≡ true)
+written_parts all (spec.spaced b blanks more spaces) = (
+  b ∷ blanks,
+  more,
+  refl,
+  all_more is_space is_blank space_is_blank (b ∷ blanks) spaces,
+  comment_behind (b ∷ blanks) more all,
+)
+written_parts all (spec.signed {more = more}) = (32 ∷ [], more, refl, refl, more_bytes 35 more all)
+written_parts all (spec.plain {comment = comment} other) = (32 ∷ [], 32 ∷ comment, refl, refl, all)
+
+-- what the code writes before a comment
+pub front_of_plain : {comment blanks rest : List ℕ} → Run is_space comment blanks rest → BeginsWithout 35 rest
+    → WritesComment comment (32 ∷ 35 ∷ 32 ∷ comment)
+front_of_plain {blanks = blanks} {rest = rest} run without = spec.plain (λ others more spaces joined.
+    let (fronts, rests) = run_same is_space blanks others rest (35 ∷ more) run.pass spaces run.longest refl (sym run.joined ∙ joined) in
+    subst (BeginsWithout 35) rests without refl)
+
+pub front_of_signed : {comment blanks rest after : List ℕ} → Run is_space comment blanks rest → rest ≡ 35 ∷ after → blanks ≡ []
+    → WritesComment comment (32 ∷ comment)
+front_of_signed {rest = rest} run sign none =
+    subst (λ c. WritesComment c (32 ∷ c)) (sym (run.joined ∙ ap (λ b. b ++ rest) none ∙ sign)) spec.signed
+
+pub front_of_spaced : {comment blanks rest after : List ℕ} → Run is_space comment blanks rest → rest ≡ 35 ∷ after → blanks ≢ []
+    → WritesComment comment comment
+front_of_spaced {blanks = []} run sign some = absurd (some refl)
+front_of_spaced {blanks = b ∷ blanks} {after = after} run sign some =
+    subst (λ c. WritesComment c c) (sym (run.joined ∙ ap (λ r. (b ∷ blanks) ++ r) sign)) (spec.spaced b blanks after run.pass)
+
+-- the line end of an entry is that of its piece
+letter_no_feed : (b : ℕ) → is_ascii_alphabetic b ≡ true → b ≡ 10 → ⊥
+letter_no_feed b letter is = grind (arith, nat_tests)
+
+letter_ends : (m bytes rest : List ℕ) → BeginsWithLetter (bytes ++ rest) → bytes ≢ [] → 13 ∷ 10 ∷ [] ≡ m ++ bytes → bytes ≡ 13 ∷ 10 ∷ []
+letter_ends [] bytes rest letter some e = sym e
+letter_ends (x ∷ []) bytes rest (b, more, bytes_is, letter) some e =
+    let left : 10 ∷ [] ≡ bytes = cc in
+    let begins : 10 ∷ rest ≡ b ∷ more = ap (λ t. t ++ rest) left ∙ bytes_is in
+    let same : b ≡ 10 = cc in absurd (letter_no_feed b letter same)
+letter_ends (x ∷ y ∷ m) bytes rest letter some e =
+    let left : [] ≡ m ++ bytes = cc in absurd (some (nothing_behind m bytes left))
+
+end_without_blanks : {bytes end : List ℕ} {is_line : Bool} (blanks gone rest : List ℕ) → bytes ≡ blanks ++ gone
+    → BeginsWithLetter (gone ++ rest) → (is_line ≡ true → gone ≢ [])
+    → IsEndOfLine bytes is_line end → IsEndOfLine gone is_line end
+end_without_blanks blanks gone rest joined letter some spec.unended = spec.unended
+end_without_blanks blanks gone rest joined letter some (spec.feed other) =
+    spec.feed (λ front e. other (blanks ++ front)
+    (joined ∙ ap (λ g. blanks ++ g) e ∙ sym (append_assoc blanks front (13 ∷ 10 ∷ []))))
+end_without_blanks blanks gone rest joined letter some (spec.return_feed front) =
+    elim (cut front (13 ∷ 10 ∷ []) blanks gone joined) [
+      | inl (m, blanks_is, end_is) ↦
+          subst (λ g. IsEndOfLine g true (13 ∷ 10 ∷ [])) (sym (letter_ends m gone rest letter (some refl) end_is)) (spec.return_feed [])
+      | inr (m, front_is, gone_is) ↦
+          subst (λ g. IsEndOfLine g true (13 ∷ 10 ∷ [])) (sym gone_is) (spec.return_feed m)
+    ]
+
+line_is_some : {tail rest : List ℕ} {is_line : Bool} (front : List ℕ) → IsTail tail rest is_line → is_line ≡ true → front ++ tail ≢ []
+line_is_some {tail = tail} front t on = λ none.
+    let empty : tail ≡ [] = nothing_behind front tail (sym none) in
+    elim t.ends [
+      | inl line ↦
+          let left = nothing_behind t.blanks (t.comment ++ 10 ∷ []) (sym (sym line.1 ∙ empty)) in
+          nothing_there 10 [] (nothing_behind t.comment (10 ∷ []) (sym left))
+      | inr end ↦ true≢false (sym on ∙ end.0)
+    ]
+
+comment_tail : {bytes end rest : List ℕ} {is_line : Bool} (more : List ℕ) → list_all is_comment_byte more ≡ true
+    → IsEndOfLine bytes is_line end → (is_line ≡ false → rest ≡ []) → IsTail (35 ∷ (more ++ end)) rest is_line
+comment_tail more all spec.unended none =
+    record { blanks = []; comment = 35 ∷ more; are_blank = refl; is_comment = present refl all; ends = inr (refl, none refl, ap (λ m. 35 ∷ m) (append-nil more)) }
+comment_tail more all (spec.feed other) none =
+    record { blanks = []; comment = 35 ∷ more; are_blank = refl; is_comment = present refl all; ends = inl (refl, refl) }
+comment_tail more all (spec.return_feed front) none =
+    let both : list_all is_comment_byte (more ++ 13 ∷ []) ≡ true =
+    rw (list_all-append is_comment_byte more (13 ∷ []), all) refl in
+    record {
+      blanks = [];
+      comment = 35 ∷ (more ++ 13 ∷ []);
+      are_blank = refl;
+      is_comment = present refl both;
+      ends = inl (refl, ap (λ m. 35 ∷ m) (sym (append_assoc more (13 ∷ []) (10 ∷ []))));
+    }
+
+end_of_text : {tail rest : List ℕ} {is_line : Bool} → IsTail tail rest is_line → is_line ≡ false → rest ≡ []
+end_of_text t off = elim t.ends [
+  | inl line ↦ absurd (true≢false (sym line.0 ∙ off))
+  | inr end ↦ end.1
+]
+
+-- an entry with another key, or with its own
+pub named_takes : {key at : List ℕ} {was : Option (List ℕ)} {lines : ℕ} (name : Option (List ℕ)) (between raw : List ℕ)
+    → IsWritableName name → BeginsWithLetter ((key ++ (between ++ raw)) ++ at)
+    → TakesEntry ((key ++ (between ++ raw)) ++ at) key was lines at
+    → BeginsWithLetter ((name_after name key ++ (between ++ raw)) ++ at)
+    × TakesEntry ((name_after name key ++ (between ++ raw)) ++ at) (name_after name key) was lines at
+named_takes None between raw is begins takes = (begins, takes)
+named_takes {key = key} {at = at} {was = was} {lines = lines} (Some name) between raw is begins takes =
+    let (more, text_is, now) = entry_named name is takes in
+    let same : more ≡ between ++ raw =
+    append_cancel_left key more (between ++ raw)
+    (sym (append_cancel_right (key ++ (between ++ raw)) (key ++ more) at text_is)) in
+    let moved = subst (λ m. TakesEntry ((name ++ m) ++ at) name was lines at) same now in
+    (subst BeginsWithLetter (sym (append_assoc name (between ++ raw) at)) (begins_named name ((between ++ raw) ++ at) is), moved)
+
+-- what the value is before a comment
+record Before (value between key : List ℕ) (was : Option (List ℕ)) (blanks core_all front bytes feed written_blanks : List ℕ) : Type 0 where
+  core : List ℕ
+  bytes_are : bytes ≡ core ++ blanks
+  core_is : core_all ≡ front ++ (key ++ (between ++ core))
+  feeds : FeedsComment was bytes feed
+  raw : List ℕ
+  spells : SpellsValue raw value outside
+  takes : (at : List ℕ) → EndsValue at
+      → TakesEntry ((key ++ (between ++ (core ++ (feed ++ written_blanks)))) ++ at) key (Some raw) (line_feeds raw) at
+      × BeginsWithLetter ((key ++ (between ++ (core ++ (feed ++ written_blanks)))) ++ at)
+
+-- what the bytes of a value spell now: they are closed, or the old ones before the end of the text
+data Ends (value raw bytes feed : List ℕ) : Type 0 where
+  as_closed : SpellsValue bytes value outside → feed ≡ [] → Ends value raw bytes feed
+  as_open : SpellsValue bytes value at_backslash → bytes ≡ raw → feed ≡ 10 ∷ [] → Ends value raw bytes feed
+
+feeds_of : {value raw bytes feed : List ℕ} → Ends value raw bytes feed → FeedsComment (Some raw) bytes feed
+feeds_of {raw = raw} {bytes = bytes} (as_closed spells none) = subst (λ f. FeedsComment (Some raw) bytes f) (sym none) (spec.closed spells)
+feeds_of {value = value} {raw = raw} {bytes = bytes} {feed = feed} (as_open spells same one) =
+    subst (λ f. FeedsComment (Some raw) bytes f) (sym one)
+    (subst (λ b. FeedsComment (Some raw) b (10 ∷ [])) (sym same)
+    (spec.open_value (subst (λ b. SpellsValue b value at_backslash) same spells)))
+
+spelled_before : {value raw bytes feed : List ℕ} (core blanks written : List ℕ) → Ends value raw bytes feed → bytes ≡ core ++ blanks
+    → AreBlank blanks → AreBlank written → SpellsValue (core ++ (feed ++ written)) value outside
+spelled_before {value = value} core blanks written (as_closed spells none) joined all also =
+    rw none (spells_before written also (trimmed core blanks all refl joined spells))
+spelled_before {value = value} {bytes = bytes} core blanks written (as_open spells same one) joined all also =
+    let (front, ends) = before_backslash spells in
+    let nothing : blanks ≡ [] = no_blank_left front 92 core blanks (sym ends ∙ joined) all refl in
+    let core_is : bytes ≡ core = joined ∙ ap (λ b. core ++ b) nothing ∙ append-nil core in
+    let over : SpellsValue (bytes ++ 10 ∷ []) value outside = goes_on_over (10 ∷ []) [] (inl refl) (inl refl) refl spells in
+    let behind : SpellsValue ((bytes ++ 10 ∷ []) ++ written) value outside = spells_before written also over in
+    let text_is : (bytes ++ 10 ∷ []) ++ written ≡ core ++ 10 ∷ written =
+    append_assoc bytes (10 ∷ []) written ∙ ap (λ c. c ++ 10 ∷ written) core_is in
+    rw one (subst (λ t. SpellsValue t value outside) text_is behind)
+
+before_valued : {value raw at key between core_all blanks front bytes feed : List ℕ} {lines : ℕ} (written : List ℕ)
+    → BeginsWithLetter ((key ++ (between ++ raw)) ++ at) → TakesEntry ((key ++ (between ++ raw)) ++ at) key (Some raw) lines at
+    → core_all ++ blanks ≡ front ++ (key ++ (between ++ bytes)) → AreBlank blanks → AreBlank written
+    → Ends value raw bytes feed
+    → Before value between key (Some raw) blanks core_all front bytes feed written
+before_valued {value = value} {raw = raw} {key = key} {between = between} {core_all = core_all} {blanks = blanks} {front = front} {bytes = bytes} {feed = feed} written begins takes whole all also ends =
+    let h = can_hold (key ++ (between ++ raw)) refl refl begins takes in
+    let start_is : h.start ≡ key ++ between =
+    append_cancel_right h.start (key ++ between) raw (sym h.joined ∙ sym (append_assoc key between raw)) in
+    let xs = front ++ h.start in
+    let xs_ends : xs ≡ (front ++ h.before) ++ 61 ∷ [] =
+    ap (λ s. front ++ s) h.start_is ∙ sym (append_assoc front h.before (61 ∷ [])) in
+    let joined : core_all ++ blanks ≡ xs ++ bytes =
+    whole ∙ ap (λ x. front ++ x) (sym (append_assoc key between bytes) ∙ ap (λ s. s ++ bytes) (sym start_is))
+    ∙ sym (append_assoc front h.start bytes) in
+    let (core, bytes_are, core_is) = trail_within xs bytes core_all blanks (front ++ h.before) 61 xs_ends refl joined all in
+    let raw_now = core ++ (feed ++ written) in
+    let spells = spelled_before core blanks written ends bytes_are all also in
+    let text_is : h.start ++ raw_now ≡ key ++ (between ++ raw_now) =
+    ap (λ s. s ++ raw_now) start_is ∙ append_assoc key between raw_now in
+    record {
+      core = core;
+      bytes_are = bytes_are;
+      core_is = core_is ∙ append_assoc front h.start core
+          ∙ ap (λ x. front ++ x) (ap (λ s. s ++ core) start_is ∙ append_assoc key between core);
+      feeds = feeds_of ends;
+      raw = raw_now;
+      spells = spells;
+      takes = λ at end.
+          let (now, letter) = h.holds raw_now value at spells end in (
+            subst (λ t. TakesEntry (t ++ at) key (Some raw_now) (line_feeds raw_now) at) text_is now,
+            subst (λ t. BeginsWithLetter (t ++ at)) text_is letter,
+          );
+    }
+
+before_alone : {value at key between core_all blanks front bytes feed : List ℕ} {lines : ℕ} (written : List ℕ)
+    → BeginsWithLetter ((key ++ (between ++ [])) ++ at) → TakesEntry ((key ++ (between ++ [])) ++ at) key None lines at
+    → core_all ++ blanks ≡ front ++ (key ++ (between ++ bytes)) → AreBlank blanks → AreBlank written
+    → PutsValue value None bytes → feed ≡ []
+    → Before value between key None blanks core_all front bytes feed written
+before_alone {value = value} {key = key} {between = between} {core_all = core_all} {blanks = blanks} {front = front} {feed = feed} written begins takes whole all also (spec.behind_key {gap = gap} {spelling = spelling} is_gap s) none =
+    let more = front ++ (key ++ (between ++ gap)) in
+    let xs = more ++ 61 ∷ [] in
+    let joined : core_all ++ blanks ≡ xs ++ 32 ∷ spelling = whole ∙ simp append_assoc in
+    let (inner, inner_are, core_is) = trail_within xs (32 ∷ spelling) core_all blanks more 61 refl refl joined all in
+    let spelled : SpellsValue (32 ∷ spelling) value outside =
+    subst (λ t. SpellsValue (32 ∷ t) value outside) (append-nil spelling) (spells_between (32 ∷ []) [] refl refl s.0.0) in
+    let raw_now = inner ++ written in
+    let spells : SpellsValue raw_now value outside = spells_before written also (trimmed inner blanks all refl inner_are spelled) in
+    let text_is : (at : List ℕ) → ((key ++ (between ++ [])) ++ gap) ++ 61 ∷ (raw_now ++ at)
+    ≡ (key ++ (between ++ ((gap ++ 61 ∷ inner) ++ (feed ++ written)))) ++ at =
+    λ at. rw (none, append-nil between) (simp append_assoc) in
+    record {
+      core = gap ++ 61 ∷ inner;
+      bytes_are = ap (λ i. gap ++ 61 ∷ i) inner_are ∙ sym (append_assoc gap (61 ∷ inner) blanks);
+      core_is = core_is ∙ simp append_assoc;
+      feeds = subst (λ f. FeedsComment None (gap ++ 61 ∷ 32 ∷ spelling) f) (sym none) spec.behind_key;
+      raw = raw_now;
+      spells = spells;
+      takes = λ at end.
+          let (now, letter) = with_value (key ++ (between ++ [])) gap raw_now value {rest = at} refl refl begins takes is_gap spells end in (
+            subst (λ t. TakesEntry t key (Some raw_now) (line_feeds raw_now) at) (text_is at) now,
+            subst BeginsWithLetter (text_is at) letter,
+          );
+    }
+
+-- the new bytes of a value spell it
+puts_spells : {value raw bytes : List ℕ} → PutsValue value (Some raw) bytes → SpellsValue bytes value outside
+puts_spells (spec.in_place lead trail before core after s) = spells_between lead trail before after s.0.0
+puts_spells {value = value} (spec.in_blanks {gap = gap} {spelling = spelling} {later = later} lead trail all is_gap s also) =
+    let (before, after) = parts_blank lead trail all in
+    let whole =
+    spells_between (lead ++ gap) (later ++ trail) (both_blank lead gap before (gap_blank gap is_gap))
+    (both_blank later trail (gap_blank later also) after) s.0.0 in
+    subst (λ t. SpellsValue t value outside) (simp append_assoc) whole
+
+-- whether a line end comes before the comment
+abbrev IsFed : EntryParts → List ℕ → List ℕ → Type 0
+IsFed parts value feed = (IsOpen parts × HasValue (value_of parts.value) value × (feed ≡ 10 ∷ []))
+    ⊎ (¬ (IsOpen parts × HasValue (value_of parts.value) value) × (feed ≡ []))
+
+ends_of : {value raw bytes feed : List ℕ} (parts : EntryParts) → value_of parts.value ≡ Some raw
+    → ChangesValueTo value (Some raw) bytes → (HasValue (Some raw) value → HasHow parts value)
+    → IsFed parts value feed → Ends value raw bytes feed
+ends_of {value = value} {raw = raw} {bytes = bytes} parts held (inr (other, puts)) how (inl (opened, has, one)) =
+    absurd (other (subst (λ v. HasValue v value) held has))
+ends_of {value = value} {raw = raw} {bytes = bytes} parts held (inr (other, puts)) how (inr (closed, none)) =
+    as_closed (puts_spells puts) none
+ends_of {value = value} {raw = raw} {bytes = bytes} {feed = feed} parts held (inl (has, same)) how fed =
+    let (raw_too, held_too, ended) = how has in
+    let raw_is : raw_too ≡ bytes = some_same (sym held_too ∙ held) ∙ sym same in
+    elim ended [
+      | inl (spells, lines_are) ↦ elim fed [
+        | inl (opened, also, one) ↦
+            absurd (opened.2 (ap line_feeds (some_same (sym opened.1 ∙ held_too)) ∙ sym lines_are))
+        | inr (closed, none) ↦ as_closed (subst (λ r. SpellsValue r value outside) raw_is spells) none
+      ]
+      | inr (spells, lines_are) ↦ elim fed [
+        | inl (opened, also, one) ↦ as_open (subst (λ r. SpellsValue r value at_backslash) raw_is spells) same one
+        | inr (closed, none) ↦
+            let differs : line_feeds raw_too ≢ parts.lines = λ e. omega arith in
+            absurd (closed ((raw_too, held_too, differs), subst (λ v. HasValue v value) (sym held) has))
+      ]
+    ]
+
+before_of : {value at key between core_all blanks front bytes feed : List ℕ} {lines : ℕ} (parts : EntryParts) (was : Option (List ℕ)) (written : List ℕ)
+    → value_of parts.value ≡ was
+    → BeginsWithLetter ((key ++ (between ++ value_bytes was)) ++ at)
+    → TakesEntry ((key ++ (between ++ value_bytes was)) ++ at) key was lines at
+    → core_all ++ blanks ≡ front ++ (key ++ (between ++ bytes)) → AreBlank blanks → AreBlank written
+    → ChangesValueTo value was bytes → (HasValue was value → HasHow parts value)
+    → IsFed parts value feed → Before value between key was blanks core_all front bytes feed written
+before_of parts None written held begins takes whole all also (inl (has, same)) how feed_is = absurd has
+before_of {value = value} parts None written held begins takes whole all also (inr (other, puts)) how feed_is =
+    before_alone written begins takes whole all also puts (elim feed_is [
+      | inl (opened, has, one) ↦ absurd (other (subst (λ v. HasValue v value) held has))
+      | inr (closed, none) ↦ none
+    ])
+before_of parts (Some raw) written held begins takes whole all also valued how feed_is =
+    before_valued written begins takes whole all also (ends_of parts held valued how feed_is)
+
+-- the entry with its comment
+pub changed_commented : {change : Change} {parts : EntryParts} {piece : Piece} {line put : List ℕ} (value comment : List ℕ)
+    → option_copied change.value ≡ Some value → option_copied change.comment ≡ Some comment
+    → list_all is_comment_byte comment ≡ true → IsWritableName (option_copied change.name)
+    → IsEntry parts.key.now (value_of parts.value) parts.lines parts.rest.now piece.blanks.now piece.bytes.now piece.rest.now piece.is_line
+    → IsNamed (option_copied change.name) (Some value) parts piece line
+    → IsCommented value comment parts piece line put → IsChangedIn change parts piece put
+changed_commented {change = change} {parts = parts} {piece = piece} {line = line} {put = put} value comment value_is comment_is all writable e n k =
+    let s = n.shaped in
+    let key = name_after (option_copied change.name) parts.key.now in
+    let was = value_of parts.value in
+    let blanks = piece.blanks.now in
+    let rest = piece.rest.now in
+    let (begins, takes) = named_takes (option_copied change.name) s.between (value_bytes was) writable s.begins s.takes in
+    let tail_is : k.tail ≡ s.tail = append_cancel_right k.tail s.tail rest (sym k.left ∙ s.left) in
+    let named = blanks ++ (key ++ (s.between ++ s.bytes)) in
+    let whole : k.core ++ k.blanks ≡ named =
+    append_cancel_right (k.core ++ k.blanks) named k.tail (sym k.line_is ∙ s.put_is
+    ∙ sym (append_assoc blanks (key ++ (s.between ++ s.bytes)) s.tail) ∙ ap (λ t. named ++ t) (sym tail_is)) in
+    let (spaces, more, written_is, spaces_are, more_are) = written_parts all k.is_written in
+    let b : Before value s.between key was k.blanks k.core blanks s.bytes k.feed spaces =
+    before_of parts was spaces refl begins takes whole k.are_blank spaces_are s.is_valued s.how k.feed_is in
+    let at = 35 ∷ (more ++ (k.end ++ rest)) in
+    let (takes_now, begins_now) = b.takes at (inr refl) in
+    let front = key ++ (s.between ++ (b.core ++ (k.feed ++ spaces))) in
+    let after = b.core ++ (k.feed ++ (k.written ++ k.end)) in
+    let now = key ++ (s.between ++ after) in
+    let put_is : put ≡ blanks ++ now =
+    k.put_is ∙ ap (λ c. c ++ (k.feed ++ (k.written ++ k.end))) b.core_is ∙ simp append_assoc in
+    let after_is : now ≡ front ++ 35 ∷ (more ++ k.end) =
+    ap (λ w. key ++ (s.between ++ (b.core ++ (k.feed ++ (w ++ k.end))))) written_is ∙ simp append_assoc in
+    let entry : IsEntry key (Some b.raw) (line_feeds b.raw) at blanks put rest piece.is_line =
+    record {
+      front = front;
+      tail = 35 ∷ (more ++ k.end);
+      begins = begins_now;
+      takes = takes_now;
+      left = ap (λ m. 35 ∷ m) (sym (append_assoc more k.end rest));
+      is_tail = comment_tail more more_are k.is_end (end_of_text e.is_tail);
+      joined = put_is ∙ ap (λ x. blanks ++ x) after_is;
+    } in
+    let old = parts.key.now ++ (s.between ++ value_bytes was) in
+    let gone = old ++ s.tail in
+    let is_tail : IsTail s.tail rest piece.is_line =
+    subst (λ t. IsTail t rest piece.is_line) (sym (tail_cut e s.tail s.left)) e.is_tail in
+    let letter : BeginsWithLetter (gone ++ rest) = subst BeginsWithLetter (sym (append_assoc old s.tail rest)) s.begins in
+    let puts : PutsComment comment was gone s.bytes s.tail rest after =
+    record {
+      core = b.core;
+      blanks = k.blanks;
+      feed = k.feed;
+      written = k.written;
+      end = k.end;
+      is_line = piece.is_line;
+      is_tail = is_tail;
+      bytes_are = b.bytes_are;
+      are_blank = k.are_blank;
+      ends_core = λ m x is. k.ends_core (blanks ++ (key ++ (s.between ++ m))) x
+          (b.core_is ∙ ap (λ c. blanks ++ (key ++ (s.between ++ c))) is ∙ simp append_assoc);
+      feeds = b.feeds;
+      is_written = k.is_written;
+      is_end = end_without_blanks blanks gone rest s.bytes_are letter (line_is_some old is_tail) k.is_end;
+      after_is = refl;
+    } in
+    let changes : ChangesEntry change parts.key.now was gone now rest =
+    record {
+      lines = s.lines;
+      between = s.between;
+      bytes = s.bytes;
+      tail = s.tail;
+      after = after;
+      begins = letter;
+      takes = subst (λ t. TakesEntry t parts.key.now was s.lines (s.tail ++ rest)) (sym (append_assoc old s.tail rest)) s.takes;
+      gone_is = refl;
+      put_is = refl;
+      is_valued = rw value_is s.is_valued;
+      is_commented = rw comment_is puts;
+    } in
+    record {
+      raw = Some b.raw;
+      lines = line_feeds b.raw;
+      at = at;
+      gone = gone;
+      now = now;
+      kept = [];
+      value_is = rw value_is (outside, b.spells);
+      entry = entry;
+      bytes_are = s.bytes_are ∙ ap (λ g. blanks ++ g) (sym (append-nil gone));
+      put_is = put_is ∙ ap (λ x. blanks ++ x) (sym (append-nil now));
+      changes = changes;
+    }
+
+pub writable_comment : (given also : Option (List ℕ)) (value comment : List ℕ) → given ≡ Some value → also ≡ Some comment
+    → IsWritableComment given also → list_all is_comment_byte comment ≡ true
+writable_comment given also value comment e f is =
+    subst (λ c. IsWritableComment (Some value) c) f (subst (λ v. IsWritableComment v also) e is)
+
+-- a comment without a line end
+pub run_is_all : {comment front rest : List ℕ} {empty : Bool} → Run is_comment_byte comment front rest
+    → empty ≡ (length rest == 0) → empty ≡ list_all is_comment_byte comment
+run_is_all {front = front} {rest = []} run is =
+    is ∙ sym (ap (list_all is_comment_byte) (run.joined ∙ append-nil front) ∙ run.pass)
+run_is_all {front = front} {rest = b ∷ rest} {empty = empty} run is =
+    let off : empty ≡ false = grind (arith, nat_tests) in
+    off ∙ sym (ap (list_all is_comment_byte) run.joined ∙ list_all-append is_comment_byte front (b ∷ rest)
+    ∙ rw (run.pass, run.longest) refl)

@@ -1,0 +1,91 @@
+use Rattle.std.proofs.Common.{◌≡◌, ◌++◌, ◌∷◌, ◌∙◌, [], List, ℕ, refl, ap, sym, subst, append_assoc, append-nil, inl, inr, ◌⊎◌, true≢false}
+use Rattle.std.proofs.lemmas.List.{append_cancel_right}
+use Rattle.config_file.specs.Value.{outside, at_backslash, SpellsValue}
+use Rattle.config_edit.specs.Edit.{HasValue}
+use Rattle.config_edit.specs.Reading.{IsOpen}
+use Rattle.config_file.specs.Views.{value_of}
+use Rattle.config_edit.proofs.Changed.{spelled_of}
+use Rattle.config_edit.proofs.write.push_commented.Goals as goal
+use Rattle.config_edit.proofs.write.push_commented.Goals.{then-is_open+in_ok-has_value+then-branch+in_ok-push, else-is_open}
+use Rattle.config_edit.proofs.write.push_commented.Goals.{else-is_open-via-then-is_open+in_ok-has_value+else-branch}
+use Rattle.config_edit.proofs.write.push_commented.Goals.{else-is_open-via-else-is_open}
+
+pub before-requires : goal.before-requires
+before-requires c =
+    let (name, s) = c.requires.shaped in
+    let tail = c.before-tail.result.now in
+    let blanks = c.args.piece.now.blanks.now in
+    let inner = name ++ (s.between ++ s.bytes) in
+    let tail_is : s.tail ≡ tail = append_cancel_right s.tail tail c.args.piece.now.rest.now (sym s.left ∙ c.before-tail.ensures) in
+    (blanks ++ inner, s.put_is ∙ sym (append_assoc blanks inner s.tail) ∙ ap (λ t. (blanks ++ inner) ++ t) tail_is)
+
+pub returns : goal.returns
+returns c =
+    let text = c.args.text.now.items in
+    let parts = c.args.parts.now in
+    let value = c.args.value.now in
+    let was = value_of parts.value in
+    let e = c.requires.entry in
+    let core = c.trimmed.result.0.now in
+    let blanks = c.trimmed.result.1.now in
+    let tail = c.before-tail.result.now in
+    let comment = c.args.comment.now in
+    let front = c.comment_front.result.now in
+    let end = c.line_end.result.now in
+    let first = c.in_ok-extend_from_slice.ensures.items in
+    let (feed, fed, feed_is) : (feed : List ℕ) × (c.if-is_open.text.items ≡ text ++ (core ++ feed))
+    × ((IsOpen parts × HasValue was value × (feed ≡ 10 ∷ [])) ⊎ (¬ (IsOpen parts × HasValue was value) × (feed ≡ []))) =
+    elim c.if-is_open.branch [
+      | then-is_open+in_ok-has_value+then-branch+in_ok-push w ↦
+          let has : HasValue was value =
+          elim (spelled_of was e.takes) [
+            | inl none ↦ absurd (true≢false (sym w.if-branch.true ∙ w.in_ok-has_value.ensures.alone none))
+            | inr (raw, spelled, held, how) ↦ subst (λ v. HasValue v value) (sym held) (elim how [
+              | inl closed ↦
+                  (outside, subst (λ v. SpellsValue raw v outside) ((w.in_ok-has_value.ensures.spelled raw spelled outside held closed.0).0 w.if-branch.true) closed.0)
+              | inr broken ↦
+                  (at_backslash, subst (λ v. SpellsValue raw v at_backslash) ((w.in_ok-has_value.ensures.spelled raw spelled at_backslash held broken.0).0 w.if-branch.true) broken.0)
+            ])
+          ] in (
+            10 ∷ [],
+            ap (λ t. t.items) w.text-is ∙ w.in_ok-push.ensures.items ∙ ap (λ t. t ++ 10 ∷ []) first ∙ append_assoc text core (10 ∷ []),
+            inl (c.is_open.ensures.0 w.if-is_open.true, has, refl),
+          )
+      | else-is_open w ↦
+          let closed : ¬ (IsOpen parts × HasValue was value) = λ (opened, has).
+          elim w.else-is_open.branch [
+            | else-is_open-via-then-is_open+in_ok-has_value+else-branch w' ↦
+                let (ending, spells) = subst (λ v. HasValue v value) opened.1 has in
+                true≢false (sym ((w'.in_ok-has_value.ensures.spelled opened.0 value ending opened.1 spells).1 refl) ∙ w'.if-branch.false)
+            | else-is_open-via-else-is_open w' ↦
+                true≢false (sym (c.is_open.ensures.1 opened) ∙ w'.if-is_open.false)
+          ] in (
+            [],
+            ap (λ t. t.items) w.text-is ∙ first ∙ ap (λ x. text ++ x) (sym (append-nil core)),
+            inr (closed, refl),
+          )
+    ] in
+    let whole : c.extend_from_slice-4.new.self.items ≡ text ++ (core ++ (feed ++ ((front ++ comment) ++ end))) =
+    c.in_ok-extend_from_slice-4.ensures.items
+    ∙ ap (λ t. t ++ end) (c.in_ok-extend_from_slice-3.ensures.items ∙ ap (λ t. t ++ comment)
+    (c.in_ok-extend_from_slice-2.ensures.items ∙ ap (λ t. t ++ front) fed))
+    ∙ simp append_assoc in (
+      core ++ (feed ++ ((front ++ comment) ++ end)),
+      whole,
+      record {
+        core = core;
+        blanks = blanks;
+        tail = tail;
+        feed = feed;
+        written = front ++ comment;
+        end = end;
+        left = c.before-tail.ensures;
+        line_is = c.before-2.ensures ∙ ap (λ t. t ++ tail) c.trimmed.ensures.joined;
+        are_blank = c.trimmed.ensures.blank;
+        ends_core = c.trimmed.ensures.last;
+        feed_is = feed_is;
+        is_written = c.comment_front.ensures;
+        is_end = c.line_end.ensures.ends;
+        put_is = refl;
+      },
+    )
