@@ -15,7 +15,7 @@ use Rattle.config_file.proofs.EachReading.{are_read}
 pub adds_none : (settings : List Setting) → AddsEach [] settings settings
 adds_none settings = ([], sym (append-nil settings), tt)
 
-zip_append : {A B : Type 0} (R : A → B → Type 0) (xs more : List A) (ys others : List B) → AllZip R xs ys
+pub zip_append : {A B : Type 0} (R : A → B → Type 0) (xs more : List A) (ys others : List B) → AllZip R xs ys
     → AllZip R more others → AllZip R (xs ++ more) (ys ++ others)
 zip_append R [] more [] others all rest = rest
 zip_append R [] more (z ∷ zs) others all rest = absurd all

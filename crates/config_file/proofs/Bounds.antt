@@ -3,10 +3,8 @@ use Rattle.std.proofs.Common.{◌≡◌, ℕ, ◌+◌, ◌≤◌, ◌<◌, Bool,
 use Rattle.std.proofs.Common.{◌∙◌, subst, arith, length-append, ◌==◌}
 use Rattle.std.proofs.lemmas.Bool.{true≢false}
 use Rattle.std.proofs.lemmas.List.Sums.{count_by-le-length}
-use Rattle.std.proofs.lemmas.Bool.Decides.{nat_tests}
 use Rattle.std.specs.Char.{is_ascii_alphabetic}
 use Rattle.config_file.specs.declared.errors.FileFault.{FileFault}
-use Rattle.config_file.specs.Bytes.{is_key_byte}
 use Rattle.config_file.specs.Runs.{Run, StopsRun}
 use Rattle.config_file.specs.Header as header
 use Rattle.config_file.specs.Header.{Section, Header, HeaderStops}
@@ -14,6 +12,7 @@ use Rattle.config_file.specs.Value as value
 use Rattle.config_file.specs.Value.{TakesValue, ValueStops, line_feeds}
 use Rattle.config_file.specs.File as file
 use Rattle.config_file.specs.File.{TakesKey, TakesEntry, EntryStops}
+use Rattle.config_file.proofs.SpelledHeaders.{letter_is_key_byte}
 
 pub length_joined : (text front rest : List ℕ) → text ≡ front ++ rest
     → length text ≡ length front + length rest
@@ -74,9 +73,6 @@ value_stops_bound (value.no_escape {b = b} {text = text} q raw rest joined part 
 
 pub key_shortens : {text key rest : List ℕ} → TakesKey text key rest → length rest ≤ length text
 key_shortens takes = let f = run_shortens takes.key_run in let g = run_shortens takes.space_run in omega arith
-
-letter_is_key_byte : (b : ℕ) → is_ascii_alphabetic b ≡ true → is_key_byte b ≡ true
-letter_is_key_byte b h = grind (arith, nat_tests)
 
 -- a key that begins with a letter is not empty
 key_taken : {test : ℕ → Bool} {b : ℕ} {text rest : List ℕ} (run : List ℕ) → test b ≡ true

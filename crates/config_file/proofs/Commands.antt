@@ -3,7 +3,7 @@ use Rattle.std.proofs.Common.{◌≡◌, ◌≢◌, ℕ, ◌+◌, ◌-◌, ◌*�
 use Rattle.std.proofs.Common.{[], ◌∷◌, ◌++◌, Option, Some, None, take, drop, get_or, Result, Ok, Err}
 use Rattle.std.proofs.Common.{MatchResult, IsTrue, ◌↔◌, length, refl, sym, ap, ◌∙◌, subst, append_assoc}
 use Rattle.std.proofs.Common.{append-nil, arith, inl, inr, ◌⊎◌, ◌==◌}
-use Rattle.std.specs.List.{list_all, list_any, prefix_len, AllZip}
+use Rattle.std.specs.List.{list_all, list_any, prefix_len}
 use Rattle.std.specs.Char.{is_ascii_digit, is_ascii_alphabetic, digit_value}
 use Rattle.std.specs.Int.{IsInRange}
 use Rattle.std.specs.Result.{IsErr, IsErrAnd}
@@ -38,6 +38,7 @@ use Rattle.config_file.proofs.OneRun.{run_only}
 use Rattle.config_file.proofs.Runs.{run_split}
 use Rattle.config_file.proofs.SpelledHeaders.{header_spelled}
 use Rattle.config_file.proofs.Spellings.{git_spelling}
+use Rattle.config_file.proofs.Adding.{zip_append}
 
 -- a text begins with at most one quoted text
 pub quotes_only : {text q r p s : List ℕ} → Quotes text q r → Quotes text p s → (q ≡ p) × (r ≡ s)
@@ -105,13 +106,6 @@ pub run_both : (test : ℕ → Bool) (text front rest : List ℕ) (n : ℕ) → 
 run_both test text front rest n e f g = rw (f, g, e) (run_split test text)
 
 -- the settings that lines add
-zip_append : {A B : Type 0} (R : A → B → Type 0) (xs more : List A) (ys others : List B) → AllZip R xs ys
-    → AllZip R more others → AllZip R (xs ++ more) (ys ++ others)
-zip_append R [] more [] others all rest = rest
-zip_append R [] more (z ∷ zs) others all rest = absurd all
-zip_append R (w ∷ ws) more [] others all rest = absurd all
-zip_append R (w ∷ ws) more (z ∷ zs) others all rest = (all.0, zip_append R ws more zs others all.1 rest)
-
 pub adds_none : AddsSettings [] []
 adds_none text entries file ends = (
   [],

@@ -12,6 +12,7 @@ use Rattle.config_file.specs.Runs.{Run, StopsRun}
 use Rattle.config_file.specs.Header as header
 use Rattle.config_file.specs.Header.{Section, Header, OpensSubsection, HeaderStops, NameStops}
 use Rattle.config_file.specs.Header.{ClosesSubsection, SubsectionStops, BeginsWithout, fault_at}
+use Rattle.config_file.proofs.OneValue.{test_false}
 
 abbrev ends_line : List ℕ → Bool
 ends_line [] = true
@@ -49,9 +50,6 @@ line_end_no_bracket : (b : ℕ) (rest : List ℕ) → IsAtLineEnd (b ∷ rest) �
 line_end_no_bracket b [] h = rw h
 line_end_no_bracket b (c ∷ rest) (inl is) = rw is
 line_end_no_bracket b (c ∷ rest) (inr (is, next)) = rw is
-
-test_false : (b c : ℕ) → b ≢ c → (b == c) ≡ false
-test_false b c other = grind (arith, nat_tests)
 
 close_late : (raw rest : List ℕ) → IsAtLineEnd rest → Err (1, BadLine) ≡ close raw rest
 close_late raw [] h = refl

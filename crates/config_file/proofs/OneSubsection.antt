@@ -90,7 +90,7 @@ finish_ends raw [] h = refl
 finish_ends raw (b ∷ rest) h =
     sym (pick_third _ _ (Ok (raw, rest)) (Err rest) (Err (b ∷ rest)) (ends_text_byte b h) (ends_text_backslash b h))
 
-long_enough : {text : List ℕ} (raw rest : List ℕ) → text ≡ raw ++ rest → length raw ≤ length text
+pub long_enough : {text : List ℕ} (raw rest : List ℕ) → text ≡ raw ++ rest → length raw ≤ length text
 long_enough raw rest e = rw e (omega (arith, length-append raw rest))
 
 takes_found : {text raw rest : List ℕ} → TakesSubsection text raw rest → Found text (Ok (raw, rest))

@@ -1,7 +1,7 @@
 -- After an `=`, a text has at most one value or place at which the reading stops.
 use Rattle.std.proofs.Common.{◌≡◌, ◌≢◌, ℕ, zero, suc, ◌+◌, ◌≤◌, Bool, true, false, not, ◌==◌, List, [], ◌∷◌}
 use Rattle.std.proofs.Common.{◌++◌, Option, Some, None, is_some, Result, Ok, Err, length, refl, sym, ap, ◌∙◌}
-use Rattle.std.proofs.Common.{subst, arith, if◌then◌else◌, length-append, append-nil, eqb-true, inl, inr, ◌⊎◌}
+use Rattle.std.proofs.Common.{subst, arith, if◌then◌else◌, append-nil, eqb-true, inl, inr, ◌⊎◌}
 use Rattle.std.proofs.lemmas.List.{append_cancel_right}
 use Rattle.std.proofs.lemmas.Bool.{cases_Bool}
 use Rattle.std.proofs.lemmas.Bool.Decides.{nat_tests}
@@ -15,6 +15,7 @@ use Rattle.config_file.specs.Value as value
 use Rattle.config_file.specs.Value.{Ending, outside, inside, at_backslash, Spells, TakesValue, ValueStops}
 use Rattle.config_file.specs.Value.{IsPart, EndsValue, IsNoEscape, line_feeds, escape}
 use Rattle.config_file.specs.Reading.Scans.{goes_on}
+use Rattle.config_file.proofs.OneSubsection.{long_enough}
 
 abbrev step_return : Bool → ℕ → List ℕ → Option (Bool × List ℕ)
 step_return q e [] = None
@@ -199,9 +200,6 @@ found_only first second =
     append_cancel_right first.raw second.raw second.at (ap (◌++◌ first.raw) (sym places) ∙ sym first.joined ∙ second.joined) in
     first.is ∙ rw (fronts, states, places) (sym second.is)
 
-long_enough : {text : List ℕ} (raw rest : List ℕ) → text ≡ raw ++ rest → length raw ≤ length text
-long_enough raw rest e = rw e (omega (arith, length-append raw rest))
-
 -- the scan stops after a part of a value if no step goes on there
 part_stops : {text : List ℕ} (q : Bool) (raw rest : List ℕ) → text ≡ raw ++ rest → IsPart q raw
     → step q rest ≡ None → stop (length text) false text ≡ (q, rest)
@@ -273,7 +271,7 @@ finish_in_quotes raw (b ∷ rest) h =
     let (not_quote, not_backslash) = ends_text_byte b h in
     sym (ap (λ x. if x then finish_at_backslash raw true rest else Err (line_feeds raw, fault_at (b ∷ rest))) not_backslash)
 
-test_false : (b c : ℕ) → b ≢ c → (b == c) ≡ false
+pub test_false : (b c : ℕ) → b ≢ c → (b == c) ≡ false
 test_false b c other = grind (arith, nat_tests)
 
 no_return : (q : Bool) (e f : ℕ) (rest : List ℕ) → (e ≡ 13 → f ≢ 10) → step_return q e (f ∷ rest) ≡ None

@@ -13,7 +13,8 @@ use Rattle.config_file.specs.Reading.Places.{FindsStar, FindsDeep}
 use Rattle.config_file.specs.declared.pattern.Found.{Found}
 use Rattle.config_file.specs.declared.pattern.FilePlace.{FilePlace}
 use Rattle.config_file.specs.declared.pattern.Found.TheVariants.{Whole, Nothing, Stars}
-use Rattle.config_file.proofs.Patterns.{run_shortens, no_star_item, empty_no_item, one_inv, end_inv}
+use Rattle.config_file.proofs.Bounds.{run_shortens}
+use Rattle.config_file.proofs.Patterns.{no_star_item, empty_no_item, one_inv, end_inv}
 use Rattle.config_file.proofs.Patterns.{stars_inv, stars_no_directory, stars_later, later_here}
 use Rattle.config_file.proofs.Same.{item_same}
 

@@ -20,6 +20,7 @@ use Rattle.config_file.proofs.Last.{listed_at}
 use Rattle.config_file.proofs.OneKey.{cut_same}
 use Rattle.config_file.proofs.Picked.{take_next}
 use Rattle.config_url.proofs.UrlMatches.{url_only}
+use Rattle.config_url.proofs.UrlNormal.{some_same}
 
 -- the text that Git lists for an entry is this
 abbrev pub IsOnly : List ℕ → Entry → Type 0
@@ -53,9 +54,6 @@ other_name key u entry items k only cut other f fits =
 
 none_some : {X : Type 0} (x : X) → None ≡ Some x → ⊥
 none_some x e = cc
-
-some_same : {X : Type 0} {x y : X} → Some x ≡ Some y → x ≡ y
-some_same e = cc
 
 is_under : (key : Key) (entry : Entry) (items : List ℕ) (k : Key) (sub : Option (List ℕ))
     → IsListed entry.section entry.key items → IsCut items k → lower k.section ≡ lower key.section

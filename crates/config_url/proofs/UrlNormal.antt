@@ -5,7 +5,7 @@ use Rattle.std.proofs.lemmas.List.{append-nil}
 use Rattle.config_url.specs.Url.{IsNormal, done, plain, escape, escaped, is_unsafe, is_reserved, hex_value}
 use Rattle.config_url.specs.Reading.Urls.{GoesOn, written_as}
 
-some_same : {X : Type 0} {x y : X} → Some x ≡ Some y → x ≡ y
+pub some_same : {X : Type 0} {x y : X} → Some x ≡ Some y → x ≡ y
 some_same e = cc
 
 or_false : (x : Bool) → (x || false) ≡ x

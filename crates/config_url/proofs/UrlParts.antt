@@ -15,6 +15,7 @@ use Rattle.config_url.specs.Url.{SplitUrl, IsWritten, IsWhole, place_text, is_sc
 use Rattle.config_url.specs.Url.{is_place_byte, is_login_byte, is_host_byte}
 use Rattle.config_url.specs.Reading.Urls.{CutsScheme, CutsLogin, CutsPort, IsCutUrl, no_at, is_port_byte}
 use Rattle.config_file.proofs.OneRun.{run_same, run_only}
+use Rattle.config_file.proofs.LineEnds.{all_more}
 
 -- ---- tests of bytes
 
@@ -31,13 +32,6 @@ not_that test n b is non = elim (cases_Bool (b == n)) [
   | inl e ↦ let same : b ≡ n = grind (arith, nat_tests) in absurd (true≢false (sym is ∙ ap test same ∙ non))
   | inr e ↦ e
 ]
-
-pub all_more : (p q : ℕ → Bool) → ((b : ℕ) → p b ≡ true → q b ≡ true) → (xs : List ℕ) → list_all p xs ≡ true
-    → list_all q xs ≡ true
-all_more p q more [] pass = refl
-all_more p q more (b ∷ xs) pass =
-    let (here, later) = and_parts (p b) (list_all p xs) pass in
-    rw (more b here, all_more p q more xs later) refl
 
 pub all_both : (q : ℕ → Bool) (xs ys : List ℕ) → list_all q xs ≡ true → list_all q ys ≡ true
     → list_all q (xs ++ ys) ≡ true
