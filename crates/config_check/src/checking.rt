@@ -6,7 +6,7 @@ use crate::diff::diff_of;
 use crate::failure::{Failure, failed, tell, written};
 use crate::options::{Asked, Format, Output};
 use crate::report::{Lines, Report};
-use crate::rows::{AllRows, Must, built_in, knows_all, settings_for};
+use crate::rows::{Must, Rows, built_in, knows_all, settings_for};
 use crate::sarif;
 use crate::source::Source;
 use bstr::BStr;
@@ -760,7 +760,7 @@ fn options_of<'t>(
 pub(crate) fn check<'m, 't>(
     rt: &'t HostRuntime,
     texts: &'t Bump,
-    all: AllRows<'m, '_>,
+    all: Rows<'m, '_>,
     asked: &Asked<'_, 'm>,
 ) -> Result<u8, Failure<'m>> {
     let alloc = rt.alloc();
@@ -771,7 +771,11 @@ pub(crate) fn check<'m, 't>(
     let disk = Disk::new(rt, texts);
     let mut checking = Checking {
         rt,
-        rows: all.rows,
+        rows: if all.rows.is_empty() {
+            None
+        } else {
+            Some(all.rows)
+        },
         by_sections: FEW_FILES,
         musts: all.musts,
         asked: *asked,
