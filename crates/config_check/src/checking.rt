@@ -6,7 +6,7 @@ use crate::diff::diff_of;
 use crate::failure::{Failure, failed, tell, written};
 use crate::options::{Asked, Format, Output};
 use crate::report::{Lines, Report};
-use crate::rows::{AllRows, Must, built_in, knows_all, settings_for};
+use crate::rows::{Must, Rows, built_in, knows_all, settings_for};
 use crate::sarif;
 use crate::source::Source;
 use bstr::BStr;
@@ -117,7 +117,7 @@ struct Checking<'c, 't> {
     by_sections: usize,
     /// The settings that rows ask for.
     musts: Vec<Must<'c, 'c>>,
-    asked: Asked<'c, 'c>,
+    asked: &'c Asked<'c, 'c>,
     options: Options<'t>,
     report: Report<'c>,
     disk: Disk<'t>,
@@ -292,16 +292,17 @@ impl<'c, 't> Checking<'c, 't> {
     }
 
     /// Checks the text of a file by these rows, and writes its findings. Looks for changes if they are asked for.
-    fn look(
+    fn look<'r>(
         &mut self,
-        rows: &[Row<'_>],
+        rows: &'r [Row<'r>],
         file: &'t str,
         text: &'t [u8],
         mends: bool,
     ) -> Result<Looked, Failure<'static>> {
         let alloc = self.rt.alloc();
+        let options = self.options;
         let mender = if mends {
-            Some(Mender::new(alloc, rows, self.options)?)
+            Some(Mender::new(alloc, rows, options)?)
         } else {
             None
         };
@@ -315,7 +316,7 @@ impl<'c, 't> Checking<'c, 't> {
             mender,
             writer,
         };
-        let checked = check_file(alloc, rows, &self.options, file, text, &mut lines);
+        let checked = check_file(alloc, rows, &options, file, text, &mut lines);
         written(lines.flush())?;
         let counts = failed(checked)?;
         let changes = match lines.mender.take() {
@@ -350,29 +351,31 @@ impl<'c, 't> Checking<'c, 't> {
         true
     }
 
-    /// Checks the text of a file by the rows of its own sections, and writes its findings. `None` if a key is
-    /// unknown to them, of which other rows may know more.
-    fn judge_by_sections(
+    /// Checks the text of a file by these built-in rows, and writes its findings. `None` if they lack a key, of
+    /// which other rows may know more.
+    fn judge_by(
         &mut self,
+        settings: &[u8],
         file: &'t str,
         text: &'t [u8],
     ) -> Result<Option<Counts>, Failure<'static>> {
         let alloc = self.rt.alloc();
-        let Some(settings) = settings_for(alloc, text)? else {
-            return Ok(None);
-        };
-        let rows = built_in(alloc, self.asked.git, &settings)?;
-        if !knows_all(alloc, &rows, text)? {
+        let rows = built_in(alloc, self.asked.git, settings)?;
+        let is_known = knows_all(alloc, &rows, text)?;
+        if !is_known {
             return Ok(None);
         }
-        Ok(Some(self.look(&rows, file, text, false)?.counts))
+        let looked = self.look(&rows, file, text, false)?;
+        Ok(Some(looked.counts))
     }
 
     /// Checks the text of a file, and writes its findings.
     fn judge(&mut self, file: &'t str, text: &'t [u8]) -> Result<Counts, Failure<'static>> {
         if self.is_by_sections(text) {
-            if let Some(counts) = self.judge_by_sections(file, text)? {
-                return Ok(counts);
+            if let Some(settings) = settings_for(self.rt.alloc(), text)? {
+                if let Some(counts) = self.judge_by(&settings, file, text)? {
+                    return Ok(counts);
+                }
             }
         }
         Ok(self.look_by_all(file, text, false)?.counts)
@@ -753,10 +756,11 @@ fn options_of<'t>(disk: &Disk<'t>, asked: &Asked<'_, '_>) -> Result<Options<'t>,
 pub(crate) fn check<'m, 't>(
     rt: &'t HostRuntime,
     texts: &'t Bump,
-    all: AllRows<'m, '_>,
-    asked: &Asked<'_, 'm>,
+    all: Rows<'m, '_>,
+    asked: Asked<'_, 'm>,
 ) -> Result<u8, Failure<'m>> {
     let alloc = rt.alloc();
+    let Rows { rows, musts } = all;
     let baseline = match asked.baseline {
         Some(file) => Some(fingerprints(rt, file)?),
         None => None,
@@ -764,12 +768,12 @@ pub(crate) fn check<'m, 't>(
     let disk = Disk::new(rt, texts);
     let mut checking = Checking {
         rt,
-        rows: all.rows,
+        rows: if rows.is_empty() { None } else { Some(rows) },
         by_sections: FEW_FILES,
-        musts: all.musts,
-        asked: *asked,
-        options: options_of(&disk, asked)?,
-        report: Report::new(alloc, asked, baseline)?,
+        musts,
+        asked: &asked,
+        options: options_of(&disk, &asked)?,
+        report: Report::new(alloc, &asked, baseline)?,
         surroundings: Surroundings::new(&disk, Followed::Everything)?,
         disk,
         seen: BTreeSet::new(alloc),

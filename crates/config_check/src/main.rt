@@ -36,7 +36,7 @@ fn run_check<'m>(rt: &HostRuntime, options: &Options<'m>) -> Result<u8, Failure<
     let asked = Asked::of(rt, options, &ignored)?;
     let files = values_of(rt.alloc(), options, "settings")?;
     let rows = rows_of(rt, &texts, asked.git, &files)?;
-    check(rt, &texts, rows, &asked)
+    check(rt, &texts, rows, asked)
 }
 
 /// Does what the options ask for, and returns the exit status.

@@ -199,18 +199,18 @@ impl<'c> Report<'c> {
 
 /// Receives the findings of one file.
 #[derive(Drop)]
-pub(crate) struct Lines<'l, 's, 'r, 'c, W: Write> {
+pub(crate) struct Lines<'l, 's, 'r, 'c, 'k, W: Write> {
     pub(crate) alloc: Global,
     /// The rows by which the file is checked.
-    pub(crate) rows: &'r [Row<'r>],
-    pub(crate) report: &'s mut Report<'c>,
+    pub(crate) rows: &'k [Row<'k>],
+    pub(crate) report: &'r mut Report<'c>,
     pub(crate) source: &'s mut Source<'l>,
     /// What looks for changes, if the file may be changed.
-    pub(crate) mender: Option<Mender<'r>>,
+    pub(crate) mender: Option<Mender<'k, 'l>>,
     pub(crate) writer: W,
 }
 
-impl<W: Write> Lines<'_, '_, '_, '_, W> {
+impl<W: Write> Lines<'_, '_, '_, '_, '_, W> {
     /// How many findings before this one have the same file, code, key and value, if that is asked for.
     fn equal(&mut self, finding: &Finding<'_>) -> Result<u64, AllocError> {
         if !self.report.needs_fingerprints() {
@@ -301,12 +301,14 @@ impl<W: Write> Lines<'_, '_, '_, '_, W> {
         let spot = self.source.spot(finding, hint.wrong);
         let reason = reason_of_entry(self.alloc, self.rows, finding, &hint)?;
         let mended = if hint.is_sure { Some(setting) } else { None };
-        let whole = Finding {
+        let mut whole = Finding {
             line: spot.number,
             reason: &reason,
-            suggested_value: hint.meant.as_deref().or(finding.suggested_value),
             ..*finding
         };
+        if let Some(meant) = &hint.meant {
+            whole.suggested_value = Some(meant);
+        }
         self.text_for(&whole, &spot, mended)
     }
 
@@ -331,7 +333,7 @@ impl<W: Write> Lines<'_, '_, '_, '_, W> {
     }
 }
 
-impl<W: Write> Receiver for Lines<'_, '_, '_, '_, W> {
+impl<W: Write> Receiver for Lines<'_, '_, '_, '_, '_, W> {
     ghost received = { λ _. None };
 
     /// Writes what is to be written about a finding.

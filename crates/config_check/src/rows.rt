@@ -61,11 +61,6 @@ fn why(alloc: Global, fault: RowFault<'_>) -> Result<String, AllocError> {
     format!(in alloc; "{fault}")
 }
 
-/// A text without its byte order mark, if it has one.
-fn without_mark(text: &[u8]) -> &[u8] {
-    text.strip_prefix(MARK).unwrap_or(text)
-}
-
 /// A setting that one of the files has to have, since a row asks for it.
 #[derive(Clone, Copy)]
 pub(crate) struct Must<'m, 't> {
@@ -80,16 +75,69 @@ pub(crate) struct Must<'m, 't> {
     pub(crate) is_met: bool,
 }
 
-/// Rows, and the version of Git by which they are judged.
+/// The rows of a run.
 #[derive(Drop)]
-struct Rows<'m, 't> {
-    git: Version,
-    /// Those that hold for this Git.
-    first: Vec<Row<'t>>,
-    /// Those that hold for another Git alone.
-    last: Vec<Row<'t>>,
+pub(crate) struct Rows<'m, 't> {
+    /// All rows, those that hold for this Git first. None if only the built-in ones hold, which are not read yet.
+    pub(crate) rows: Vec<Row<'t>>,
     /// The settings that rows for this Git ask for, in the order of the rows.
-    musts: Vec<Must<'m, 't>>,
+    pub(crate) musts: Vec<Must<'m, 't>>,
+}
+
+/// Adds the settings that the rows of a text ask for, if these hold for this Git.
+fn add_musts<'m, 't>(
+    alloc: Global,
+    file: &'m str,
+    text: &'t [u8],
+    git: Version,
+    musts: &mut Vec<Must<'m, 't>>,
+) -> Result<(), AllocError> {
+    let mut line: usize = 0;
+    for written in text.split(|byte| *byte == b'\n') {
+        line = line.saturating_add(1);
+        let Ok(Some(row)) = read_row(alloc, written) else {
+            continue;
+        };
+        if !row.must || outside(&row, git).is_some() {
+            continue;
+        }
+        let must = Must {
+            file,
+            text,
+            line,
+            key: row.key,
+            is_met: false,
+        };
+        if musts.push(must).is_err() {
+            return Err(AllocError);
+        }
+    }
+    Ok(())
+}
+
+/// Adds the rows of a text, after a byte order mark if it has one.
+fn add_text<'m, 't>(
+    alloc: Global,
+    file: &'m str,
+    text: &'t [u8],
+    git: Version,
+    all: &mut Rows<'m, 't>,
+) -> Result<(), Failure<'m>> {
+    let text = text.strip_prefix(MARK).unwrap_or(text);
+    let before = all.rows.len();
+    if let Err(BadRow { line, fault }) = read_rows(alloc, text, &mut all.rows) {
+        if let RowFault::Memory(error) = fault {
+            return Err(Failure::Memory(error));
+        }
+        let why = why(alloc, fault)?;
+        return Err(Failure::Row { file, line, why });
+    }
+    for row in all.rows.iter().skip(before) {
+        if row.must {
+            return Ok(add_musts(alloc, file, text, git, &mut all.musts)?);
+        }
+    }
+    Ok(())
 }
 
 /// Adds a row to others.
@@ -100,105 +148,25 @@ fn add<'t>(rows: &mut Vec<Row<'t>>, row: Row<'t>) -> Result<(), AllocError> {
     }
 }
 
-impl<'m, 't> Rows<'m, 't> {
-    /// No rows so far.
-    fn new(alloc: Global, git: Version) -> Rows<'m, 't> {
-        Rows {
-            git,
-            first: Vec::new(alloc),
-            last: Vec::new(alloc),
-            musts: Vec::new(alloc),
+/// These rows, those that hold for this Git first.
+fn in_order<'t>(
+    alloc: Global,
+    git: Version,
+    rows: Vec<Row<'t>>,
+) -> Result<Vec<Row<'t>>, AllocError> {
+    let mut first = Vec::new(alloc);
+    let mut last = Vec::new(alloc);
+    for row in rows {
+        if outside(&row, git).is_none() {
+            add(&mut first, row)?;
+        } else {
+            add(&mut last, row)?;
         }
     }
-
-    /// Adds the settings that the rows of a text ask for, if these hold for this Git.
-    fn add_musts(
-        &mut self,
-        alloc: Global,
-        file: &'m str,
-        text: &'t [u8],
-    ) -> Result<(), AllocError> {
-        let mut line: usize = 0;
-        for written in text.split(|byte| *byte == b'\n') {
-            line = line.saturating_add(1);
-            let Ok(Some(row)) = read_row(alloc, written) else {
-                continue;
-            };
-            if !row.must || outside(&row, self.git).is_some() {
-                continue;
-            }
-            let must = Must {
-                file,
-                text,
-                line,
-                key: row.key,
-                is_met: false,
-            };
-            if self.musts.push(must).is_err() {
-                return Err(AllocError);
-            }
-        }
-        Ok(())
+    for row in last {
+        add(&mut first, row)?;
     }
-
-    /// Adds the rows of a text.
-    fn add_text(
-        &mut self,
-        alloc: Global,
-        file: &'m str,
-        text: &'t [u8],
-    ) -> Result<(), Failure<'m>> {
-        let mut rows = Vec::new(alloc);
-        if let Err(BadRow { line, fault }) = read_rows(alloc, text, &mut rows) {
-            if let RowFault::Memory(error) = fault {
-                return Err(Failure::Memory(error));
-            }
-            let why = why(alloc, fault)?;
-            return Err(Failure::Row { file, line, why });
-        }
-        let mut has_musts = false;
-        for row in rows {
-            has_musts |= row.must;
-            if outside(&row, self.git).is_none() {
-                add(&mut self.first, row)?;
-            } else {
-                add(&mut self.last, row)?;
-            }
-        }
-        if has_musts {
-            self.add_musts(alloc, file, text)?;
-        }
-        Ok(())
-    }
-
-    /// Adds the rows of a file, whose text is kept.
-    fn add_file(
-        &mut self,
-        rt: &'t HostRuntime,
-        texts: &'t Bump,
-        file: &'m str,
-    ) -> Result<(), Failure<'m>> {
-        let bytes = fs::read(rt, file).map_err(|error| Failure::File { file, error })?;
-        let text = Disk::new(rt, texts).kept(&bytes)?;
-        self.add_text(rt.alloc(), file, without_mark(text))
-    }
-}
-
-/// Rows, and behind them others.
-fn joined<'t>(mut rows: Vec<Row<'t>>, others: Vec<Row<'t>>) -> Result<Vec<Row<'t>>, AllocError> {
-    for row in others {
-        add(&mut rows, row)?;
-    }
-    Ok(rows)
-}
-
-/// The rows of a run.
-#[derive(Drop)]
-pub(crate) struct AllRows<'m, 't> {
-    /// All rows, those that hold for this Git first. `None` if only the built-in ones hold, which are not read yet.
-    pub(crate) rows: Option<Vec<Row<'t>>>,
-    /// The settings that rows for this Git ask for, in the order of the rows.
-    pub(crate) musts: Vec<Must<'m, 't>>,
+    Ok(first)
 }
 
 /// The first bytes of a text that the name of a section may have.
@@ -239,9 +207,12 @@ pub(crate) fn built_in<'t>(
     git: Version,
     text: &'t [u8],
 ) -> Result<Vec<Row<'t>>, Failure<'static>> {
-    let mut rows = Rows::new(alloc, git);
-    rows.add_text(alloc, BUILT_IN, text)?;
-    Ok(joined(rows.first, rows.last)?)
+    let mut all = Rows {
+        rows: Vec::new(alloc),
+        musts: Vec::new(alloc),
+    };
+    add_text(alloc, BUILT_IN, text, git, &mut all)?;
+    Ok(in_order(alloc, git, all.rows)?)
 }
 
 /// The text of the built-in rows for the sections that a text has, in the order of all rows. `None` if it is so
@@ -295,30 +266,33 @@ fn shared_text<'t>(
     }
 }
 
-/// The rows of the files of `--settings`, of that of the repository, if it is there, and the built-in ones.
+/// The rows of the files of `--settings`, of that of the repository, if it is there, and the built-in ones behind
+/// them. The texts are kept.
 pub(crate) fn rows_of<'m, 't>(
     rt: &'t HostRuntime,
     texts: &'t Bump,
     git: Version,
     files: &[&'m str],
-) -> Result<AllRows<'m, 't>, Failure<'m>> {
+) -> Result<Rows<'m, 't>, Failure<'m>> {
     let alloc = rt.alloc();
-    let mut rows = Rows::new(alloc, git);
+    let mut all = Rows {
+        rows: Vec::new(alloc),
+        musts: Vec::new(alloc),
+    };
     for file in files {
-        rows.add_file(rt, texts, file)?;
+        let bytes = fs::read(rt, file).map_err(|error| Failure::File { file, error })?;
+        let text = Disk::new(rt, texts).kept(&bytes)?;
+        add_text(alloc, file, text, git, &mut all)?;
     }
     if let Some(text) = shared_text(rt, texts)? {
-        rows.add_text(alloc, SHARED, without_mark(text))?;
+        add_text(alloc, SHARED, text, git, &mut all)?;
     }
-    if rows.first.is_empty() && rows.last.is_empty() {
-        return Ok(AllRows {
-            rows: None,
-            musts: rows.musts,
-        });
+    if all.rows.is_empty() {
+        return Ok(all);
     }
-    rows.add_text(alloc, BUILT_IN, SETTINGS.as_bytes())?;
-    Ok(AllRows {
-        rows: Some(joined(rows.first, rows.last)?),
-        musts: rows.musts,
+    add_text(alloc, BUILT_IN, SETTINGS.as_bytes(), git, &mut all)?;
+    Ok(Rows {
+        rows: in_order(alloc, git, all.rows)?,
+        musts: all.musts,
     })
 }
