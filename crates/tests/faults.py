@@ -25,7 +25,7 @@ import sys
 import tempfile
 
 SOURCE = pathlib.Path(__file__).with_suffix(".c")
-LONGEST_RUN, SHOWN, STEP, DENSE = 60, 20, 7, 100
+LONGEST_RUN, SHOWN, STEP = 60, 20, 7
 ANY = (errno.ENOMEM, errno.EIO, errno.EINTR)
 # the functions, and the errors with which they fail; with 0 no byte is written
 ERRORS = {"open": ANY, "statx": ANY, "readlink": ANY, "realpath": ANY, "getcwd": ANY, "read": ANY, "close": ANY,
@@ -87,6 +87,7 @@ GROWN = [(1, 0), (3, 0), (20, 3), (1000, 5)]
 
 class Faults:
     """The runs of a program, and how they end."""
+    dense = 100
 
     def __init__(self, program, failures, library, folder):
         self.program, self.failures = os.path.abspath(program), failures
@@ -142,11 +143,11 @@ class Faults:
         return has_failed
 
     def numbers(self):
-        """The numbers of the calls that fail. From DENSE on they have gaps, since some runs ask often for memory."""
+        """The numbers of the calls that fail. From `dense` on they have gaps, since some runs ask often for memory."""
         number = 1
         while True:
             yield number
-            number += STEP if self.is_checked else 1 + max(0, number - DENSE) // 20
+            number += STEP if self.is_checked else 1 + max(0, 2 * (number - self.dense)) // self.dense
 
     def turns(self, run, call, error, rest="", pieces=""):
         """Lets each call of a function fail in turn, up to the last one."""
@@ -168,6 +169,7 @@ class Faults:
 
 class Checks(Faults):
     """Those of config_check: a file that cannot be read is a finding, and one is changed before it is checked again."""
+    dense = 20
 
     def is_right(self, run, call, given, files):
         return super().is_right(run, call, given, files) or super().is_right(
