@@ -260,22 +260,29 @@ impl<'t> Reading<'_, 't> {
         let setting = Setting::of_entry(alloc, COMMAND, entry)?;
         let place = Place {
             origin: Origin::Command,
-            ..self.place(&setting)
+            scope: Scope::Command,
+            file: COMMAND,
+            line: 1,
         };
         match self.show(&setting, &place, Name::Text(key.as_bytes()))? {
             Outcome::Missing => Ok(Ending::Absent),
             Outcome::Refused => {
-                let wrong = Wrong {
-                    key: key.as_bytes(),
-                    value: Some(default.as_bytes()),
-                    place: None,
-                };
-                let end = b"fatal: failed to format default config value: ";
-                tell_wrong(self.rt, self.request.shown, &wrong, end);
+                self.tell_default(key, default);
                 Ok(Ending::Refused)
             }
             _ => Ok(Ending::Done),
         }
+    }
+
+    /// Tells that the default value of this key is none of its type.
+    fn tell_default<'x>(&self, key: &'x str, default: &'x str) {
+        let wrong = Wrong {
+            key: key.as_bytes(),
+            value: Some(default.as_bytes()),
+            place: None,
+        };
+        let end = b"fatal: failed to format default config value: ";
+        tell_wrong(self.rt, self.request.shown, &wrong, end);
     }
 
     /// The settings that were kept, which are taken out.

@@ -14,13 +14,13 @@ enum Override<'a> {
     OfVariable(&'a str),
 }
 
-/// The setting with which words begin, if it is one, and the words after it.
-fn front<'w, 'a>(words: &'w [&'a str]) -> Option<(Override<'a>, &'w [&'a str])> {
+/// The setting with which words begin, if it is one, and how many words it takes.
+fn front<'a>(words: &[&'a str]) -> Option<(Override<'a>, usize)> {
     match words {
-        ["-c", given, after @ ..] => Some((Override::Given(given), after)),
-        ["--config-env", given, after @ ..] => Some((Override::OfVariable(given), after)),
-        [option, after @ ..] => match option.strip_prefix("--config-env=") {
-            Some(given) => Some((Override::OfVariable(given), after)),
+        ["-c", given, ..] => Some((Override::Given(given), 2)),
+        ["--config-env", given, ..] => Some((Override::OfVariable(given), 2)),
+        [option, ..] => match option.strip_prefix("--config-env=") {
+            Some(given) => Some((Override::OfVariable(given), 1)),
             None => None,
         },
         [] => None,
@@ -73,9 +73,9 @@ pub fn take<'w, 'a>(
     words: &'w [&'a str],
     text: &mut Vec<u8>,
 ) -> Result<Option<&'w [&'a str]>, HostError> {
-    let mut left = words;
+    let mut count = 0usize;
     for _ in 0..words.len() {
-        let Some((setting, after)) = front(left) else {
+        let Some((setting, taken)) = front(words.get(count..).unwrap_or(&[])) else {
             break;
         };
         let is_taken = match setting {
@@ -88,7 +88,7 @@ pub fn take<'w, 'a>(
         if !is_taken {
             return Ok(None);
         }
-        left = after;
+        count = count.saturating_add(taken);
     }
-    Ok(Some(left))
+    Ok(words.get(count..))
 }

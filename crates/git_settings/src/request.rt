@@ -114,5 +114,5 @@ pub struct Edit<'a> {
     /// As what the value is written.
     pub shown: Shown,
     /// What to do if several entries have the key, as Git says it.
-    pub advice: &'static str,
+    pub advice: &'a str,
 }

@@ -35,7 +35,12 @@ pub fn tell_key(rt: &HostRuntime, key: &str, error: KeyError) {
         KeyError::NoName => "key does not contain variable name",
         error => error.text(),
     };
-    tell(rt, &[b"error: ", why.as_bytes(), b": ", key.as_bytes()]);
+    tell_about(rt, why, key);
+}
+
+/// Tells what is wrong with a text.
+fn tell_about(rt: &HostRuntime, why: &str, text: &str) {
+    tell(rt, &[b"error: ", why.as_bytes(), b": ", text.as_bytes()]);
 }
 
 impl Unclear {
@@ -52,12 +57,12 @@ impl Unclear {
                 Ending::Absent
             }
             Unclear::Keys => {
-                tell(rt, &[b"error: invalid key pattern: ", key.as_bytes()]);
+                tell_about(rt, "invalid key pattern", key);
                 Ending::NoPattern
             }
             Unclear::Values => {
                 let pattern = value.strip_prefix("!").unwrap_or(value);
-                tell(rt, &[b"error: invalid pattern: ", pattern.as_bytes()]);
+                tell_about(rt, "invalid pattern", pattern);
                 Ending::NoPattern
             }
             Unclear::Memory => {
