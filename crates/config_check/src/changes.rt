@@ -23,20 +23,20 @@ pub(crate) struct Mended {
 
 /// Looks for the changes that mend the findings of one file.
 #[derive(Drop)]
-pub(crate) struct Mender<'r, 't> {
-    judge: Judge<'r, 'r>,
+pub(crate) struct Mender<'r, 'w, 't> {
+    judge: Judge<'r, 'w>,
     options: Options<'t>,
     /// The changes so far, in the order of the entries. None mends a file that Git does not read to its end.
     pub(crate) changes: Vec<Mended>,
 }
 
-impl<'r, 't> Mender<'r, 't> {
+impl<'r, 'w, 't> Mender<'r, 'w, 't> {
     /// Judges changes by these rows.
     pub(crate) fn new(
         alloc: Global,
-        rows: &'r [Row<'r>],
+        rows: &'r [Row<'w>],
         options: Options<'t>,
-    ) -> Result<Mender<'r, 't>, AllocError> {
+    ) -> Result<Mender<'r, 'w, 't>, AllocError> {
         Ok(Mender {
             judge: Judge::new(alloc, rows)?,
             options,

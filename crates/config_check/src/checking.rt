@@ -292,9 +292,9 @@ impl<'c, 't> Checking<'c, 't> {
     }
 
     /// Checks the text of a file by these rows, and writes its findings. Looks for changes if they are asked for.
-    fn look<'r>(
+    fn look(
         &mut self,
-        rows: &'r [Row<'r>],
+        rows: &[Row<'_>],
         file: &'t str,
         text: &'t [u8],
         mends: bool,
