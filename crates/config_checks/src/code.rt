@@ -93,7 +93,6 @@ impl Code {
 ///
 /// assert_eq!(rt; EXPLAINED[0].meaning, "the value is no boolean");
 /// ```
-#[derive(Clone, Copy)]
 pub struct Explained {
     /// The code.
     pub code: Code,

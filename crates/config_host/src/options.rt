@@ -3,7 +3,7 @@
 
 use crate::text::Text;
 use std::alloc::{AllocError, Global};
-use std::fmt;
+use thiserror::Error;
 
 /// What an option takes.
 ///
@@ -85,23 +85,32 @@ pub enum Ends {
 /// let misuse = read(alloc, TABLES, &["--helpless"], Ends::AtWord).expect(&rt, "memory");
 /// assert!(rt; matches!(misuse, Err(Misuse::Unknown("helpless"))));
 /// ```
-#[derive(Clone, Copy, Debug)]
+#[derive(Clone, Copy, Debug, Error)]
 pub enum Misuse<'a> {
     /// There is no such option.
+    #[error("unknown option `{0}'")]
     Unknown(&'a str),
     /// There is no option with this letter.
+    #[error("unknown switch `{0}'")]
     Switch(char),
     /// The name of an option follows one dash.
+    #[error("did you mean `--{0}` (with two dashes)?")]
     OneDash(&'a str),
-    /// The beginning of a name is that of these options, and perhaps of others. Each may be undone.
-    Ambiguous(&'a str, (bool, &'static str), (bool, &'static str)),
+    /// The beginning of a name is that of these two options, and perhaps of others. Before the name of each is `no-` if
+    /// it is undone.
+    #[error("ambiguous option: {0} (could be --{1}{2} or --{3}{4})")]
+    Ambiguous(&'a str, &'static str, &'static str, &'static str, &'static str),
     /// The option has no value.
+    #[error("option `{0}' requires a value")]
     NeedsValue(&'static str),
     /// The option of this letter has no value.
+    #[error("switch `{0}' requires a value")]
     SwitchNeedsValue(&'static str),
-    /// The option has a value, and takes none; perhaps it is undone.
-    TakesNone(bool, &'static str),
+    /// The option has a value, and takes none. Before its name is `no-` if it is undone.
+    #[error("option `{0}{1}' takes no value")]
+    TakesNone(&'static str, &'static str),
     /// The value of the option is none of its words.
+    #[error("no value of --{0}: {1}")]
     NoWord(&'static str, &'a str),
 }
 
@@ -118,29 +127,6 @@ impl Misuse<'_> {
 /// What precedes the name of an option.
 fn negation(is_undone: bool) -> &'static str {
     if is_undone { "no-" } else { "" }
-}
-
-impl fmt::Display for Misuse<'_> {
-    fn fmt<W: fmt::Write>(&self, f: &mut fmt::Formatter<W>) -> fmt::Result {
-        match self {
-            Misuse::Unknown(word) => write!(f, "unknown option `{word}'"),
-            Misuse::Switch(letter) => write!(f, "unknown switch `{letter}'"),
-            Misuse::OneDash(word) => write!(f, "did you mean `--{word}` (with two dashes)?"),
-            Misuse::Ambiguous(word, (is_undone, name), (is_other_undone, other)) => {
-                let (no, other_no) = (negation(*is_undone), negation(*is_other_undone));
-                write!(
-                    f,
-                    "ambiguous option: {word} (could be --{no}{name} or --{other_no}{other})"
-                )
-            }
-            Misuse::NeedsValue(name) => write!(f, "option `{name}' requires a value"),
-            Misuse::SwitchNeedsValue(letter) => write!(f, "switch `{letter}' requires a value"),
-            Misuse::TakesNone(is_undone, name) => {
-                write!(f, "option `{}{name}' takes no value", negation(*is_undone))
-            }
-            Misuse::NoWord(name, value) => write!(f, "no value of --{name}: {value}"),
-        }
-    }
 }
 
 /// The options that are given, in order, and the other words.
@@ -235,8 +221,10 @@ fn abbreviated<'a>(tables: Tables, name: &'a str) -> Result<Found, Misuse<'a>> {
     match (before, found) {
         (Some((row, is_undone)), Some((other, is_other_undone))) => Err(Misuse::Ambiguous(
             name,
-            (is_undone, row.0),
-            (is_other_undone, other.0),
+            negation(is_undone),
+            row.0,
+            negation(is_other_undone),
+            other.0,
         )),
         (None, Some(found)) => Ok(found),
         _ => Err(Misuse::Unknown(name)),
@@ -326,7 +314,7 @@ impl<'w, 'a> Reading<'w, 'a> {
             Takes::Value(_, words) if !is_undone => words,
             _ => {
                 if value.is_some() {
-                    return Err(Misuse::TakesNone(is_undone, row.0));
+                    return Err(Misuse::TakesNone(negation(is_undone), row.0));
                 }
                 self.keep(row, "", is_undone);
                 return Ok(());
