@@ -1,7 +1,7 @@
 -- Entries that get comments.
 use Rattle.std.proofs.Common.{◌≡◌, ◌≢◌, ℕ, ◌+◌, Bool, true, false, not, List, [], ◌∷◌, ◌++◌, Option, Some, None, refl}
 use Rattle.std.proofs.Common.{sym, ap, ◌∙◌, subst, append_assoc, append-nil, arith, inl, inr, ◌⊎◌, true≢false, ◌&&◌}
-use Rattle.std.proofs.Common.{option_copied, MatchOption, eqb-true, ◌==◌, length}
+use Rattle.std.proofs.Common.{option_copied, eqb-true, ◌==◌, length}
 use Rattle.std.specs.List.{list_all}
 use Rattle.std.specs.Char.{is_ascii_alphabetic}
 use Rattle.std.proofs.lemmas.Bool.{and_parts, cases_Bool}
@@ -17,9 +17,8 @@ use Rattle.config_file.specs.Runs.{Run}
 use Rattle.config_file.specs.Value as value
 use Rattle.config_file.specs.Value.{Ending, outside, at_backslash, Spells, SpellsValue, EndsValue, line_feeds, escape}
 use Rattle.config_file.specs.File.{TakesEntry}
-use Rattle.config_file.specs.Key.{is_name}
 use Rattle.config_edit.specs.Edit as spec
-use Rattle.config_edit.specs.Edit.{AreBlank, IsTail, IsEntry, IsGap, HasValue, PutsValue, ChangesValueTo, ChangesEntry}
+use Rattle.config_edit.specs.Edit.{AreBlank, IsTail, IsEntry, HasValue, PutsValue, ChangesValueTo, ChangesEntry}
 use Rattle.config_edit.specs.Edit.{WritesComment, IsEndOfLine, FeedsComment, PutsComment, name_after, value_bytes}
 use Rattle.config_edit.specs.Edit.{present}
 use Rattle.config_edit.specs.Reading.{HasHow, IsOpen, IsNamed, IsCommented, IsChangedIn, IsWritableName, IsWritableComment}
