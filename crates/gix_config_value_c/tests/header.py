@@ -25,8 +25,8 @@ PLACES = [
     (HEADER, r'^#define GCV_VERSION "(.*)"$'),
     (ROOT / "CHANGELOG.md", r"^## \[?([0-9][^\s\]]*)"),
     (ROOT / "crates/config_check/src/options.rt", r'^pub\(crate\) const VERSION: &str = "(.*)";$'),
-    *((ROOT / "crates/config_value/src" / name, r'^        \.version\("(.*)"\)$') for name in (
-        "arguments.rt", "edits.rt", "options.rt")),
+    (ROOT / "crates/config_value/src/main.rt", r'^const VERSION: &\[u8\] = b"config_value (.*)\\n";$'),
+    (ROOT / "crates/git_settings/src/main.rt", r'^const VERSION: &\[u8\] = b"git-settings (.*)\\n";$'),
 ]
 PARTS = [(HEADER, rf"^#define GCV_VERSION_{part} (\d+)$") for part in ("MAJOR", "MINOR", "PATCH")]
 # constants of the header, and where the sources have the same number
