@@ -305,11 +305,11 @@ pub(crate) fn put_slots(
     put(reason, "; color.");
     put_shown(reason, subsection);
     let names = slots(alloc, rows, subsection)?;
-    let mut front = " has: ";
+    let mut front = b" has: ".as_slice();
     for name in names.iter().take(MOST_SLOTS) {
-        put(reason, front);
+        reason.put(front);
         put_shown(reason, name);
-        front = ", ";
+        front = b", ";
     }
     if names.len() > MOST_SLOTS {
         put(reason, " and ");
