@@ -102,12 +102,12 @@ fn places_of(alloc: Global, text: &[u8], chosen: &Chosen<'_>) -> Result<Vec<usiz
 }
 
 /// The text in which the entry at this place has this value and this comment.
-fn commented(
+fn commented<'c>(
     alloc: Global,
     text: &[u8],
     place: usize,
-    value: &[u8],
-    comment: Option<&str>,
+    value: &'c [u8],
+    comment: Option<&'c str>,
 ) -> Result<Vec<u8>, EditError> {
     let change = edit::Change {
         entry: place,
