@@ -69,7 +69,7 @@ class Stored(unittest.TestCase):
     def test_paths(self):
         calls = (ROOT / "crates/path_answers/stdin").read_text("ascii").splitlines()
         answers = (ROOT / "crates/path_answers/stdout").read_text("ascii").splitlines()
-        self.assertEqual(len(calls), 1646)
+        self.assertEqual(len(calls), 1652)
         for call, answer in itertools.zip_longest(calls, answers):
             value, prefix, home, known = call.split("\t")
             prefix, home = (None if field == "-" else bytes.fromhex(field) for field in (prefix, home))
