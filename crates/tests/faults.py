@@ -77,9 +77,9 @@ CHECK = [
 LINES = b"boolean\ncolor\n\nInteger 5\ninteger  5\nsuffix M"
 ANSWERS = [b"ok false\n", b"ok \n", b"unknown kind\n", b"unknown kind\n", b"refused\n", b"ok m\n"]
 VALUE = Run("", b"".join(ANSWERS), 1, given=LINES)
-# many lines, and more writes than their answers may take: nine buffers of 8,192 bytes, and each of the three reads may
-# end one early
-MANY, MOST_WRITES = Run("", b"ok 16k\n" * 10_000, given=b"integer 0x10k\n" * 10_000), 12
+# many lines, and more writes than their answers may take: nine buffers of 8,192 bytes, and one for each read, since what
+# waits is written before it; a pipe may hand over 4,096 bytes at a time
+MANY, MOST_WRITES = Run("", b"ok 16k\n" * 10_000, given=b"integer 0x10k\n" * 10_000), 100
 # how many bytes a read returns, and how many answers are written if memory is refused to the first line that crosses
 # the end of a read
 GROWN = [(1, 0), (3, 0), (20, 3), (1000, 5)]
