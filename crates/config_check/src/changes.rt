@@ -77,13 +77,10 @@ impl<'r, 'w, 't> Mender<'r, 'w, 't> {
         setting: &Setting<'_>,
         finding: &Finding<'_>,
     ) -> Result<(), AllocError> {
-        let Some(change) = self.change_for(setting, finding)? else {
-            return Ok(());
-        };
-        match self.changes.push(change) {
-            Ok(()) => Ok(()),
-            Err(_) => Err(AllocError),
+        if let Some(change) = self.change_for(setting, finding)? {
+            self.changes.push(change)?;
         }
+        Ok(())
     }
 }
 

@@ -5,7 +5,7 @@ use crate::changes::{Mended, Mender, change_file, changed};
 use crate::diff::diff_of;
 use crate::failure::{Failure, failed, tell, written};
 use crate::options::{Asked, Format, Output};
-use crate::report::{Lines, Report};
+use crate::report::{Lines, Report, counts_of};
 use crate::rows::{Must, Rows, built_in, knows_all, settings_for};
 use crate::sarif;
 use crate::source::Source;
@@ -90,19 +90,16 @@ const TERMINAL: &str =
 /// The file name that means standard input.
 const STDIN: &[u8] = b"-";
 
-/// Adds the name of a file.
-fn add<'t>(names: &mut Vec<&'t [u8]>, name: &'t [u8]) -> Result<(), AllocError> {
-    match names.push(name) {
-        Ok(()) => Ok(()),
-        Err(_) => Err(AllocError),
-    }
+/// Adds an item.
+fn add<T: Drop>(items: &mut Vec<T>, item: T) -> Result<(), AllocError> {
+    Ok(items.push(item)?)
 }
 
 /// The names of files, which are kept.
 fn named<'t>(alloc: Global, disk: &Disk<'t>, names: &[&str]) -> Result<Vec<&'t [u8]>, AllocError> {
     let mut found = Vec::new(alloc);
     for name in names {
-        add(&mut found, disk.kept(name.as_bytes())?)?;
+        found.push(disk.kept(name.as_bytes())?)?;
     }
     Ok(found)
 }
@@ -163,16 +160,6 @@ fn write_wrong<'f>(
         suggested_value: None,
     };
     failed(lines.receive(Some(setting), &finding))
-}
-
-/// The counts of one finding of this severity, about no entry.
-fn counts_of(severity: Severity) -> Counts {
-    Counts {
-        findings: 1,
-        errors: u64::from(matches!(severity, Severity::Error)),
-        warnings: u64::from(matches!(severity, Severity::Warning)),
-        ..Counts::default()
-    }
 }
 
 /// What a check of a text gives: its counts, and the changes that are looked for.
@@ -243,10 +230,8 @@ impl<'c, 't> Checking<'c, 't> {
             _ => (text, self.judge(file, text)?),
         };
         self.outcome.add(counts);
-        match self.open.push(Source::new(name, text)) {
-            Ok(()) => Ok(text),
-            Err(_) => Err(Failure::Memory(AllocError)),
-        }
+        add(&mut self.open, Source::new(name, text))?;
+        Ok(text)
     }
 
     /// Takes note that a file has a setting, if rows ask for it.
@@ -654,7 +639,7 @@ impl<'c, 't> Checking<'c, 't> {
     /// The counts of what is reported.
     fn reported(&self) -> Outcome {
         let counts = self.outcome.counts;
-        let hidden = self.report.hidden.counts;
+        let hidden = self.report.hidden.outcome.counts;
         Outcome {
             counts: Counts {
                 findings: counts.findings.saturating_sub(hidden.findings),

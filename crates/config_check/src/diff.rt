@@ -4,6 +4,7 @@ use crate::changes::Mended;
 use crate::text::{put, put_number};
 use config_checks::setting::first_line;
 use config_file::Entries;
+use config_host::shown::put_name;
 use config_host::text::Text;
 use std::alloc::{AllocError, Global};
 
@@ -178,57 +179,23 @@ fn together(regions: &[Region]) -> usize {
     count
 }
 
-/// Whether a byte of a name is escaped, and the name stands in quotes.
-fn is_escaped(byte: u8) -> bool {
-    byte.is_ascii_control() || byte == b'"' || byte == b'\\'
-}
-
-/// Whether a name is written in quotes.
-fn is_quoted(name: &[u8]) -> bool {
-    for byte in name {
-        if is_escaped(*byte) {
-            return true;
-        }
-    }
-    false
-}
-
-/// Appends a byte of a name in quotes.
-fn put_quoted(out: &mut Text, byte: u8) {
-    if !is_escaped(byte) {
-        out.put_byte(byte);
-    } else if byte.is_ascii_control() {
-        out.put(&[
-            b'\\',
-            b'0' + byte / 64,
-            b'0' + byte / 8 % 8,
-            b'0' + byte % 8,
-        ]);
-    } else {
-        out.put(&[b'\\', byte]);
-    }
-}
-
 /// Appends a line with the name of the file, behind `a/` or `b/`, as Git does.
-fn put_name(out: &mut Text, sign: &str, front: &str, file: &str) {
-    let name = file.as_bytes();
-    let name = name.strip_prefix(b"/").unwrap_or(name);
-    let is_quoted = is_quoted(name);
+fn put_file(
+    alloc: Global,
+    out: &mut Text,
+    fronts: [&str; 2],
+    file: &str,
+) -> Result<(), AllocError> {
+    let [sign, front] = fronts;
+    let file = file.strip_prefix("/").unwrap_or(file);
+    let mut name = Text::new(alloc);
+    put(&mut name, front);
+    put(&mut name, file);
     put(out, sign);
-    if is_quoted {
-        put(out, "\"");
-    }
-    put(out, front);
-    if is_quoted {
-        for byte in name {
-            put_quoted(out, *byte);
-        }
-        put(out, "\"");
-    } else {
-        out.put(name);
-    }
+    put_name(out, name.so_far()?);
     // a TAB ends a name with blanks
-    put(out, if name.contains(&b' ') { "\t\n" } else { "\n" });
+    put(out, if file.contains(' ') { "\t\n" } else { "\n" });
+    Ok(())
 }
 
 /// The diff of a file whose text these changes turn into the new text.
@@ -240,8 +207,8 @@ pub(crate) fn diff_of(
     mended: &[Mended],
 ) -> Result<Vec<u8>, AllocError> {
     let mut out = Text::new(alloc);
-    put_name(&mut out, "--- ", "a/", file);
-    put_name(&mut out, "+++ ", "b/", file);
+    put_file(alloc, &mut out, ["--- ", "a/"], file)?;
+    put_file(alloc, &mut out, ["+++ ", "b/"], file)?;
     let all = regions(alloc, new, mended)?;
     let old = lines_of(alloc, old)?;
     let new = lines_of(alloc, new)?;

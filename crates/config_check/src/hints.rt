@@ -40,41 +40,22 @@ const FOR_TRUE: &[&[u8]] = &[b"enable", b"enabled", b"y", b"t"];
 const FOR_FALSE: &[&[u8]] = &[b"disable", b"disabled", b"n", b"f"];
 
 /// The words of colors.
-const COLORS: &[&[u8]] = &[
-    b"normal",
-    b"default",
-    b"black",
-    b"red",
-    b"green",
-    b"yellow",
-    b"blue",
-    b"magenta",
-    b"cyan",
-    b"white",
-    b"brightblack",
-    b"brightred",
-    b"brightgreen",
-    b"brightyellow",
-    b"brightblue",
-    b"brightmagenta",
-    b"brightcyan",
-    b"brightwhite",
-    b"bold",
-    b"dim",
-    b"italic",
-    b"ul",
-    b"blink",
-    b"reverse",
-    b"strike",
-    b"reset",
-    b"nobold",
-    b"nodim",
-    b"noitalic",
-    b"noul",
-    b"noblink",
-    b"noreverse",
-    b"nostrike",
-];
+const COLORS: &str = "\
+normal default black red green yellow blue magenta cyan white brightblack brightred brightgreen brightyellow \
+brightblue brightmagenta brightcyan brightwhite bold dim italic ul blink reverse strike reset nobold nodim \
+noitalic noul noblink noreverse nostrike";
+
+/// The words of a text.
+pub(crate) fn words_in(
+    alloc: Global,
+    text: &'static str,
+) -> Result<Vec<&'static [u8]>, AllocError> {
+    let mut words = Vec::new(alloc);
+    for word in text.as_bytes().split(|byte| *byte == b' ') {
+        words.push(word)?;
+    }
+    Ok(words)
+}
 
 /// This text, which alone is meant.
 fn surely(alloc: Global, text: &[u8]) -> Result<Option<Meant>, AllocError> {
@@ -207,7 +188,7 @@ fn color_meant(alloc: Global, text: &[u8], wrong: &[u8]) -> Result<Option<Meant>
             is_sure: true,
         }));
     }
-    let Some((word, is_sure)) = nearest(alloc, COLORS, wrong)? else {
+    let Some((word, is_sure)) = nearest(alloc, &words_in(alloc, COLORS)?, wrong)? else {
         return Ok(None);
     };
     let color = replaced(alloc, text, wrong, word)?;

@@ -23,9 +23,8 @@ use crate::failure::{Failure, status, written};
 use crate::options::{ABOUT, Asked, TABLES, VERSION, check_once, ignored_by, values_of};
 use crate::rows::rows_of;
 use bumpalo::Bump;
-use config_host::arguments;
+use config_host::environment::{arguments, words_of};
 use config_host::options::{Ends, Options, help, read};
-use std::alloc::{AllocError, Global};
 use std::io::Write;
 use std::process::ExitCode;
 
@@ -55,15 +54,6 @@ fn run<'m>(rt: &HostRuntime, options: &Options<'m>) -> Result<u8, Failure<'m>> {
         Some(name) => explain(rt, name),
         None => run_check(rt, options),
     }
-}
-
-/// The arguments as words, without the name of the program.
-fn words_of(alloc: Global, arguments: &[String]) -> Result<Vec<&str>, AllocError> {
-    let mut words = Vec::new(alloc);
-    for argument in arguments.iter().skip(1) {
-        words.push(argument.as_str())?;
-    }
-    Ok(words)
 }
 
 /// Does what the arguments ask for, and returns the exit status.

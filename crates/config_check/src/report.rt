@@ -15,6 +15,7 @@ use config_checks::finding::Finding;
 use config_checks::fingerprint::{fingerprint, is_known};
 use config_checks::json_line::json_text;
 use config_checks::key::covers;
+use config_checks::outcome::Outcome;
 use config_checks::reason::Severity;
 use config_checks::row::Row;
 use config_checks::setting::Setting;
@@ -28,9 +29,19 @@ use std::io::{self, Write};
 #[derive(Clone, Copy, Default)]
 pub(crate) struct Hidden {
     /// The counts of those that are not reported.
-    pub(crate) counts: Counts,
+    pub(crate) outcome: Outcome,
     pub(crate) ignored: u64,
     pub(crate) known: u64,
+}
+
+/// The counts of one finding of this severity, about no entry.
+pub(crate) fn counts_of(severity: Severity) -> Counts {
+    Counts {
+        findings: 1,
+        errors: u64::from(matches!(severity, Severity::Error)),
+        warnings: u64::from(matches!(severity, Severity::Warning)),
+        ..Counts::default()
+    }
 }
 
 impl Hidden {
@@ -41,13 +52,7 @@ impl Hidden {
         } else {
             self.known = self.known.saturating_add(1);
         }
-        let counts = &mut self.counts;
-        counts.findings = counts.findings.saturating_add(1);
-        match severity {
-            Severity::Error => counts.errors = counts.errors.saturating_add(1),
-            Severity::Warning => counts.warnings = counts.warnings.saturating_add(1),
-            Severity::Note => {}
-        }
+        self.outcome.add(counts_of(severity));
     }
 }
 

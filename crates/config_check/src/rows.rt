@@ -1,7 +1,7 @@
 //! The rows of a run: those of files, and the built-in ones.
 
 use crate::failure::Failure;
-use crate::hints::has;
+use crate::hints::{has, words_in};
 use crate::source::front;
 use bstr::BStr;
 use bumpalo::Bump;
@@ -30,31 +30,14 @@ const SHARED: &str = ".gitconfig-check";
 const BUILT_IN: &str = "the built-in settings";
 
 /// The names of kinds, of which the nearest one is suggested.
-const KINDS: &[&[u8]] = &[
-    b"text",
-    b"bool",
-    b"int",
-    b"bool-or-int",
-    b"color",
-    b"path",
-    b"word",
-    b"word-any-case",
-    b"bool-or-word",
-    b"bool-or-word-any-case",
-    b"int-or-word",
-    b"int-or-word-any-case",
-    b"words",
-    b"words-any-case",
-    b"date",
-    b"date-any-case",
-    b"sort-key",
-    b"sort-key-any-case",
-];
+const KINDS: &str = "\
+text bool int bool-or-int color path word word-any-case bool-or-word bool-or-word-any-case int-or-word \
+int-or-word-any-case words words-any-case date date-any-case sort-key sort-key-any-case";
 
 /// Why a line is not a row, and the name of the nearest kind, if it has another name that is near.
 fn why(alloc: Global, fault: RowFault<'_>) -> Result<String, AllocError> {
     if let RowFault::UnknownKind(name) = fault {
-        if let Some(kind) = nearest_word(alloc, KINDS, name)? {
+        if let Some(kind) = nearest_word(alloc, &words_in(alloc, KINDS)?, name)? {
             return format!(in alloc; "{fault}; did you mean {}?", BStr::new(kind));
         }
     }
@@ -101,16 +84,13 @@ fn add_musts<'m, 't>(
         if !row.must || outside(&row, git).is_some() {
             continue;
         }
-        let must = Must {
+        musts.push(Must {
             file,
             text,
             line,
             key: row.key,
             is_met: false,
-        };
-        if musts.push(must).is_err() {
-            return Err(AllocError);
-        }
+        })?;
     }
     Ok(())
 }
@@ -140,14 +120,6 @@ fn add_text<'m, 't>(
     Ok(())
 }
 
-/// Adds a row to others.
-fn add<'t>(rows: &mut Vec<Row<'t>>, row: Row<'t>) -> Result<(), AllocError> {
-    match rows.push(row) {
-        Ok(()) => Ok(()),
-        Err(_) => Err(AllocError),
-    }
-}
-
 /// These rows, those that hold for this Git first.
 fn in_order<'t>(
     alloc: Global,
@@ -158,13 +130,13 @@ fn in_order<'t>(
     let mut last = Vec::new(alloc);
     for row in rows {
         if outside(&row, git).is_none() {
-            add(&mut first, row)?;
+            first.push(row)?;
         } else {
-            add(&mut last, row)?;
+            last.push(row)?;
         }
     }
     for row in last {
-        add(&mut first, row)?;
+        first.push(row)?;
     }
     Ok(first)
 }

@@ -2,7 +2,7 @@
 
 use crate::options::VERSION;
 use crate::source::Spot;
-use crate::text::{put, put_message, severity_name};
+use crate::text::{put, put_message};
 use config_checks::code::{EXPLAINED, Explained};
 use config_checks::finding::Finding;
 use config_host::text::Text;
@@ -63,6 +63,23 @@ pub(crate) fn beginning(alloc: Global) -> Result<Vec<u8>, AllocError> {
 /// What the document ends with.
 pub(crate) const END: &str = "\n]}]}\n";
 
+/// The message of a finding, as JSON.
+fn message_of(alloc: Global, finding: &Finding<'_>) -> Result<Value, AllocError> {
+    let mut message = Text::new(alloc);
+    put_message(alloc, &mut message, finding)?;
+    let text = String::from_utf8_lossy(alloc, message.so_far()?)?;
+    json!(in alloc; { "text": text })
+}
+
+/// The location of a finding, as JSON.
+fn location_of(alloc: Global, finding: &Finding<'_>, spot: &Spot<'_>) -> Result<Value, AllocError> {
+    let uri = uri_of(alloc, finding.file)?;
+    json!(in alloc; { "physicalLocation": {
+        "artifactLocation": { "uri": uri },
+        "region": { "startLine": finding.line, "startColumn": spot.character() }
+    } })
+}
+
 /// The result of a finding with this fingerprint.
 pub(crate) fn result_of(
     alloc: Global,
@@ -70,16 +87,13 @@ pub(crate) fn result_of(
     spot: &Spot<'_>,
     fingerprint: &str,
 ) -> Result<Vec<u8>, AllocError> {
-    let mut message = Text::new(alloc);
-    put_message(alloc, &mut message, finding)?;
+    let message = message_of(alloc, finding)?;
+    let location = location_of(alloc, finding, spot)?;
     let result = json!(in alloc; {
         "ruleId": finding.code.name(),
-        "level": severity_name(finding.severity),
-        "message": { "text": String::from_utf8_lossy(alloc, message.so_far()?)? },
-        "locations": [{ "physicalLocation": {
-            "artifactLocation": { "uri": uri_of(alloc, finding.file)? },
-            "region": { "startLine": finding.line, "startColumn": spot.character() }
-        } }],
+        "level": finding.severity.name(),
+        "message": message,
+        "locations": [location],
         "partialFingerprints": { "gitConfigCheck/v1": fingerprint }
     })?;
     result.to_vec(alloc)

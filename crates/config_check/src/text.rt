@@ -14,15 +14,6 @@ use std::alloc::{AllocError, Global};
 /// A key or a value of more bytes than this is cut, and its length follows.
 const MOST_BYTES: usize = 80;
 
-/// The name of a severity.
-pub(crate) fn severity_name(severity: Severity) -> &'static str {
-    match severity {
-        Severity::Error => "error",
-        Severity::Warning => "warning",
-        Severity::Note => "note",
-    }
-}
-
 /// The escape sequence of a severity: red, yellow or cyan.
 fn color_of(severity: Severity) -> &'static str {
     match severity {
@@ -114,7 +105,7 @@ fn put_severity(line: &mut Text, color: bool, severity: Severity) {
     if color {
         put(line, color_of(severity));
     }
-    put(line, severity_name(severity));
+    put(line, severity.name());
     put(line, ": ");
     if color {
         put(line, PLAIN);

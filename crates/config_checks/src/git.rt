@@ -15,7 +15,6 @@ pub const SETTINGS: &str = "\
 # Settings of Git 2.39.5 as git-config(1), with the pages that it names, documents them: those of Debian's
 # package git-man 1:2.39.5-0+deb12u3. What the pages leave open is as Git 2.39.5 was seen to read it, by
 # compare/settings.tsv: case, ranges, keys alone, and whether it goes on at a wrong value.
-# advice
 advice.addEmbeddedRepo              bool
 advice.addEmptyPathspec             bool
 advice.addIgnoredFile               bool
@@ -49,7 +48,6 @@ advice.submodulesNotUpdated         bool
 advice.suggestDetachingHead         bool
 advice.updateSparsePath             bool
 advice.waitingForEditor             bool
-# core
 core.fileMode                       bool
 core.hideDotFiles                   bool-or-word dotGitOnly
 core.ignoreCase                     bool
@@ -116,17 +114,13 @@ core.notesRef                       text
 core.abbrev                         until=2.47 words-any-case auto no off false 4 5 6 7 8 9 10 11 12 13 14 \
     15 16 17 18 19 20 21 22 23 24 25 26 27 28 29 30 31 32 33 34 35 36 37 38 39 40 41 42 43 44 45 46 47 48 \
     49 50 51 52 53 54 55 56 57 58 59 60 61 62 63 64 04 05 06 07 01* 0x* +*
-# add
 add.ignoreErrors                    bool
 add.ignore-errors                   bool
 add.interactive.useBuiltin          until=2.40 bool
-# am
 am.keepcr                           bool
 am.threeWay                         bool
-# apply
 apply.ignoreWhitespace              word change no none never false
 apply.whitespace                    word nowarn warn fix strip error error-all
-# blame
 blame.blankBoundary                 bool
 blame.coloring                      warn word repeatedLines highlightRecent none
 blame.showEmail                     bool
@@ -138,7 +132,6 @@ blame.date                          word relative relative-local local iso iso-l
 blame.ignoreRevsFile                path
 blame.markUnblamableLines           bool
 blame.markIgnoredLines              bool
-# branch
 branch.autoSetupMerge               bool-or-word always inherit simple
 branch.autoSetupRebase              word never local remote always
 branch.*.rebase                     bool-or-word merges m interactive i
@@ -152,19 +145,15 @@ branch.*.pushRemote                 text
 branch.*.merge                      text
 branch.*.mergeOptions               text
 branch.*.description                text
-# bundle
 bundle.version                      alone warn int
 bundle.mode                         alone warn word all any
 bundle.*.uri                        alone text
 bundle.*.*                          alone text
-# checkout
 checkout.workers                    int
 checkout.thresholdForParallelism    int
 checkout.defaultRemote              text
 checkout.guess                      bool
-# clean
 clean.requireForce                  bool
-# color
 color.advice                        bool-or-word-any-case always never auto
 color.advice.hint                   color
 color.blame.repeatedLines           warn color
@@ -247,17 +236,14 @@ color.blame.highlightRecent         warn words-any-case normal default black red
     magenta cyan white bright* bold dim italic ul blink reverse strike reset no* -1 0* 1* 2* 3* 4* 5* 6* 7* \
     8* 9* \\#* sec* min* hour* day* week* month* year* ago now yesterday noon midnight tea never last jan* \
     feb* mar* apr* may jun* jul* aug* sep* oct* nov* dec* sun* mon* tue* wed* thu* fri* sat*
-# commit
 commit.cleanup                      word strip whitespace verbatim scissors default
 commit.gpgSign                      bool
 commit.status                       bool
 commit.template                     path
 commit.verbose                      bool-or-int
-# commitGraph
 commitGraph.generationVersion       int
 commitGraph.maxNewFilters           int
 commitGraph.readChangedPaths        bool
-# credential
 credential.useHttpPath              needs-value bool
 credential.sanitizePrompt           needs-value bool
 credential.*.useHttpPath            needs-value bool
@@ -268,9 +254,7 @@ credential.protectProtocol          needs-value bool
 credential.*.helper                 text
 credential.*.username               text
 credential.*.protectProtocol        needs-value bool
-# credentialStore
 credentialStore.lockTimeoutMS       int
-# diff
 diff.autoRefreshIndex               bool
 diff.statGraphWidth                 int
 diff.context                        int 0 2147483647
@@ -302,15 +286,11 @@ diff.guitool                        alone text
 diff.wsErrorHighlight               words old new context default all none
 diff.colorMovedWS                   words no ignore-space-change ignore-space-at-eol ignore-all-space \
     allow-indentation-change
-# extensions
 extensions.objectFormat             word sha1 sha256
 extensions.worktreeConfig           bool
-# fastimport
 fastimport.unpackLimit              int
-# feature
 feature.experimental                bool
 feature.manyFiles                   bool
-# fetch
 fetch.recurseSubmodules             bool-or-word on-demand
 fetch.fsckObjects                   bool
 fetch.fsck.skipList                 path
@@ -323,7 +303,6 @@ fetch.negotiationAlgorithm          word-any-case consecutive skipping noop defa
 fetch.showForcedUpdates             bool
 fetch.parallel                      int 0 2147483647
 fetch.writeCommitGraph              bool
-# format
 format.forceInBodyFrom              bool
 format.numbered                     bool-or-word-any-case auto
 format.coverFromDescription         alone word message default subject auto none
@@ -345,18 +324,14 @@ format.suffix                       text
 format.pretty                       text
 format.outputDirectory              text
 format.notes                        alone text
-# filter
 filter.*.required                   bool
 filter.*.clean                      text
 filter.*.smudge                     text
 filter.*.process                    text
-# fsck
 fsck.skipList                       path
 fsck.*                              word error warn ignore
-# fsmonitor
 fsmonitor.allowRemote               bool
 fsmonitor.socketDir                 alone text
-# gc
 gc.aggressiveDepth                  int
 gc.aggressiveWindow                 int
 gc.auto                             int
@@ -390,7 +365,6 @@ gc.rerereResolved                   warn date-any-case now never all false yeste
 gc.rerereUnresolved                 warn date-any-case now never all false yesterday last noon midnight \
     tea am pm one two three four five six seven eight nine ten jan* feb* mar* apr* may* jun* jul* aug* sep* \
     oct* nov* dec*
-# gitcvs
 gitcvs.logFile                      text
 gitcvs.ext.logFile                  text
 gitcvs.pserver.logFile              text
@@ -403,7 +377,6 @@ gitcvs.dbDriver                     alone text
 gitcvs.dbUser                       alone text
 gitcvs.dbPass                       alone text
 gitcvs.dbTableNamePrefix            alone text
-# gitweb
 gitweb.blame                        warn bool
 gitweb.grep                         warn bool
 gitweb.highlight                    warn bool
@@ -417,7 +390,6 @@ gitweb.url                          alone text
 gitweb.avatar                       alone text
 gitweb.remote_heads                 warn bool
 gitweb.snapshot                     alone text
-# grep
 grep.lineNumber                     bool
 grep.column                         bool
 grep.patternType                    word basic extended fixed perl default
@@ -425,7 +397,6 @@ grep.extendedRegexp                 bool
 grep.threads                        int 0 2147483647
 grep.fullName                       bool
 grep.fallbackToNoIndex              bool
-# gpg
 gpg.format                          word openpgp x509 ssh
 gpg.minTrustLevel                   word-any-case undefined never marginal fully ultimate
 gpg.program                         until=2.51 text
@@ -433,7 +404,6 @@ gpg.ssh.defaultKeyCommand           text
 gpg.ssh.allowedSignersFile          path
 gpg.ssh.revocationFile              path
 gpg.*.program                       until=2.51 text
-# gui
 gui.commitMsgWidth                  alone warn int
 gui.diffContext                     alone warn int
 gui.displayUntracked                warn bool
@@ -446,12 +416,10 @@ gui.encoding                        alone text
 gui.newBranchTemplate               alone text
 gui.spellingDictionary              alone text
 gui.trustmtime                      warn bool
-# help
 help.format                         word man info web html
 help.browser                        text
 help.htmlPath                       text
 help.autoCorrect                    until=2.49 int-or-word never immediate prompt
-# http
 http.proxyAuthMethod                warn word anyauth basic digest negotiate ntlm
 http.proxySSLCert                   text
 http.proxySSLKey                    text
@@ -522,7 +490,6 @@ http.*.schannelUseSSLCAInfo         bool
 http.*.pinnedPubkey                 path
 http.*.lowSpeedLimit                int
 http.*.userAgent                    text
-# imap
 imap.port                           int
 imap.sslverify                      bool
 imap.preformattedHTML               bool
@@ -532,25 +499,20 @@ imap.host                           text
 imap.user                           text
 imap.pass                           text
 imap.authMethod                     text
-# include
 include.path                        text
 includeIf.*.path                    text
-# index
 index.recordEndOfIndexEntries       bool
 index.recordOffsetTable             bool
 index.sparse                        bool
 index.threads                       bool-or-int
 index.version                       warn int 2 4
-# instaweb
 instaweb.local                      bool
 instaweb.port                       alone warn int
 instaweb.browser                    alone text
 instaweb.httpd                      alone text
 instaweb.modulePath                 alone text
-# interactive
 interactive.singleKey               bool
 interactive.diffFilter              text
-# log
 log.abbrevCommit                    bool
 log.decorate                        warn bool-or-word short full auto
 log.diffMerges                      word off none on first-parent 1 separate m combined c dense-combined \
@@ -568,11 +530,8 @@ log.excludeDecoration               text
 log.graphColors                     warn words-any-case normal default black red green yellow blue \
     magenta cyan white bright* bold dim italic ul blink reverse strike reset no* -1 0* 1* 2* 3* 4* 5* 6* 7* \
     8* 9* \\#*
-# lsrefs
 lsrefs.unborn                       word advertise allow ignore
-# mailinfo
 mailinfo.scissors                   bool
-# maintenance
 maintenance.auto                    bool
 maintenance.strategy                until=2.52 warn word-any-case none incremental
 maintenance.*.enabled               bool
@@ -580,7 +539,6 @@ maintenance.*.schedule              warn word-any-case hourly daily weekly
 maintenance.commit-graph.auto       int
 maintenance.loose-objects.auto      int
 maintenance.incremental-repack.auto int
-# merge
 merge.conflictStyle                 word merge diff3 zdiff3
 merge.defaultToUpstream             bool
 merge.ff                            warn bool-or-word only
@@ -600,7 +558,6 @@ merge.guitool                       alone text
 merge.*.name                        text
 merge.*.driver                      text
 merge.*.recursive                   text
-# mergetool
 mergetool.*.hideResolved            bool
 mergetool.*.trustExitCode           bool
 mergetool.meld.hasOutput            warn bool
@@ -613,14 +570,12 @@ mergetool.*.path                    alone text
 mergetool.*.cmd                     alone text
 mergetool.vimdiff.layout            alone text
 mergetool.prompt                    bool
-# notes
 notes.mergeStrategy                 word manual ours theirs union cat_sort_uniq
 notes.*.mergeStrategy               word manual ours theirs union cat_sort_uniq
 notes.rewrite.*                     bool
 notes.rewriteMode                   warn word-any-case overwrite concatenate cat_sort_uniq ignore
 notes.displayRef                    text
 notes.rewriteRef                    text
-# pack
 pack.window                         int
 pack.depth                          int
 pack.windowMemory                   int 0 9223372036854775807
@@ -640,16 +595,13 @@ pack.writeReverseIndex              bool
 pack.island                         text
 pack.islandCore                     text
 pack.preferBitmapTips               text
-# protocol
 protocol.allow                      word-any-case always never user
 protocol.*.allow                    word-any-case always never user
 protocol.version                    word 0 1 2
-# pull
 pull.ff                             bool-or-word only
 pull.rebase                         bool-or-word merges m interactive i
 pull.octopus                        text
 pull.twohead                        text
-# push
 push.autoSetupRemote                bool
 push.default                        word nothing current upstream tracking simple matching
 push.followTags                     bool
@@ -659,7 +611,6 @@ push.useForceIfIncludes             bool
 push.negotiate                      bool
 push.useBitmaps                     bool
 push.pushOption                     text
-# rebase
 rebase.backend                      word apply merge
 rebase.stat                         bool
 rebase.autoSquash                   bool
@@ -670,7 +621,6 @@ rebase.abbreviateCommands           bool
 rebase.rescheduleFailedExec         bool
 rebase.forkPoint                    bool
 rebase.instructionFormat            text
-# receive
 receive.advertiseAtomic             bool
 receive.advertisePushOptions        bool
 receive.autogc                      bool
@@ -690,7 +640,6 @@ receive.shallowUpdate               bool
 receive.certNonceSeed               text
 receive.hideRefs                    text
 receive.procReceiveRefs             text
-# remote
 remote.*.proxyAuthMethod            warn word anyauth basic digest negotiate ntlm
 remote.*.mirror                     bool
 remote.*.skipDefaultUpdate          bool
@@ -709,7 +658,6 @@ remote.*.receivepack                text
 remote.*.uploadpack                 text
 remote.*.vcs                        text
 remote.*.partialclonefilter         text
-# repack
 repack.useDeltaBaseOffset           bool
 repack.packKeptObjects              bool
 repack.useDeltaIslands              bool
@@ -719,15 +667,11 @@ repack.cruftWindow                  until=2.50 int -9223372036854775808 92233720
 repack.cruftWindowMemory            int 0 9223372036854775807
 repack.cruftDepth                   until=2.50 int -9223372036854775808 9223372036854775807
 repack.cruftThreads                 until=2.50 int -9223372036854775808 9223372036854775807
-# rerere
 rerere.autoUpdate                   bool
 rerere.enabled                      bool
-# revert
 revert.reference                    bool
-# safe
 safe.bareRepository                 word all explicit
 safe.directory                      alone path
-# sendemail
 sendemail.multiEdit                 bool
 sendemail.confirm                   word always never cc compose auto
 sendemail.aliasFileType             alone warn word mutt mailrc pine elm gnus sendmail
@@ -793,13 +737,10 @@ sendemail.*.transferEncoding        alone word 7bit 8bit quoted-printable base64
 sendemail.*.validate                bool
 sendemail.*.xmailer                 bool
 sendemail.*.forbidSendmailVariables bool
-# sparse
 sparse.expectFilesOutsideOfPatterns bool
-# splitIndex
 splitIndex.maxPercentChange         warn int 0 100
 splitIndex.sharedIndexExpire        date-any-case now never yesterday last noon midnight tea am pm one \
     two three four five six seven eight nine ten jan* feb* mar* apr* may* jun* jul* aug* sep* oct* nov* dec*
-# status
 status.relativePaths                bool
 status.short                        bool
 status.branch                       bool
@@ -810,11 +751,9 @@ status.renames                      bool-or-word-any-case copies copy
 status.showStash                    bool
 status.showUntrackedFiles           until=2.45 word no normal all
 status.submoduleSummary             bool-or-int
-# stash
 stash.showIncludeUntracked          bool
 stash.showPatch                     bool
 stash.showStat                      bool
-# submodule
 submodule.*.ignore                  word all dirty untracked none
 submodule.*.active                  bool
 submodule.recurse                   bool
@@ -827,7 +766,6 @@ submodule.*.update                  word checkout rebase merge none !*
 submodule.*.branch                  text
 submodule.*.fetchRecurseSubmodules  needs-value bool-or-word on-demand
 submodule.active                    text
-# tag
 tag.forceSignAnnotated              bool
 tag.gpgSign                         bool
 tag.sort                            sort-key refname objecttype objectsize objectname deltabase tree \
@@ -835,7 +773,6 @@ tag.sort                            sort-key refname objecttype objectsize objec
     committeremail committerdate tagger taggername taggeremail taggerdate creator creatordate subject body \
     trailers contents raw upstream push symref flag HEAD color worktreepath ahead-behind is-base describe \
     signature rest if then else end
-# trace2
 trace2.normalBrief                  needs-value warn bool
 trace2.perfBrief                    needs-value warn bool
 trace2.eventBrief                   needs-value warn bool
@@ -847,15 +784,12 @@ trace2.perfTarget                   text
 trace2.eventTarget                  text
 trace2.configParams                 text
 trace2.envVars                      text
-# transfer
 transfer.credentialsInUrl           word allow warn die
 transfer.fsckObjects                bool
 transfer.unpackLimit                int
 transfer.advertiseSID               bool
 transfer.hideRefs                   text
-# uploadarchive
 uploadarchive.allowUnreachable      bool
-# uploadpack
 uploadpack.allowTipSHA1InWant       bool
 uploadpack.allowReachableSHA1InWant bool
 uploadpack.allowAnySHA1InWant       bool
@@ -864,48 +798,35 @@ uploadpack.hideRefs                 text
 uploadpack.allowFilter              bool
 uploadpack.allowRefInWant           bool
 uploadpack.packObjectsHook          text
-# uploadpackfilter
 uploadpackfilter.allow              bool
 uploadpackfilter.*.allow            bool
 uploadpackfilter.tree.maxDepth      int 0 9223372036854775807
-# user
 user.useConfigOnly                  bool
 user.name                           text
 user.email                          text
 user.signingKey                     text
-# worktree
 worktree.guessRemote                bool
-# alias
 alias.*                             text
-# author
 author.name                         text
 author.email                        text
-# committer
 committer.name                      text
 committer.email                     text
-# browser
 browser.*.cmd                       alone text
 browser.*.path                      alone text
-# clone
 clone.defaultRemoteName             text
 clone.rejectShallow                 bool
 clone.filterSubmodules              bool
-# column
 column.ui                           words always never auto column row plain dense nodense
 column.branch                       words always never auto column row plain dense nodense
 column.clean                        words always never auto column row plain dense nodense
 column.status                       words always never auto column row plain dense nodense
 column.tag                          words always never auto column row plain dense nodense
-# completion
 completion.commands                 alone text
-# credentialCache
 credentialCache.ignoreSIGHUP        bool
-# difftool
 difftool.*.cmd                      alone text
 difftool.*.path                     alone text
 difftool.trustExitCode              bool
 difftool.prompt                     bool
-# guitool
 guitool.*.cmd                       alone text
 guitool.*.needsFile                 warn bool
 guitool.*.noConsole                 warn bool
@@ -916,38 +837,25 @@ guitool.*.revPrompt                 alone text
 guitool.*.revUnmerged               warn bool
 guitool.*.title                     alone text
 guitool.*.prompt                    alone text
-# i18n
 i18n.commitEncoding                 text
 i18n.logOutputEncoding              text
-# init
 init.templateDir                    alone path
 init.defaultBranch                  text
-# mailmap
 mailmap.file                        path
 mailmap.blob                        text
-# man
 man.viewer                          text
 man.*.cmd                           text
 man.*.path                          text
-# pager
 pager.*                             alone text
-# pretty
 pretty.*                            text
-# sequence
 sequence.editor                     text
-# showBranch
 showBranch.default                  text
-# ssh
 ssh.variant                         warn word auto ssh plink putty tortoiseplink simple
-# tar
 tar.umask                           int-or-word user
-# url
 url.*.insteadOf                     text
 url.*.pushInsteadOf                 text
-# versionsort
 versionsort.prereleaseSuffix        text
 versionsort.suffix                  text
-# web
 web.browser                         text
 # Keys that git-config(1) leaves to other pages, or reads without a word of them
 advice.pushNonFastForward           bool
@@ -1025,7 +933,6 @@ submodule.stickyRecursiveClone      bool
 uploadpack.allowSidebandAll         bool
 uploadpack.blobPackfileURI          text
 # Settings that Gits after 2.39 read, or read in another way: the version of each is that of its release notes
-# since Git 2.40
 bundle.heuristic                    since=2.40 alone text
 fetch.bundleCreationToken           since=2.40 text
 fetch.bundleURI                     since=2.40 text
@@ -1033,7 +940,6 @@ index.skipHash                      since=2.40 bool
 transfer.bundleURI                  since=2.40 bool
 uploadpack.advertiseBundleURIs      since=2.40 bool
 diff.*.algorithm                    since=2.40 warn word-any-case default myers minimal patience histogram
-# since Git 2.41
 difftool.guiDefault                 since=2.41 bool-or-word-any-case auto
 mergetool.guiDefault                since=2.41 bool-or-word-any-case auto
 pack.readReverseIndex               since=2.41 bool
@@ -1045,11 +951,9 @@ http.sslKeyType                     since=2.41 text
 http.*.sslCertType                  since=2.41 text
 http.*.sslKeyType                   since=2.41 text
 sendemail.headerCmd                 since=2.41 alone text
-# since Git 2.42
 gc.recentObjectsHook                since=2.42 text
 advice.worktreeAddOrphan            since=2.42 bool
 pack.useBitmapBoundaryTraversal     since=2.42 bool
-# since Git 2.43
 attr.tree                           since=2.43 text
 core.maxTreeDepth                   since=2.43 int 1 2147483647
 diff.statNameWidth                  since=2.43 int
@@ -1058,13 +962,11 @@ gc.repackFilter                     since=2.43 text
 gc.repackFilterTo                   since=2.43 text
 advice.submoduleMergeConflict       since=2.43 bool
 rebase.maxLabelLength               since=2.43 int
-# since Git 2.44
 fetch.all                           since=2.44 bool
 advice.forceDeleteBranch            since=2.44 bool
 advice.rebaseTodoError              since=2.44 bool
 format.mboxrd                       since=2.44 bool
 pack.allowPackReuse                 since=2.44 bool-or-word-any-case single multi
-# since Git 2.45
 core.commentString                  since=2.45 text
 diff.dstPrefix                      since=2.45 text
 diff.srcPrefix                      since=2.45 text
@@ -1074,7 +976,6 @@ advice.mergeConflict                since=2.45 bool
 advice.refSyntax                    since=2.45 bool
 transfer.advertiseObjectInfo        since=2.45 bool
 status.showUntrackedFiles           since=2.45 bool-or-word no normal all
-# since Git 2.46
 http.proactiveAuth                  since=2.46 warn word auto basic none
 http.*.proactiveAuth                since=2.46 warn word auto basic none
 advice.defaultBranchName            since=2.46 bool
@@ -1101,7 +1002,6 @@ reftable.restartInterval            since=2.46 int 0 65535
 reftable.indexObjects               since=2.46 bool
 reftable.geometricFactor            since=2.46 int 0 255
 mergetool.*.layout                  since=2.46 alone text
-# since Git 2.47
 init.defaultObjectFormat            since=2.47 warn word sha1 sha256
 init.defaultRefFormat               since=2.47 warn word files reftable
 maintenance.autoDetach              since=2.47 bool
@@ -1113,17 +1013,14 @@ credential.interactive              since=2.47 needs-value warn bool-or-word nev
 reftable.lockTimeout                since=2.47 int -1 9223372036854775807
 core.checkStat                      since=2.47 word-any-case default minimal
 core.abbrev                         since=2.47 needs-value bool-or-word-any-case auto
-# since Git 2.48
 extensions.relativeWorktrees        since=2.48 bool
 remote.*.followRemoteHEAD           since=2.48 warn word create never always warn warn-if-not-*
 worktree.useRelativePaths           since=2.48 bool
 advice.fetchRemoteHEADWarn          since=2.48 bool
-# since Git 2.49
 pack.usePathWalk                    since=2.49 bool
 promisor.advertise                  since=2.49 bool
 promisor.acceptFromServer           since=2.49 warn word-any-case none knownUrl knownName all
 help.autoCorrect                    since=2.49 bool-or-word never immediate prompt show
-# since Git 2.50
 http.keepAliveCount                 since=2.50 int
 http.keepAliveIdle                  since=2.50 int
 http.keepAliveInterval              since=2.50 int
@@ -1138,7 +1035,6 @@ maintenance.loose-objects.batchSize since=2.50 int
 repack.cruftWindow                  since=2.50 int
 repack.cruftDepth                   since=2.50 int
 repack.cruftThreads                 since=2.50 int
-# since Git 2.51
 repack.midxMustContainCruft         since=2.51 bool
 sendemail.smtpSSLClientCert         since=2.51 alone text
 sendemail.smtpSSLClientKey          since=2.51 alone text
@@ -1147,7 +1043,6 @@ merge.stat                          since=2.51 warn bool-or-word diffstat compac
 merge.diffstat                      since=2.51 warn bool-or-word diffstat compact
 gpg.program                         since=2.51 path
 gpg.*.program                       since=2.51 path
-# since Git 2.52
 commitGraph.changedPaths            since=2.52 bool
 maintenance.geometric-repack.auto   since=2.52 int
 maintenance.geometric-repack.splitFactor since=2.52 int
@@ -1158,14 +1053,12 @@ sendemail.useImapOnly               since=2.52 bool
 stash.index                         since=2.52 bool
 remote.*.token                      since=2.52 text
 maintenance.strategy                since=2.52 word-any-case incremental gc geometric
-# since Git 2.53
 promisor.storeFields                since=2.53 warn words-any-case partialCloneFilter token
 replay.refAction                    since=2.53 word update print
 core.whitespace                     since=2.53 warn words trailing-space -trailing-space blank-at-eol \
     -blank-at-eol space-before-tab -space-before-tab indent-with-non-tab -indent-with-non-tab tab-in-indent \
     -tab-in-indent blank-at-eof -blank-at-eof cr-at-eol -cr-at-eol incomplete-line -incomplete-line \
     tabwidth=* fix
-# since Git 2.54
 extensions.submodulePathConfig      since=2.54 bool
 status.compareBranches              since=2.54 warn words-any-case @{upstream} @{push}
 submodule.*.gitdir                  since=2.54 text
@@ -1181,7 +1074,6 @@ http.*.maxRetries                   since=2.54 int
 http.*.maxRetryTime                 since=2.54 int
 http.*.retryAfter                   since=2.54 int
 init.defaultSubmodulePathConfig     since=2.54 bool
-# since Git 2.55
 hook.*.parallel                     since=2.55 needs-value warn bool
 hook.*.jobs                         since=2.55 warn int -1 2147483647
 hook.jobs                           since=2.55 alone warn int -1 2147483647

@@ -5,28 +5,14 @@ ghost use Rattle.serde_json.specs.Data.{string};
 ghost use Rattle.serde_json.specs.View.{view, members_view};
 ghost use Rattle.serde_json.specs.Written.{compact_text};
 ghost use Rattle.config_checks.specs.Findings.{finding_of};
-ghost use Rattle.config_checks.specs.Json.{severity_name, text_json, text_or_null};
-ghost use Rattle.config_checks.specs.Json.{bytes_json, bytes_or_null, members_from_line};
-ghost use Rattle.config_checks.specs.Json.{finding_json};
-ghost use Rattle.config_checks.specs.Json.{IsOneLine};
+ghost use Rattle.config_checks.specs.Json.{text_json, text_or_null, bytes_json, bytes_or_null, members_from_line};
+ghost use Rattle.config_checks.specs.Json.{finding_json, IsOneLine};
 
 use crate::finding::Finding;
 use crate::fingerprint::fingerprint;
-use crate::reason::Severity;
 use base64::engine::general_purpose::STANDARD;
 use serde_json::{Map, Value, put};
 use std::alloc::{AllocError, Global};
-
-/// The name of a severity.
-fn severity_name(severity: Severity) -> &'static str
-    ensures { result.now ≡ severity_name severity }
-{
-    match severity {
-        Severity::Error => "error",
-        Severity::Warning => "warning",
-        Severity::Note => "note",
-    }
-}
 
 /// A text as a JSON string.
 fn str_json(alloc: Global, text: &str) -> Result<Value, AllocError>
@@ -106,7 +92,7 @@ fn members_from_line(alloc: Global, finding: &Finding<'_>) -> Result<Map<String,
         &mut map,
         alloc,
         "severity",
-        str_json(alloc, severity_name(finding.severity))?,
+        str_json(alloc, finding.severity.name())?,
     )?;
     put(&mut map, alloc, "reason", text_json(alloc, finding.reason)?)?;
     put(&mut map, alloc, "line", Value::from(finding.line))?;

@@ -14,6 +14,7 @@ ghost use Rattle.config_checks.specs.Reasons.{IsJudgedAlone, HasReason};
 ghost use Rattle.config_checks.specs.Reasons.{HasSpelling, IsOutside, IsRemark, HasFinding};
 ghost use Rattle.gix_config_value.specs.Amount.{AmountText};
 ghost use Rattle.config_checks.specs.Reasons.{severity_of};
+ghost use Rattle.config_checks.specs.Json.{severity_name};
 ghost use Rattle.config_checks.specs.Versions.{IsTooNew, IsOf};
 ghost use Rattle.config_checks.specs.Reasons.{IsRespelled, IsRespelledBoolOrInt, IsRespelledAs};
 ghost use Rattle.config_checks.specs.Reasons.{IsRespelledByForm, IsRespelledByWords};
@@ -95,6 +96,19 @@ pub enum Severity {
     Warning,
     /// The value is valid, but it should be spelled in another way, or only a newer Git reads it.
     Note,
+}
+
+impl Severity {
+    /// The word that tells it.
+    pub fn name(self) -> &'static str
+        ensures { result.now ≡ severity_name self }
+    {
+        match self {
+            Severity::Error => "error",
+            Severity::Warning => "warning",
+            Severity::Note => "note",
+        }
+    }
 }
 
 impl Reason<'_, '_> {

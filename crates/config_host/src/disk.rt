@@ -239,28 +239,24 @@ impl<'t> Disk<'t> {
 
     /// The same files, with names that begin in this folder. An empty one is the current folder.
     pub fn within(&self, folder: &[u8]) -> Result<Disk<'t>, AllocError> {
-        Ok(Disk {
-            host: self.host,
-            texts: self.texts,
-            folder: Some(self.kept(folder)?),
-        })
+        Ok(self.below(Some(self.kept(folder)?)))
     }
 
     /// The same files.
     pub fn again(&self) -> Disk<'t> {
-        Disk {
-            host: self.host,
-            texts: self.texts,
-            folder: self.folder,
-        }
+        self.below(self.folder)
     }
 
     /// The same files, each of which has to be named from the root, as in the settings of a command.
     pub fn from_root(&self) -> Disk<'t> {
+        self.below(None)
+    }
+
+    fn below(&self, folder: Option<&'t [u8]>) -> Disk<'t> {
         Disk {
             host: self.host,
             texts: self.texts,
-            folder: None,
+            folder,
         }
     }
 

@@ -5,9 +5,9 @@ ghost use Rattle.config_host.specs.declared.environment.ArgumentError.TheVariant
 
 use crate::disk::Disk;
 use bstr::BStr;
-use std::alloc::AllocError;
+use std::alloc::{AllocError, Global};
 use std::env::{Env, FillError};
-use std::io::{self, ErrorKind};
+use std::io;
 use thiserror::Error;
 
 /// Why a program cannot say where it runs.
@@ -107,9 +107,7 @@ fn bytes_of(host: &HostRuntime, asked: Asked<'_>) -> Result<Option<Vec<u8>>, All
     let mut size = USUAL;
     for _ in 0..usize::BITS {
         let mut bytes = Vec::new(host.alloc());
-        if bytes.resize(size, 0).is_err() {
-            return Err(AllocError);
-        }
+        bytes.resize(size, 0)?;
         match fill(host, asked, &mut bytes) {
             Ok(length) => {
                 bytes.truncate(length);
@@ -168,12 +166,19 @@ pub fn arguments(host: &HostRuntime) -> Result<Vec<String>, ArgumentError> {
     Ok(all)
 }
 
+/// The arguments as words, without the name of the program.
+pub fn words_of(alloc: Global, arguments: &[String]) -> Result<Vec<&str>, AllocError> {
+    let mut words = Vec::new(alloc);
+    for argument in arguments.iter().skip(1) {
+        words.push(argument.as_str())?;
+    }
+    Ok(words)
+}
+
 /// The name of the current folder from the root, without links.
 pub(crate) fn current_folder(host: &HostRuntime) -> io::Result<Vec<u8>> {
     let mut bytes = Vec::new(host.alloc());
-    if bytes.resize(LONGEST_FOLDER, 0).is_err() {
-        return Err(io::Error::from(ErrorKind::OutOfMemory));
-    }
+    bytes.resize(LONGEST_FOLDER, 0)?;
     let length = host.current_dir(&mut bytes)?;
     bytes.truncate(length);
     Ok(bytes)

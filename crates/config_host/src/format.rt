@@ -217,34 +217,31 @@ impl<'t> Format<'t> {
         }
     }
 
-    /// Takes what a setting of the repository says.
-    fn take(&mut self, disk: &Disk<'t>, setting: &Setting<'_>) -> Result<(), HereError<'t>> {
-        let key = setting.entry.key_text(disk.host.alloc())?;
-        self.take_named(disk, setting, &key)
-    }
-
-    /// Takes what the settings of the repository say.
-    fn take_all(&mut self, disk: &Disk<'t>, settings: &Settings<'_>) -> Result<(), HereError<'t>> {
-        for setting in &settings.entries {
-            self.take(disk, setting)?;
-        }
-        Ok(())
-    }
-
-    /// Takes what a setting of a work tree of its own says.
-    fn take_own(&mut self, disk: &Disk<'t>, setting: &Setting<'_>) -> Result<(), HereError<'t>> {
-        let key = setting.entry.key_text(disk.host.alloc())?;
-        self.take_work_tree(disk, setting, &key)
-    }
-
-    /// Takes what the settings of a work tree of its own say.
-    fn take_all_own(
+    /// Takes what a setting of the repository says, or of a work tree of its own.
+    fn take(
         &mut self,
         disk: &Disk<'t>,
-        settings: &Settings<'_>,
+        setting: &Setting<'_>,
+        is_own: bool,
     ) -> Result<(), HereError<'t>> {
+        let key = setting.entry.key_text(disk.host.alloc())?;
+        if is_own {
+            self.take_work_tree(disk, setting, &key)
+        } else {
+            self.take_named(disk, setting, &key)
+        }
+    }
+
+    /// Takes what the file of the repository says, or that of a work tree of its own.
+    fn take_file(
+        &mut self,
+        disk: &Disk<'t>,
+        file: &[u8],
+        is_own: bool,
+    ) -> Result<(), HereError<'t>> {
+        let settings = settings_in(disk, file)?;
         for setting in &settings.entries {
-            self.take_own(disk, setting)?;
+            self.take(disk, setting, is_own)?;
         }
         Ok(())
     }
@@ -277,9 +274,8 @@ fn settings_in<'t>(disk: &Disk<'t>, name: &[u8]) -> Result<Settings<'t>, HereErr
 /// The format that the file of a repository states. Git looks at no include here. A file that states no
 /// version states nothing.
 pub(crate) fn format_in<'t>(disk: &Disk<'t>, file: &[u8]) -> Result<Format<'t>, HereError<'t>> {
-    let settings = settings_in(disk, file)?;
     let mut format = Format::new();
-    format.take_all(disk, &settings)?;
+    format.take_file(disk, file, false)?;
     match format.version {
         Some(version) if 0 <= version => Ok(format),
         _ => Ok(Format::new()),
@@ -292,6 +288,5 @@ pub(crate) fn take_own_file<'t>(
     format: &mut Format<'t>,
     file: &[u8],
 ) -> Result<(), HereError<'t>> {
-    let settings = settings_in(disk, file)?;
-    format.take_all_own(disk, &settings)
+    format.take_file(disk, file, true)
 }

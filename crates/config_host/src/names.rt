@@ -55,9 +55,7 @@ pub(crate) fn parent(folder: &[u8]) -> Option<&[u8]> {
 pub(crate) fn joined<'t>(disk: &Disk<'t>, parts: &[&[u8]]) -> Result<&'t [u8], AllocError> {
     let mut whole = Vec::new(disk.texts);
     for part in parts {
-        if whole.extend_from_slice(part).is_err() {
-            return Err(AllocError);
-        }
+        whole.extend_from_slice(part)?;
     }
     Ok(into_bump_slice(whole))
 }

@@ -2,10 +2,10 @@
 //! can change.
 
 use crate::disk::Disk;
-use crate::environment::variable;
+use crate::environment::{kept_variable, variable};
 use crate::error::HereError;
 use crate::lines::is_on;
-use crate::names::{known_of, known_of_link, path_inside, real_name};
+use crate::names::{inside, joined, known_of, known_of_link, real_name};
 use crate::reading::settings_at;
 use crate::sources::protected_names;
 use bstr::ByteSlice;
@@ -76,23 +76,15 @@ fn has_key(host: &HostRuntime, setting: &Setting<'_>, key: &[u8]) -> Result<bool
     Ok(text.as_slice() == key)
 }
 
-/// The text of both.
-fn joined(host: &HostRuntime, front: &[u8], rest: &[u8]) -> Result<Vec<u8>, AllocError> {
-    let mut whole = front.to_vec(host.alloc())?;
-    whole.extend_from_slice(rest)?;
-    Ok(whole)
-}
-
 /// The path that a value of `safe.directory` spells, or `None` if it begins with a directory that is not
 /// known.
-fn spelled(host: &HostRuntime, value: &[u8]) -> Result<Option<Vec<u8>>, AllocError> {
-    let home = variable(host, "HOME")?;
+fn spelled<'t>(disk: &Disk<'t>, value: &[u8]) -> Result<Option<&'t [u8]>, AllocError> {
     let directories = Directories {
-        home: home.as_deref(),
+        home: kept_variable(disk, "HOME")?,
         install_dir: None,
     };
     match expand(value, directories) {
-        Some(parts) => Ok(Some(joined(host, parts.directory, parts.rest)?)),
+        Some(parts) => Ok(Some(joined(disk, &[parts.directory, parts.rest])?)),
         None => Ok(None),
     }
 }
@@ -111,13 +103,9 @@ fn is_below(host: &HostRuntime, name: &[u8], folder: &[u8]) -> io::Result<bool> 
 
 /// The path from the root that a value of `safe.directory` spells, or that of the folder that is asked about
 /// if it is `.`. Any other value has none.
-fn safe_path(host: &HostRuntime, asked: &[u8], value: &[u8]) -> io::Result<Option<Vec<u8>>> {
-    match spelled(host, value)? {
-        Some(path) if path.as_slice() == b".".as_slice() => Ok(Some(path_inside(
-            host.alloc(),
-            asked,
-            b".",
-        )?)),
+fn safe_path<'t>(disk: &Disk<'t>, asked: &[u8], value: &[u8]) -> io::Result<Option<&'t [u8]>> {
+    match spelled(disk, value)? {
+        Some(b".") => Ok(Some(inside(disk, asked, b".")?)),
         Some(path) if path.starts_with(b"/") => Ok(Some(path)),
         _ => Ok(None),
     }
@@ -136,28 +124,28 @@ fn covers(host: &HostRuntime, path: &[u8], folder: &[u8]) -> io::Result<bool> {
 
 /// Whether a value of `safe.directory` names this folder: by its path, by `.` if it is the one that is asked
 /// about, or by a path above it that ends with `/*`.
-fn names_folder(host: &HostRuntime, asked: &[u8], value: &[u8], folder: &[u8]) -> io::Result<bool> {
-    match safe_path(host, asked, value)? {
-        Some(path) => covers(host, &path, folder),
+fn names_folder(disk: &Disk<'_>, asked: &[u8], value: &[u8], folder: &[u8]) -> io::Result<bool> {
+    match safe_path(disk, asked, value)? {
+        Some(path) => covers(disk.host, path, folder),
         None => Ok(false),
     }
 }
 
 /// Whether these settings name this folder in `safe.directory`.
 fn name_as_safe(
-    host: &HostRuntime,
+    disk: &Disk<'_>,
     settings: &Settings<'_>,
     asked: &[u8],
     folder: &[u8],
 ) -> io::Result<bool> {
     let mut is_safe = false;
     for setting in &settings.entries {
-        if has_key(host, setting, b"safe.directory")? {
+        if has_key(disk.host, setting, b"safe.directory")? {
             let value = setting.value.as_deref().unwrap_or_default();
             is_safe = match str::from_utf8(value) {
                 Ok("") => false,
                 Ok("*") => true,
-                _ => is_safe || names_folder(host, asked, value, folder)?,
+                _ => is_safe || names_folder(disk, asked, value, folder)?,
             };
         }
     }
@@ -167,7 +155,7 @@ fn name_as_safe(
 /// Whether `safe.directory` names this folder, whose path has no links. An empty value takes back those
 /// before it.
 pub fn is_safe<'t>(disk: &Disk<'t>, asked: &[u8], folder: &[u8]) -> Result<bool, HereError<'t>> {
-    Ok(name_as_safe(disk.host, &protected(disk)?, asked, folder)?)
+    Ok(name_as_safe(disk, &protected(disk)?, asked, folder)?)
 }
 
 /// Whether this is the name of a git directory of a work tree, or of something below one.

@@ -269,10 +269,7 @@ impl<'t> Search<'t> {
             return Ok(());
         };
         let text = value.to_vec(disk.host.alloc())?;
-        match self.urls.push(disk.kept(&text)?) {
-            Ok(()) => Ok(()),
-            Err(_) => Err(AllocError),
-        }
+        Ok(self.urls.push(disk.kept(&text)?)?)
     }
 }
 

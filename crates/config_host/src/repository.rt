@@ -64,6 +64,16 @@ impl<'t> Location<'t> {
     }
 }
 
+/// A git directory that is found: the folder that is asked about, the folder of the git directory, and the folder that
+/// its work trees share, if they do.
+#[derive(Clone, Copy)]
+struct Site<'t> {
+    asked: Folder<'t>,
+    folder: Folder<'t>,
+    git_dir: GitDir<'t>,
+    shared: Option<&'t [u8]>,
+}
+
 /// Takes what the file of its own says of a work tree. What it shares says nothing of its own top.
 fn take_own<'t>(
     disk: &Disk<'t>,
@@ -82,14 +92,11 @@ fn take_own<'t>(
 }
 
 /// The format of a git directory.
-fn format_of<'t>(
-    disk: &Disk<'t>,
-    git_dir: &[u8],
-    shared: Option<&[u8]>,
-) -> Result<Format<'t>, HereError<'t>> {
-    let common = shared.unwrap_or(git_dir);
+fn format_of<'t>(disk: &Disk<'t>, site: Site<'t>) -> Result<Format<'t>, HereError<'t>> {
+    let git_dir = site.git_dir.name;
+    let common = site.shared.unwrap_or(git_dir);
     let mut format = format_in(disk, inside(disk, common, b"config")?)?;
-    take_own(disk, &mut format, git_dir, shared.is_some())?;
+    take_own(disk, &mut format, git_dir, site.shared.is_some())?;
     Ok(format)
 }
 
@@ -97,14 +104,13 @@ fn format_of<'t>(
 /// `core.worktree` means nothing to a bare repository.
 fn named_top<'t>(
     disk: &Disk<'t>,
-    asked: Folder<'t>,
-    git_dir: GitDir<'t>,
+    site: Site<'t>,
     format: &Format<'t>,
 ) -> io::Result<Option<&'t [u8]>> {
     let top = match kept_variable(disk, "GIT_WORK_TREE")? {
-        Some(top) => inside(disk, asked.name, top)?,
+        Some(top) => inside(disk, site.asked.name, top)?,
         None => match format.work_tree {
-            Some(top) if !format.is_bare => inside(disk, git_dir.name, top)?,
+            Some(top) if !format.is_bare => inside(disk, site.git_dir.name, top)?,
             _ => return Ok(None),
         },
     };
@@ -121,16 +127,11 @@ fn is_below(folder: &[u8], top: &[u8]) -> bool {
 
 /// The name of a git directory in the folder that is asked about: the same as in the folder in which it is
 /// found, if that is this one, and otherwise its path.
-fn name_here<'t>(
-    disk: &Disk<'t>,
-    asked: Folder<'t>,
-    folder: Folder<'t>,
-    git_dir: GitDir<'t>,
-) -> io::Result<&'t [u8]> {
-    if folder.name == asked.name {
-        return Ok(git_dir.named);
+fn name_here<'t>(disk: &Disk<'t>, site: Site<'t>) -> io::Result<&'t [u8]> {
+    if site.folder.name == site.asked.name {
+        return Ok(site.git_dir.named);
     }
-    resolved(disk, git_dir.name, git_dir.name)
+    resolved(disk, site.git_dir.name, site.git_dir.name)
 }
 
 /// The path of a folder without links.
@@ -141,13 +142,12 @@ fn path_of<'t>(disk: &Disk<'t>, folder: Folder<'t>) -> io::Result<&'t [u8]> {
 /// The folder in which Git works, and the name of the git directory there.
 fn workplace<'t>(
     disk: &Disk<'t>,
-    asked: Folder<'t>,
-    folder: Folder<'t>,
-    git_dir: GitDir<'t>,
+    site: Site<'t>,
     format: &Format<'t>,
 ) -> io::Result<(Folder<'t>, &'t [u8])> {
-    match named_top(disk, asked, git_dir, format)? {
-        Some(top) if is_below(path_of(disk, asked)?, top) => {
+    let git_dir = site.git_dir;
+    match named_top(disk, site, format)? {
+        Some(top) if is_below(path_of(disk, site.asked)?, top) => {
             let place = Folder {
                 name: top,
                 path: top,
@@ -155,9 +155,9 @@ fn workplace<'t>(
             Ok((place, resolved(disk, git_dir.name, git_dir.name)?))
         }
         None if matches!(git_dir.form, Form::Below) && !format.is_bare => {
-            Ok((folder, git_dir.named))
+            Ok((site.folder, git_dir.named))
         }
-        _ => Ok((asked, name_here(disk, asked, folder, git_dir)?)),
+        _ => Ok((site.asked, name_here(disk, site)?)),
     }
 }
 
@@ -178,35 +178,30 @@ fn shown_shared<'t>(
 /// The repository of this git directory, which has this name in the folder of this path.
 fn repository_in<'t>(
     disk: &Disk<'t>,
+    site: Site<'t>,
     path: &[u8],
     named_dir: &'t [u8],
-    git_dir: GitDir<'t>,
-    shared: Option<&'t [u8]>,
     has_worktree_files: bool,
 ) -> io::Result<FoundRepository<'t>> {
     let path = inside(disk, path, named_dir)?;
     Ok(FoundRepository {
-        real_git_dir: resolved(disk, git_dir.name, path)?,
-        branch: branch_of(disk, git_dir.name)?,
-        common_dir: shown_shared(disk, shared, named_dir)?,
+        real_git_dir: resolved(disk, site.git_dir.name, path)?,
+        branch: branch_of(disk, site.git_dir.name)?,
+        common_dir: shown_shared(disk, site.shared, named_dir)?,
         git_dir: path,
         named_dir,
         has_worktree_files,
     })
 }
 
-/// Where Git works with this git directory of this folder and of this format.
-fn located<'t>(
-    disk: &Disk<'t>,
-    asked: Folder<'t>,
-    folder: Folder<'t>,
-    git_dir: GitDir<'t>,
-    shared: Option<&'t [u8]>,
-    format: &Format<'t>,
-) -> io::Result<Location<'t>> {
-    let (place, named_dir) = workplace(disk, asked, folder, git_dir, format)?;
+/// Where Git works with this git directory, if it may have this format.
+fn located<'t>(disk: &Disk<'t>, site: Site<'t>, format: &Format<'t>) -> io::Result<Location<'t>> {
+    if let Some(refusal) = format.refusal() {
+        return Ok(Location::without(site.folder.name, Some(refusal)));
+    }
+    let (place, named_dir) = workplace(disk, site, format)?;
     let has_files = format.has_worktree_files;
-    let repository = repository_in(disk, place.path, named_dir, git_dir, shared, has_files)?;
+    let repository = repository_in(disk, site, place.path, named_dir, has_files)?;
     Ok(Location {
         folder: place.name,
         repository: Some(repository),
@@ -215,33 +210,12 @@ fn located<'t>(
     })
 }
 
-/// Where Git works, if the git directory of this folder may have this format.
-fn located_by<'t>(
-    disk: &Disk<'t>,
-    asked: Folder<'t>,
-    folder: Folder<'t>,
-    git_dir: GitDir<'t>,
-    shared: Option<&'t [u8]>,
-    format: &Format<'t>,
-) -> io::Result<Location<'t>> {
-    match format.refusal() {
-        Some(refusal) => Ok(Location::without(folder.name, Some(refusal))),
-        None => located(disk, asked, folder, git_dir, shared, format),
-    }
-}
-
-/// Where Git works, if it uses the git directory of this folder.
-fn locate<'t>(
-    disk: &Disk<'t>,
-    asked: Folder<'t>,
-    folder: Folder<'t>,
-    git_dir: GitDir<'t>,
-) -> Result<Location<'t>, HereError<'t>> {
-    let shared = shared_folder(disk, git_dir.name)?;
-    match format_of(disk, git_dir.name, shared) {
-        Ok(format) => Ok(located_by(disk, asked, folder, git_dir, shared, &format)?),
+/// Where Git works, if it uses this git directory.
+fn locate<'t>(disk: &Disk<'t>, site: Site<'t>) -> Result<Location<'t>, HereError<'t>> {
+    match format_of(disk, site) {
+        Ok(format) => Ok(located(disk, site, &format)?),
         Err(HereError::Host(error)) => Err(HereError::Host(error)),
-        Err(error) => Ok(Location::stopped(folder.name, error)),
+        Err(error) => Ok(Location::stopped(site.folder.name, error)),
     }
 }
 
@@ -262,7 +236,16 @@ pub fn find<'t>(disk: &Disk<'t>, name: &[u8]) -> Result<Location<'t>, HereError<
     let asked = asked_folder(disk, name)?;
     let inner = disk.within(asked.name)?;
     match search(&inner, asked)? {
-        Found::GitDir(folder, git_dir) => locate(disk, asked, folder, git_dir),
+        Found::GitDir(folder, git_dir) => {
+            let shared = shared_folder(disk, git_dir.name)?;
+            let site = Site {
+                asked,
+                folder,
+                git_dir,
+                shared,
+            };
+            locate(disk, site)
+        }
         Found::Nothing => Ok(Location::without(asked.name, None)),
         Found::Refused(refusal) => Ok(Location::without(asked.name, Some(refusal))),
         Found::Stops(error) => Ok(Location::stopped(asked.name, error)),

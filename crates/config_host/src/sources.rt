@@ -78,10 +78,7 @@ fn push<'t>(names: &mut Vec<Named<'t>>, scope: Scope, name: &'t [u8]) -> Result<
     if name.is_empty() {
         return Ok(());
     }
-    match names.push(Named { scope, name }) {
-        Ok(()) => Ok(()),
-        Err(_) => Err(AllocError),
-    }
+    Ok(names.push(Named { scope, name })?)
 }
 
 /// Adds the file of the system, unless GIT_CONFIG_NOSYSTEM says that it is not read.
@@ -204,33 +201,22 @@ fn read_source<'t>(disk: &Disk<'t>, named: Named<'t>) -> Result<Option<Source<'t
 
 /// Adds a text.
 fn add<'t>(sources: &mut Vec<Source<'t>>, source: Source<'t>) -> Result<(), AllocError> {
-    match sources.push(source) {
-        Ok(()) => Ok(()),
-        Err(_) => Err(AllocError),
-    }
-}
-
-/// The settings of the command as a text that is kept.
-fn kept_command<'t>(disk: &Disk<'t>) -> Result<&'t [u8], HereError<'t>> {
-    let text = command_text(disk.host)?;
-    Ok(disk.kept(&text)?)
+    Ok(sources.push(source)?)
 }
 
 /// Adds the settings of the command, if there are any.
 fn add_command<'t>(disk: &Disk<'t>, sources: &mut Vec<Source<'t>>) -> Result<(), HereError<'t>> {
-    let text = kept_command(disk)?;
+    let text = command_text(disk.host)?;
     if text.is_empty() {
         return Ok(());
     }
-    Ok(add(
-        sources,
-        Source {
-            scope: Scope::Command,
-            place: COMMAND,
-            text,
-            is_file: false,
-        },
-    )?)
+    let source = Source {
+        scope: Scope::Command,
+        place: COMMAND,
+        text: disk.kept(&text)?,
+        is_file: false,
+    };
+    Ok(add(sources, source)?)
 }
 
 /// The texts of these files, as far as they are there, and of the command.

@@ -35,10 +35,7 @@ fn is_of_other(group: &Settings<'_>, setting: &Setting<'_>) -> bool {
 
 /// Adds a setting to a group.
 fn add<'t>(group: &mut Settings<'t>, setting: Setting<'t>) -> Result<(), AllocError> {
-    match group.entries.push(setting) {
-        Ok(()) => Ok(()),
-        Err(_) => Err(AllocError),
-    }
+    Ok(group.entries.push(setting)?)
 }
 
 /// Appends the key of a section and a name as Git lists it, in lower case.

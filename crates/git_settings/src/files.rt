@@ -122,10 +122,7 @@ impl<'t> Reading<'_, 't> {
             self.show(&setting, &place, Name::Of(&setting.entry))?;
             return Ok(());
         }
-        match self.found.push(setting) {
-            Ok(()) => Ok(()),
-            Err(_) => Err(io::Error::from(AllocError)),
-        }
+        Ok(self.found.push(setting)?)
     }
 
     /// Takes an entry, if it is wanted.

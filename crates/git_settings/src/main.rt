@@ -18,25 +18,13 @@ use crate::asked::{Asked, asked_of};
 use crate::options::{Word, word_of};
 use crate::output::{Ending, tell, tell_error, tell_fatal};
 use config_host::HostError;
-use config_host::environment::arguments as arguments_of;
+use config_host::environment::{arguments as arguments_of, words_of};
 use config_host::options::{Ends, Misuse, help, read};
-use std::alloc::{AllocError, Global};
 use std::io::Write;
 use std::process::ExitCode;
 
 /// What `--version` prints.
 const VERSION: &[u8] = b"git-settings 0.2.0\n";
-
-/// The arguments behind the name of the program.
-fn words_of<'a>(alloc: Global, arguments: &'a [String]) -> Result<Vec<&'a str>, AllocError> {
-    let mut words = Vec::new(alloc);
-    if let [_, rest @ ..] = arguments {
-        for argument in rest {
-            words.push(argument.as_str())?;
-        }
-    }
-    Ok(words)
-}
 
 /// Tells in Git's words how options are wrong, and where Git does so how to use them.
 fn refuse(rt: &HostRuntime, word: &Word, misuse: &Misuse<'_>) -> Result<Ending, HostError> {

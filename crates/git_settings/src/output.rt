@@ -3,7 +3,7 @@
 use crate::request::{Request, Subject};
 use config_file::{Entry, Scope};
 use config_host::HereError;
-use config_host::shown::line_of;
+use config_host::shown::{line_of, put_name};
 use config_host::text::Text;
 use itoa::Buffer;
 use std::alloc::AllocError;
@@ -110,73 +110,17 @@ pub struct Place<'s> {
     pub line: usize,
 }
 
-/// The bytes that have an escape of their own.
-const LETTERS: &[(u8, &[u8])] = &[
-    (7, b"\\a"),
-    (8, b"\\b"),
-    (b'\t', b"\\t"),
-    (b'\n', b"\\n"),
-    (11, b"\\v"),
-    (12, b"\\f"),
-    (b'\r', b"\\r"),
-    (b'"', b"\\\""),
-    (b'\\', b"\\\\"),
-];
-
-/// Whether Git escapes this byte in the name of a file.
-fn is_escaped(byte: u8) -> bool {
-    byte < 32 || byte > 126 || byte == b'"' || byte == b'\\'
-}
-
-/// Appends a byte of the name of a file, as Git escapes it.
-fn put_escaped(text: &mut Text, byte: u8) {
-    if !is_escaped(byte) {
-        text.put_byte(byte);
-        return;
-    }
-    for (letter, escape) in LETTERS {
-        if *letter == byte {
-            text.put(escape);
-            return;
-        }
-    }
-    text.put(&[
-        b'\\',
-        b'0' + byte / 64,
-        b'0' + byte / 8 % 8,
-        b'0' + byte % 8,
-    ]);
-}
-
-/// Whether Git writes the name of a file in quotes.
-fn is_quoted(name: &[u8]) -> bool {
-    for byte in name {
-        if is_escaped(*byte) {
-            return true;
-        }
-    }
-    false
-}
-
-/// Appends the name of a file: in quotes if one of its bytes is escaped, unless a NUL ends it.
-fn put_file(text: &mut Text, name: &[u8], null: bool) {
-    if null || !is_quoted(name) {
-        text.put(name);
-        return;
-    }
-    text.put_byte(b'"');
-    for byte in name {
-        put_escaped(text, *byte);
-    }
-    text.put_byte(b'"');
-}
-
 /// Appends where an entry is, as Git writes it.
 fn put_origin(text: &mut Text, null: bool, place: &Place<'_>) {
     match place.origin {
         Origin::File => {
             text.put(b"file:");
-            put_file(text, place.file, null);
+            if null {
+                // a NUL ends it
+                text.put(place.file);
+            } else {
+                put_name(text, place.file);
+            }
         }
         Origin::Input => text.put(b"standard input:"),
         Origin::Command => text.put(b"command line:"),

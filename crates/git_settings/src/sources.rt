@@ -41,10 +41,7 @@ const INPUT: &[u8] = b"standard input";
 
 /// Adds a text.
 fn add<'t>(sources: &mut Vec<Source<'t>>, source: Source<'t>) -> Result<(), AllocError> {
-    match sources.push(source) {
-        Ok(()) => Ok(()),
-        Err(_) => Err(AllocError),
-    }
+    Ok(sources.push(source)?)
 }
 
 /// The text of a file, or of standard input.
@@ -264,14 +261,9 @@ fn open_here<'t>(
         None => open_all(&mut opened, &files, commands)?,
     }
     if may_include(&opened, request) {
-        seek(&mut opened)?;
+        seek_urls(&opened.disk, &mut opened.surroundings, &opened.sources)?;
     }
     Ok(Some(opened))
-}
-
-/// Finds the URLs of remotes if conditions ask about them.
-fn seek<'t>(opened: &mut Opened<'t>) -> Result<(), HereError<'t>> {
-    seek_urls(&opened.disk, &mut opened.surroundings, &opened.sources)
 }
 
 /// The texts of a request, after which these settings of the command line come, or `None` if there are none,
