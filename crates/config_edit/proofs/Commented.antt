@@ -32,17 +32,20 @@ use Rattle.config_file.proofs.OneValue.{before_backslash}
 use Rattle.config_file.proofs.OneRun.{run_same}
 use Rattle.config_file.proofs.LineEnds.{all_more}
 
+-- the first bytes and the rests of two texts that are the same
+uncons : {b c : ℕ} {more rest : List ℕ} → b ∷ more ≡ c ∷ rest → (b ≡ c) × (more ≡ rest)
+uncons e = ((cc), (cc))
+
 -- a text that is cut at two places
 cut : (a b c d : List ℕ) → a ++ b ≡ c ++ d
     → ((m : List ℕ) × (c ≡ a ++ m) × (b ≡ m ++ d)) ⊎ ((m : List ℕ) × (a ≡ c ++ m) × (d ≡ m ++ b))
 cut [] b c d e = inl (c, refl, e)
 cut (x ∷ a) b [] d e = inr (x ∷ a, refl, sym e)
 cut (x ∷ a) b (y ∷ c) d e =
-    let same : x ≡ y = cc in
-    let more : a ++ b ≡ c ++ d = cc in
+    let (same, more) = uncons e in
     elim (cut a b c d more) [
-      | inl (m, front, back) ↦ inl (m, ap (λ f. y ∷ f) front ∙ ap (λ z. z ∷ (a ++ m)) (sym same), back)
-      | inr (m, front, back) ↦ inr (m, ap (λ f. x ∷ f) front ∙ ap (λ z. z ∷ (c ++ m)) same, back)
+      | inl (m, front, back) ↦ inl (m, cc, back)
+      | inr (m, front, back) ↦ inr (m, cc, back)
     ]
 
 -- blanks do not hold a byte that is none
@@ -59,11 +62,11 @@ nothing_there b more e = cc
 no_blank_left : (more : List ℕ) (x : ℕ) (c m : List ℕ) → more ++ x ∷ [] ≡ c ++ m → AreBlank m
     → is_blank x ≡ false → m ≡ []
 no_blank_left more x [] m e all other =
-    absurd (true≢false (sym (last_of_blanks more x (subst AreBlank (sym e) all)) ∙ other))
+    absurd (true≢false (sym (last_of_blanks more x (rw (← e) at all)) ∙ other))
 no_blank_left [] x (z ∷ c) m e all other =
-    let left : [] ≡ c ++ m = cc in nothing_behind c m left
+    nothing_behind c m (uncons e).1
 no_blank_left (w ∷ more) x (z ∷ c) m e all other =
-    let left : more ++ x ∷ [] ≡ c ++ m = cc in no_blank_left more x c m left all other
+    no_blank_left more x c m (uncons e).1 all other
 
 -- the blanks at the end of a text stay behind a byte that is none
 trail_within : (xs ys core blanks more : List ℕ) (x : ℕ) → xs ≡ more ++ x ∷ [] → is_blank x ≡ false
@@ -91,102 +94,63 @@ no_plain b is plain =
     true≢false (sym inner.0 ∙ ap not is)
 
 no_escape : (e k : ℕ) → is_blank e ≡ true → escape e ≡ Some k → ⊥
-no_escape e k is letter =
-    elim (cases_Bool (e == 32)) [
-      | inl at ↦ let same : e ≡ 32 = eqb-true e 32 at in
-          let none : escape 32 ≡ Some k = subst (λ x. escape x ≡ Some k) same letter in cc
-      | inr off ↦ elim (cases_Bool (e == 9)) [
-        | inl at ↦ let same : e ≡ 9 = eqb-true e 9 at in
-            let none : escape 9 ≡ Some k = subst (λ x. escape x ≡ Some k) same letter in cc
-        | inr also ↦ let same : e ≡ 13 = grind (arith, nat_tests) in
-            let none : escape 13 ≡ Some k = subst (λ x. escape x ≡ Some k) same letter in cc
-      ]
-    ]
+no_escape e k is letter = grind (arith, nat_tests)
 
-in_quotes : {w : ℕ → ℕ} {so_far held raw text : List ℕ} {ending : Ending} → Spells w true so_far held raw text ending
-    → AreBlank raw → ending ≡ outside → ⊥
-in_quotes value.ends_inside all e = inside_is_not_outside e
-in_quotes (value.quote {b = b} {raw = raw} is s) all e = no_blank b 34 (first_blank b raw all) is refl
-in_quotes (value.escaped {b = b} {e = l} {raw = raw} is letter s) all e = no_blank b 92 (first_blank b (l ∷ raw) all) is refl
-in_quotes (value.continued {b = b} {e = l} {raw = raw} is line s) all e = no_blank b 92 (first_blank b (l ∷ raw) all) is refl
-in_quotes (value.continued_after_return {b = b} {e = l} {f = m} {raw = raw} is return line s) all e =
-    no_blank b 92 (first_blank b (l ∷ m ∷ raw) all) is refl
-in_quotes (value.plain {b = b} {raw = raw} is s) all e = in_quotes s (other_blanks b raw all) e
-
-blanks_alone : {w : ℕ → ℕ} {so_far held raw text : List ℕ} {ending : Ending} → Spells w false so_far held raw text ending
-    → AreBlank raw → ending ≡ outside → text ≡ so_far
-blanks_alone value.ends_outside all e = refl
-blanks_alone (value.ends_at_backslash is) all e = absurd (backslash_is_not_outside e)
-blanks_alone (value.quote {b = b} {raw = raw} is s) all e = absurd (no_blank b 34 (first_blank b raw all) is refl)
-blanks_alone (value.escaped {b = b} {e = l} {raw = raw} is letter s) all e =
+nothing_spelled : {w : ℕ → ℕ} {q : Bool} {so_far held raw text : List ℕ} {ending : Ending} → Spells w q so_far held raw text ending
+    → AreBlank raw → ending ≡ outside → (q ≡ false) × (text ≡ so_far)
+nothing_spelled value.ends_outside all e = (refl, refl)
+nothing_spelled value.ends_inside all e = absurd (inside_is_not_outside e)
+nothing_spelled (value.ends_at_backslash is) all e = absurd (backslash_is_not_outside e)
+nothing_spelled (value.quote {b = b} {raw = raw} is s) all e = absurd (no_blank b 34 (first_blank b raw all) is refl)
+nothing_spelled (value.escaped {b = b} {e = l} {raw = raw} is letter s) all e =
     absurd (no_blank b 92 (first_blank b (l ∷ raw) all) is refl)
-blanks_alone (value.continued {b = b} {e = l} {raw = raw} is line s) all e =
+nothing_spelled (value.continued {b = b} {e = l} {raw = raw} is line s) all e =
     absurd (no_blank b 92 (first_blank b (l ∷ raw) all) is refl)
-blanks_alone (value.continued_after_return {b = b} {e = l} {f = m} {raw = raw} is return line s) all e =
+nothing_spelled (value.continued_after_return {b = b} {e = l} {f = m} {raw = raw} is return line s) all e =
     absurd (no_blank b 92 (first_blank b (l ∷ m ∷ raw) all) is refl)
-blanks_alone (value.blank {b = b} {raw = raw} is s) all e = blanks_alone s (other_blanks b raw all) e
-blanks_alone (value.plain {b = b} {raw = raw} is s) all e = absurd (no_plain b (first_blank b raw all) is)
-
-nothing_left : {w : ℕ → ℕ} (q : Bool) {so_far held raw text : List ℕ} {ending : Ending} → Spells w q so_far held raw text ending
-    → AreBlank raw → ending ≡ outside → Spells w q so_far held [] text outside
-nothing_left true s all e = absurd (in_quotes s all e)
-nothing_left {w = w} false {so_far = so_far} {held = held} s all e =
-    subst (λ t. Spells w false so_far held [] t outside) (sym (blanks_alone s all e)) value.ends_outside
+nothing_spelled (value.blank {b = b} {raw = raw} is s) all e = nothing_spelled s (other_blanks b raw all) e
+nothing_spelled (value.plain {b = b} {raw = raw} is s) all e =
+    absurd (no_plain b (first_blank b raw all) (rw (nothing_spelled s (other_blanks b raw all) e).0 at is))
 
 trimmed : {w : ℕ → ℕ} {q : Bool} {so_far held raw text : List ℕ} {ending : Ending} (core blanks : List ℕ)
     → AreBlank blanks → ending ≡ outside → raw ≡ core ++ blanks → Spells w q so_far held raw text ending
     → Spells w q so_far held core text outside
-trimmed {q = q} [] blanks all e joined s = nothing_left q s (subst AreBlank (sym joined) all) e
+trimmed [] blanks all e joined s =
+    let (q_is, text_is) = nothing_spelled s (rw joined all) e in
+    rw (q_is, text_is) value.ends_outside
 trimmed (c ∷ core) blanks all e joined value.ends_outside = cc
 trimmed (c ∷ core) blanks all e joined value.ends_inside = absurd (inside_is_not_outside e)
 trimmed (c ∷ core) blanks all e joined (value.ends_at_backslash is) = absurd (backslash_is_not_outside e)
-trimmed {w = w} {q = q} {so_far = so_far} {held = held} {text = text} (c ∷ core) blanks all e joined (value.quote {b = b} {raw = raw} is s) =
-    let same : b ≡ c = cc in
-    let left : raw ≡ core ++ blanks = cc in
-    subst (λ x. Spells w q so_far held (x ∷ core) text outside) same (value.quote is (trimmed core blanks all e left s))
-trimmed {w = w} {q = q} {so_far = so_far} {held = held} {text = text} (c ∷ core) blanks all e joined (value.blank {b = b} {raw = raw} is s) =
-    let same : b ≡ c = cc in
-    let left : raw ≡ core ++ blanks = cc in
-    subst (λ x. Spells w false so_far held (x ∷ core) text outside) same (value.blank is (trimmed core blanks all e left s))
-trimmed {w = w} {q = q} {so_far = so_far} {held = held} {text = text} (c ∷ core) blanks all e joined (value.plain {b = b} {raw = raw} is s) =
-    let same : b ≡ c = cc in
-    let left : raw ≡ core ++ blanks = cc in
-    subst (λ x. Spells w q so_far held (x ∷ core) text outside) same (value.plain is (trimmed core blanks all e left s))
+trimmed (c ∷ core) blanks all e joined (value.quote is s) =
+    let (same, left) = uncons joined in
+    rw (← same) (value.quote is (trimmed core blanks all e left s))
+trimmed (c ∷ core) blanks all e joined (value.blank is s) =
+    let (same, left) = uncons joined in
+    rw (← same) (value.blank is (trimmed core blanks all e left s))
+trimmed (c ∷ core) blanks all e joined (value.plain is s) =
+    let (same, left) = uncons joined in
+    rw (← same) (value.plain is (trimmed core blanks all e left s))
 trimmed (c ∷ []) blanks all e joined (value.escaped {e = l} {c = k} {raw = raw} is letter s) =
-    let left : l ∷ raw ≡ blanks = cc in
-    absurd (no_escape l k (first_blank l raw (subst AreBlank (sym left) all)) letter)
-trimmed {w = w} {q = q} {so_far = so_far} {held = held} {text = text} (c ∷ d ∷ core) blanks all e joined (value.escaped {b = b} {e = l} {raw = raw} is letter s) =
-    let same : b ≡ c = cc in
-    let also : l ≡ d = cc in
-    let left : raw ≡ core ++ blanks = cc in
-    subst (λ x. Spells w q so_far held (x ∷ d ∷ core) text outside) same
-    (subst (λ y. Spells w q so_far held (b ∷ y ∷ core) text outside) also
-    (value.escaped is letter (trimmed core blanks all e left s)))
+    absurd (no_escape l k (first_blank l raw (rw (← (uncons joined).1) at all)) letter)
+trimmed (c ∷ d ∷ core) blanks all e joined (value.escaped is letter s) =
+    let (same, more) = uncons joined in
+    let (also, left) = uncons more in
+    rw (← same, ← also) (value.escaped is letter (trimmed core blanks all e left s))
 trimmed (c ∷ []) blanks all e joined (value.continued {e = l} {raw = raw} is line s) =
-    let left : l ∷ raw ≡ blanks = cc in
-    absurd (no_blank l 10 (first_blank l raw (subst AreBlank (sym left) all)) line refl)
-trimmed {w = w} {q = q} {so_far = so_far} {held = held} {text = text} (c ∷ d ∷ core) blanks all e joined (value.continued {b = b} {e = l} {raw = raw} is line s) =
-    let same : b ≡ c = cc in
-    let also : l ≡ d = cc in
-    let left : raw ≡ core ++ blanks = cc in
-    subst (λ x. Spells w q so_far held (x ∷ d ∷ core) text outside) same
-    (subst (λ y. Spells w q so_far held (b ∷ y ∷ core) text outside) also
-    (value.continued is line (trimmed core blanks all e left s)))
+    absurd (no_blank l 10 (first_blank l raw (rw (← (uncons joined).1) at all)) line refl)
+trimmed (c ∷ d ∷ core) blanks all e joined (value.continued is line s) =
+    let (same, more) = uncons joined in
+    let (also, left) = uncons more in
+    rw (← same, ← also) (value.continued is line (trimmed core blanks all e left s))
 trimmed (c ∷ []) blanks all e joined (value.continued_after_return {e = l} {f = m} {raw = raw} is return line s) =
-    let left : l ∷ m ∷ raw ≡ blanks = cc in
-    absurd (no_blank m 10 (first_blank m raw (other_blanks l (m ∷ raw) (subst AreBlank (sym left) all))) line refl)
+    absurd (no_blank m 10 (first_blank m raw (other_blanks l (m ∷ raw) (rw (← (uncons joined).1) at all))) line refl)
 trimmed (c ∷ d ∷ []) blanks all e joined (value.continued_after_return {e = l} {f = m} {raw = raw} is return line s) =
-    let left : m ∷ raw ≡ blanks = cc in
-    absurd (no_blank m 10 (first_blank m raw (subst AreBlank (sym left) all)) line refl)
-trimmed {w = w} {q = q} {so_far = so_far} {held = held} {text = text} (c ∷ d ∷ g ∷ core) blanks all e joined (value.continued_after_return {b = b} {e = l} {f = m} {raw = raw} is return line s) =
-    let same : b ≡ c = cc in
-    let also : l ≡ d = cc in
-    let third : m ≡ g = cc in
-    let left : raw ≡ core ++ blanks = cc in
-    subst (λ x. Spells w q so_far held (x ∷ d ∷ g ∷ core) text outside) same
-    (subst (λ y. Spells w q so_far held (b ∷ y ∷ g ∷ core) text outside) also
-    (subst (λ z. Spells w q so_far held (b ∷ l ∷ z ∷ core) text outside) third
-    (value.continued_after_return is return line (trimmed core blanks all e left s))))
+    absurd (no_blank m 10 (first_blank m raw (rw (← (uncons (uncons joined).1).1) at all)) line refl)
+trimmed (c ∷ d ∷ g ∷ core) blanks all e joined (value.continued_after_return is return line s) =
+    let (same, more) = uncons joined in
+    let (also, others) = uncons more in
+    let (third, left) = uncons others in
+    rw (← same, ← also, ← third) (value.continued_after_return is return line (trimmed core blanks all e left s))
 
 -- what is written
 space_is_blank : (b : ℕ) → is_space b ≡ true → is_blank b ≡ true
@@ -220,14 +184,12 @@ front_of_plain {blanks = blanks} {rest = rest} run without = spec.plain (λ othe
 
 pub front_of_signed : {comment blanks rest after : List ℕ} → Run is_space comment blanks rest → rest ≡ 35 ∷ after → blanks ≡ []
     → WritesComment comment (32 ∷ comment)
-front_of_signed {rest = rest} run sign none =
-    subst (λ c. WritesComment c (32 ∷ c)) (sym (run.joined ∙ ap (λ b. b ++ rest) none ∙ sign)) spec.signed
+front_of_signed run sign none = rw (run.joined, none, sign) spec.signed
 
 pub front_of_spaced : {comment blanks rest after : List ℕ} → Run is_space comment blanks rest → rest ≡ 35 ∷ after → blanks ≢ []
     → WritesComment comment comment
 front_of_spaced {blanks = []} run sign some = absurd (some refl)
-front_of_spaced {blanks = b ∷ blanks} {after = after} run sign some =
-    subst (λ c. WritesComment c c) (sym (run.joined ∙ ap (λ r. (b ∷ blanks) ++ r) sign)) (spec.spaced b blanks after run.pass)
+front_of_spaced {blanks = b ∷ blanks} {after = after} run sign some = rw (run.joined, sign) (spec.spaced b blanks after run.pass)
 
 -- the line end of an entry is that of its piece
 letter_no_feed : (b : ℕ) → is_ascii_alphabetic b ≡ true → b ≡ 10 → ⊥
@@ -252,9 +214,9 @@ end_without_blanks blanks gone rest joined letter some (spec.feed other) =
 end_without_blanks blanks gone rest joined letter some (spec.return_feed front) =
     elim (cut front (13 ∷ 10 ∷ []) blanks gone joined) [
       | inl (m, blanks_is, end_is) ↦
-          subst (λ g. IsEndOfLine g true (13 ∷ 10 ∷ [])) (sym (letter_ends m gone rest letter (some refl) end_is)) (spec.return_feed [])
+          rw (letter_ends m gone rest letter (some refl) end_is) (spec.return_feed [])
       | inr (m, front_is, gone_is) ↦
-          subst (λ g. IsEndOfLine g true (13 ∷ 10 ∷ [])) (sym gone_is) (spec.return_feed m)
+          rw gone_is (spec.return_feed m)
     ]
 
 line_is_some : {tail rest : List ℕ} {is_line : Bool} (front : List ℕ) → IsTail tail rest is_line → is_line ≡ true → front ++ tail ≢ []
@@ -302,8 +264,7 @@ named_takes {key = key} {at = at} {was = was} {lines = lines} (Some name) betwee
     let same : more ≡ between ++ raw =
     append_cancel_left key more (between ++ raw)
     (sym (append_cancel_right (key ++ (between ++ raw)) (key ++ more) at text_is)) in
-    let moved = subst (λ m. TakesEntry ((name ++ m) ++ at) name was lines at) same now in
-    (subst BeginsWithLetter (sym (append_assoc name (between ++ raw) at)) (begins_named name ((between ++ raw) ++ at) is), moved)
+    (rw append_assoc (begins_named name ((between ++ raw) ++ at) is), rw same at now)
 
 -- what the value is before a comment
 record Before (value between key : List ℕ) (was : Option (List ℕ)) (blanks core_all front bytes feed written_blanks : List ℕ) : Type 0 where
@@ -323,11 +284,8 @@ data Ends (value raw bytes feed : List ℕ) : Type 0 where
   as_open : SpellsValue bytes value at_backslash → bytes ≡ raw → feed ≡ 10 ∷ [] → Ends value raw bytes feed
 
 feeds_of : {value raw bytes feed : List ℕ} → Ends value raw bytes feed → FeedsComment (Some raw) bytes feed
-feeds_of {raw = raw} {bytes = bytes} (as_closed spells none) = subst (λ f. FeedsComment (Some raw) bytes f) (sym none) (spec.closed spells)
-feeds_of {value = value} {raw = raw} {bytes = bytes} {feed = feed} (as_open spells same one) =
-    subst (λ f. FeedsComment (Some raw) bytes f) (sym one)
-    (subst (λ b. FeedsComment (Some raw) b (10 ∷ [])) (sym same)
-    (spec.open_value (subst (λ b. SpellsValue b value at_backslash) same spells)))
+feeds_of (as_closed spells none) = rw none (spec.closed spells)
+feeds_of (as_open spells same one) = rw (one, same) (spec.open_value (rw same at spells))
 
 spelled_before : {value raw bytes feed : List ℕ} (core blanks written : List ℕ) → Ends value raw bytes feed → bytes ≡ core ++ blanks
     → AreBlank blanks → AreBlank written → SpellsValue (core ++ (feed ++ written)) value outside
@@ -338,10 +296,7 @@ spelled_before {value = value} {bytes = bytes} core blanks written (as_open spel
     let nothing : blanks ≡ [] = no_blank_left front 92 core blanks (sym ends ∙ joined) all refl in
     let core_is : bytes ≡ core = joined ∙ ap (λ b. core ++ b) nothing ∙ append-nil core in
     let over : SpellsValue (bytes ++ 10 ∷ []) value outside = goes_on_over (10 ∷ []) [] (inl refl) (inl refl) refl spells in
-    let behind : SpellsValue ((bytes ++ 10 ∷ []) ++ written) value outside = spells_before written also over in
-    let text_is : (bytes ++ 10 ∷ []) ++ written ≡ core ++ 10 ∷ written =
-    append_assoc bytes (10 ∷ []) written ∙ ap (λ c. c ++ 10 ∷ written) core_is in
-    rw one (subst (λ t. SpellsValue t value outside) text_is behind)
+    rw (one, ← core_is) (simp append_assoc at (spells_before written also over))
 
 before_valued : {value raw at key between core_all blanks front bytes feed : List ℕ} {lines : ℕ} (written : List ℕ)
     → BeginsWithLetter ((key ++ (between ++ raw)) ++ at) → TakesEntry ((key ++ (between ++ raw)) ++ at) key (Some raw) lines at
@@ -373,8 +328,8 @@ before_valued {value = value} {raw = raw} {key = key} {between = between} {core_
       spells = spells;
       takes = λ at end.
           let (now, letter) = h.holds raw_now value at spells end in (
-            subst (λ t. TakesEntry (t ++ at) key (Some raw_now) (line_feeds raw_now) at) text_is now,
-            subst (λ t. BeginsWithLetter (t ++ at)) text_is letter,
+            rw text_is at now,
+            rw text_is at letter,
           );
     }
 
@@ -389,7 +344,7 @@ before_alone {value = value} {key = key} {between = between} {core_all = core_al
     let joined : core_all ++ blanks ≡ xs ++ 32 ∷ spelling = whole ∙ simp append_assoc in
     let (inner, inner_are, core_is) = trail_within xs (32 ∷ spelling) core_all blanks more 61 refl refl joined all in
     let spelled : SpellsValue (32 ∷ spelling) value outside =
-    subst (λ t. SpellsValue (32 ∷ t) value outside) (append-nil spelling) (spells_between (32 ∷ []) [] refl refl s.0.0) in
+    rw append-nil at (spells_between (32 ∷ []) [] refl refl s.0.0) in
     let raw_now = inner ++ written in
     let spells : SpellsValue raw_now value outside = spells_before written also (trimmed inner blanks all refl inner_are spelled) in
     let text_is : (at : List ℕ) → ((key ++ (between ++ [])) ++ gap) ++ 61 ∷ (raw_now ++ at)
@@ -399,13 +354,13 @@ before_alone {value = value} {key = key} {between = between} {core_all = core_al
       core = gap ++ 61 ∷ inner;
       bytes_are = ap (λ i. gap ++ 61 ∷ i) inner_are ∙ sym (append_assoc gap (61 ∷ inner) blanks);
       core_is = core_is ∙ simp append_assoc;
-      feeds = subst (λ f. FeedsComment None (gap ++ 61 ∷ 32 ∷ spelling) f) (sym none) spec.behind_key;
+      feeds = rw none spec.behind_key;
       raw = raw_now;
       spells = spells;
       takes = λ at end.
           let (now, letter) = with_value (key ++ (between ++ [])) gap raw_now value {rest = at} refl refl begins takes is_gap spells end in (
-            subst (λ t. TakesEntry t key (Some raw_now) (line_feeds raw_now) at) (text_is at) now,
-            subst BeginsWithLetter (text_is at) letter,
+            rw (text_is at) at now,
+            rw (text_is at) at letter,
           );
     }
 
@@ -414,10 +369,9 @@ puts_spells : {value raw bytes : List ℕ} → PutsValue value (Some raw) bytes 
 puts_spells (spec.in_place lead trail before core after s) = spells_between lead trail before after s.0.0
 puts_spells {value = value} (spec.in_blanks {gap = gap} {spelling = spelling} {later = later} lead trail all is_gap s also) =
     let (before, after) = parts_blank lead trail all in
-    let whole =
-    spells_between (lead ++ gap) (later ++ trail) (both_blank lead gap before (gap_blank gap is_gap))
-    (both_blank later trail (gap_blank later also) after) s.0.0 in
-    subst (λ t. SpellsValue t value outside) (simp append_assoc) whole
+    simp append_assoc (simp append_assoc at
+    (spells_between (lead ++ gap) (later ++ trail) (both_blank lead gap before (gap_blank gap is_gap))
+    (both_blank later trail (gap_blank later also) after) s.0.0))
 
 -- whether a line end comes before the comment
 abbrev IsFed : EntryParts → List ℕ → List ℕ → Type 0
@@ -427,24 +381,22 @@ IsFed parts value feed = (IsOpen parts × HasValue (value_of parts.value) value 
 ends_of : {value raw bytes feed : List ℕ} (parts : EntryParts) → value_of parts.value ≡ Some raw
     → ChangesValueTo value (Some raw) bytes → (HasValue (Some raw) value → HasHow parts value)
     → IsFed parts value feed → Ends value raw bytes feed
-ends_of {value = value} {raw = raw} {bytes = bytes} parts held (inr (other, puts)) how (inl (opened, has, one)) =
-    absurd (other (subst (λ v. HasValue v value) held has))
-ends_of {value = value} {raw = raw} {bytes = bytes} parts held (inr (other, puts)) how (inr (closed, none)) =
-    as_closed (puts_spells puts) none
-ends_of {value = value} {raw = raw} {bytes = bytes} {feed = feed} parts held (inl (has, same)) how fed =
+ends_of parts held (inr (other, puts)) how (inl (opened, has, one)) = absurd (other (rw held at has))
+ends_of parts held (inr (other, puts)) how (inr (closed, none)) = as_closed (puts_spells puts) none
+ends_of {raw = raw} {bytes = bytes} parts held (inl (has, same)) how fed =
     let (raw_too, held_too, ended) = how has in
     let raw_is : raw_too ≡ bytes = some_same (sym held_too ∙ held) ∙ sym same in
     elim ended [
       | inl (spells, lines_are) ↦ elim fed [
         | inl (opened, also, one) ↦
             absurd (opened.2 (ap line_feeds (some_same (sym opened.1 ∙ held_too)) ∙ sym lines_are))
-        | inr (closed, none) ↦ as_closed (subst (λ r. SpellsValue r value outside) raw_is spells) none
+        | inr (closed, none) ↦ as_closed (rw raw_is at spells) none
       ]
       | inr (spells, lines_are) ↦ elim fed [
-        | inl (opened, also, one) ↦ as_open (subst (λ r. SpellsValue r value at_backslash) raw_is spells) same one
+        | inl (opened, also, one) ↦ as_open (rw raw_is at spells) same one
         | inr (closed, none) ↦
             let differs : line_feeds raw_too ≢ parts.lines = λ e. omega arith in
-            absurd (closed ((raw_too, held_too, differs), subst (λ v. HasValue v value) (sym held) has))
+            absurd (closed ((raw_too, held_too, differs), rw held has))
       ]
     ]
 
@@ -458,7 +410,7 @@ before_of : {value at key between core_all blanks front bytes feed : List ℕ} {
 before_of parts None written held begins takes whole all also (inl (has, same)) how feed_is = absurd has
 before_of {value = value} parts None written held begins takes whole all also (inr (other, puts)) how feed_is =
     before_alone written begins takes whole all also puts (elim feed_is [
-      | inl (opened, has, one) ↦ absurd (other (subst (λ v. HasValue v value) held has))
+      | inl (opened, has, one) ↦ absurd (other (rw held at has))
       | inr (closed, none) ↦ none
     ])
 before_of parts (Some raw) written held begins takes whole all also valued how feed_is =
@@ -507,9 +459,8 @@ changed_commented {change = change} {parts = parts} {piece = piece} {line = line
     } in
     let old = parts.key.now ++ (s.between ++ value_bytes was) in
     let gone = old ++ s.tail in
-    let is_tail : IsTail s.tail rest piece.is_line =
-    subst (λ t. IsTail t rest piece.is_line) (sym (tail_cut e s.tail s.left)) e.is_tail in
-    let letter : BeginsWithLetter (gone ++ rest) = subst BeginsWithLetter (sym (append_assoc old s.tail rest)) s.begins in
+    let is_tail : IsTail s.tail rest piece.is_line = rw (tail_cut e s.tail s.left) e.is_tail in
+    let letter : BeginsWithLetter (gone ++ rest) = rw (append_assoc old s.tail rest) s.begins in
     let puts : PutsComment comment was gone s.bytes s.tail rest after =
     record {
       core = b.core;
@@ -536,7 +487,7 @@ changed_commented {change = change} {parts = parts} {piece = piece} {line = line
       tail = s.tail;
       after = after;
       begins = letter;
-      takes = subst (λ t. TakesEntry t parts.key.now was s.lines (s.tail ++ rest)) (sym (append_assoc old s.tail rest)) s.takes;
+      takes = rw (append_assoc old s.tail rest) s.takes;
       gone_is = refl;
       put_is = refl;
       is_valued = rw value_is s.is_valued;
@@ -559,7 +510,7 @@ changed_commented {change = change} {parts = parts} {piece = piece} {line = line
 pub writable_comment : (given also : Option (List ℕ)) (value comment : List ℕ) → given ≡ Some value → also ≡ Some comment
     → IsWritableComment given also → list_all is_comment_byte comment ≡ true
 writable_comment given also value comment e f is =
-    subst (λ c. IsWritableComment (Some value) c) f (subst (λ v. IsWritableComment v also) e is)
+    rw (e, f) at is
 
 -- a comment without a line end
 pub run_is_all : {comment front rest : List ℕ} {empty : Bool} → Run is_comment_byte comment front rest

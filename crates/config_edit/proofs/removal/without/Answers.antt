@@ -8,7 +8,7 @@ use Rattle.config_edit.specs.Edit.{IsOf, IsPlaceOf}
 use Rattle.config_edit.specs.Reading.{AreLeft, Losing, IsEntryHeld, contents_in, content_of, one_more, section_after}
 use Rattle.config_edit.proofs.Replaced.{no_entry_held, no_header_after}
 use Rattle.config_edit.proofs.Removed.{losing_begins, losing_header, losing_keeps, losing_loses, losing_ends}
-use Rattle.config_edit.proofs.Removed.{entry_no_header, nothing_no_header, nothing_in}
+use Rattle.config_edit.proofs.Removed.{nothing_in}
 use Rattle.config_edit.proofs.AtPlaces.{all_left, left_after}
 use Rattle.config_edit.proofs.removal.without.Goals as goal
 use Rattle.config_edit.proofs.removal.without.Goals.{in-Header+in_ok-finish-in-Header+in_ok-begin-in-Header}
@@ -25,8 +25,7 @@ pieces-init c =
     let key = key_of c.args.key.now in
     let text = c.args.text.now in
     let places = option_copied c.args.places in (
-      subst (λ n. Losing key places text text n None g.result count.None 0) (sym empty)
-          (losing_begins key places text g.result g.ensures.head g.ensures.body g.ensures.in_head g.ensures.has_lost g.ensures.is_kept),
+      rw empty (losing_begins key places text g.result g.ensures.head g.ensures.body g.ensures.in_head g.ensures.has_lost g.ensures.is_kept),
       all_left places 0,
       omega arith,
     )
@@ -50,14 +49,9 @@ pieces-preserved c =
       | in-Header+in_ok-finish-in-Header+in_ok-begin-in-Header w ↦
           let (put, pushed, done) = w.in_ok-finish-in-Header.ensures in
           let (head, body, in_head, has_lost, kept) = w.in_ok-begin-in-Header.ensures in
-          let step =
-          losing_header w.begin.new.self piece losing is shorter w.in-Header.header w.in-Header.is done head body in_head has_lost in
-          let after : section_after piece.held section ≡ option_map section_of m.section =
-          ap (λ h. section_after h section) w.in-Header.is ∙ ap (λ s. option_map section_of s)
-          (sym w.section-is) in
           let new_is : m.new.items ≡ p.new.items ++ put = ap (λ n. n.items) w.new-is ∙ pushed in
-          rw (new_is, w.group-is, w.count-is, w.left-is, w.index-is) (
-            subst (λ s. Losing key places text rest (p.new.items ++ put) s w.begin.new.self p.count p.index) after step,
+          rw (new_is, w.group-is, w.count-is, w.left-is, w.index-is, w.section-is) (
+            losing_header w.begin.new.self piece losing is shorter w.in-Header.header w.in-Header.is done head body in_head has_lost,
             left,
             omega arith,
           )
@@ -67,14 +61,9 @@ pieces-preserved c =
           (w.is_of.ensures losing.past.listable).0 w.if-is_of.true in
           let at : IsPlaceOf places p.index =
           (left p.index (omega arith)).1 (w.at_place-is_place.ensures.here.0 w.if-is_place.true) in
-          let step =
-          losing_loses w.lose.new.self piece w.in-Entry.parts end losing is shorter w.in-Entry.is of at is_end pushed off lost kept in
-          let after : section_after piece.held section ≡ option_map section_of m.section =
-          ap (λ h. section_after h section) w.in-Entry.is ∙ ap (λ s. option_map section_of s)
-          (sym w.section-is) in
           let count_is : m.count ≡ one_more p.count = w.count-is ∙ w.more-count.ensures in
-          rw (w.new-is, w.group-is, count_is, w.left-is, w.index-is) (
-            subst (λ s. Losing key places text rest p.new.items s w.lose.new.self (one_more p.count) (p.index + 1)) after step,
+          rw (w.new-is, w.group-is, count_is, w.left-is, w.index-is, w.section-is) (
+            losing_loses w.lose.new.self piece w.in-Entry.parts end losing is shorter w.in-Entry.is of at is_end pushed off lost kept,
             left_after places (option_copied p.left) (option_copied w.at_place-is_place.result.1) p.index left w.at_place-is_place.ensures.left,
             omega arith,
           )
@@ -90,14 +79,9 @@ pieces-preserved c =
           ] in
           let one : p.index + 1 ≡ p.index + length (contents_in piece.held section) =
           sym (ap (λ h. p.index + length (contents_in h section)) w.in-Entry.is) in
-          let step =
-          losing_keeps w.keep.new.self piece losing is shorter other one
-          (entry_no_header w.in-Entry.is) pushed off lost kept in
-          let after : section_after piece.held section ≡ option_map section_of m.section =
-          ap (λ h. section_after h section) w.in-Entry.is ∙ ap (λ s. option_map section_of s)
-          (sym w.section-is) in
-          rw (w.new-is, w.group-is, w.count-is, w.left-is, w.index-is) (
-            subst (λ s. Losing key places text rest p.new.items s w.keep.new.self p.count (p.index + 1)) after step,
+          let same = ap (λ h. section_after h section) w.in-Entry.is in
+          rw (w.new-is, w.group-is, w.count-is, w.left-is, w.index-is, w.section-is) (
+            losing_keeps w.keep.new.self piece losing is shorter other one same pushed off lost kept,
             left_after places (option_copied p.left) (option_copied w.at_place-is_place.result.1) p.index left w.at_place-is_place.ensures.left,
             omega arith,
           )
@@ -105,17 +89,12 @@ pieces-preserved c =
           let (pushed, off, lost, kept) = w.in_ok-keep-in-Nothing.ensures in
           let none : length (contents_in piece.held section) ≡ 0 =
           ap (λ c. length c) (nothing_in section w.in-Nothing.is) in
-          let same : p.index ≡ p.index + length (contents_in piece.held section) = omega arith in
-          let step =
-          losing_keeps w.keep-in-Nothing.new.self piece losing is shorter
-          (λ held. no_entry_held key section piece.held w.in-Nothing.is held.0)
-          same
-          (nothing_no_header w.in-Nothing.is) pushed off lost kept in
-          let after : section_after piece.held section ≡ option_map section_of m.section =
-          no_header_after piece.held section w.in-Nothing.is ∙ ap (λ s. option_map section_of s)
-          (sym w.section-is) in
-          rw (w.new-is, w.group-is, w.count-is, w.left-is, w.index-is) (
-            subst (λ s. Losing key places text rest p.new.items s w.keep-in-Nothing.new.self p.count p.index) after step,
+          let one : p.index ≡ p.index + length (contents_in piece.held section) = omega arith in
+          let other = λ (entry : IsEntryHeld key section piece.held × IsPlaceOf places p.index).
+          no_entry_held key section piece.held w.in-Nothing.is entry.0 in
+          let same = no_header_after piece.held section w.in-Nothing.is in
+          rw (w.new-is, w.group-is, w.count-is, w.left-is, w.index-is, w.section-is) (
+            losing_keeps w.keep-in-Nothing.new.self piece losing is shorter other one same pushed off lost kept,
             left,
             omega arith,
           )

@@ -33,13 +33,12 @@ pieces-preserved-then-is_item c =
       | in_default-held w ↦ rw w.is_inside-is
           (inside_after_other key p.section c.pieces.is_inside piece.held w.in_default-held.not-Header p.inside_is)
     ] in
-    let here : Insertion = record { rest = piece.rest; end = c.of-end.result } in
     let header : (new : code.Section) → piece.held ≡ held.Header new → m.is_header ≡ true =
     λ new e. elim c.match-piece.branch [
       | in-Header w ↦ w.is_header-is
       | in_default-held w ↦ absurd (w.in_default-held.not-Header new e)
     ] in
-    placing_here c.pieces.is_inside c.pieces.after_header m.is_inside m.is_header piece p is c.in-Some.ensures.shorter c.of-end.ensures inside c.if-is_inside.true header here refl refl
+    placing_here c.pieces.is_inside c.pieces.after_header m.is_inside m.is_header piece p is c.in-Some.ensures.shorter c.of-end.ensures inside c.if-is_inside.true header
 
 pub pieces-preserved : goal.pieces-preserved
 pieces-preserved c =
