@@ -207,116 +207,114 @@ contents_renamed {section = section} (held.Entry parts) other (edit.same outside
 contents_renamed (held.Header new) other corresponds renames = (simp append-nil renames, edit.same other)
 contents_renamed h other corresponds renames = (simp append-nil renames, corresponds)
 
-pub renaming_keeps : {from to : Key} {text rest new : List ℕ} {is_found : Bool} (piece : Piece)
-    → Renaming from to text rest new is_found → IsPiece rest piece → length piece.rest.now < length rest
-    → ¬ (IsHeaderHeld from piece.held)
-    → Renaming from to text piece.rest.now (new ++ piece.bytes.now) is_found
-renaming_keeps {from = from} {text = text} {rest = rest} {new = new} piece r is shorter other =
-    let some = some_left rest piece.rest.now shorter in
-    let (renames, corresponds) = contents_renamed piece.held other r.corresponds r.renames in
-    record {
-      front = r.front ++ piece.bytes.now;
-      old_contents = r.old_contents ++ contents_in piece.held r.section;
-      new_contents = r.new_contents ++ contents_in piece.held r.next;
-      section = section_after piece.held r.section;
-      next = section_after piece.held r.next;
-      joined = joined_more text r.front rest piece.bytes.now piece.rest.now r.joined is.joined;
-      passed = passed_join some r.passed
-          (made_passed piece.held piece.blanks.now piece.is_line is.blank is.made r.section);
-      passed_now = passed_join some r.passed_now
-          (made_passed piece.held piece.blanks.now piece.is_line is.blank is.made r.next);
-      renames = renames;
-      corresponds = corresponds;
-      changes = spec.kept piece.bytes.now (becomes_before r.changes is.joined);
-      unfound = λ none.
-          let (nothing, outside) = r.unfound none in
-          let still = still_outside from piece.held r.section other outside in (
-            without_in_both r.old_contents r.old_contents nothing
-                (none_in_piece from piece.held r.section (inl still)),
-            still,
-          );
-    }
-
 header_at : (h : Held) (from : Key) (blanks bytes rest : List ℕ) (is_line : Bool) → IsHeaderHeld from h
     → IsMade h blanks bytes rest is_line
     → (section : Section) × IsHeaderAt section blanks bytes × IsIn from (Some section)
 header_at (held.Header section) from blanks bytes rest is_line is made = (section_of section, made, is)
 header_at h from blanks bytes rest is_line is made = absurd is
 
-pub renaming_changes : {from to : Key} {text rest new : List ℕ} {is_found : Bool} (piece : Piece)
-    (put : List ℕ)
-    → Renaming from to text rest new is_found → IsPiece rest piece
-    → length piece.rest.now < length rest → IsHeaderHeld from piece.held
-    → IsHeader put to.section to.subsection → put ≡ 91 ∷ spelled_section to.section to.subsection
-    → Renaming from to text piece.rest.now ((new ++ piece.blanks.now) ++ put) true
-renaming_changes {from = from} {to = to} {text = text} {rest = rest} {new = new} piece put r is shorter held_header (inner, section_now, put_is, names, header_now) spelled =
-    let some = some_left rest piece.rest.now shorter in
-    let blanks = piece.blanks.now in
-    let left = piece.rest.now in
-    let (section, at, is_in) = header_at piece.held from blanks piece.bytes.now left piece.is_line held_header is.made in
-    let at_now : IsHeaderAt section_now blanks (blanks ++ put) =
-    record { inner = inner; joined = ap (λ x. blanks ++ x) put_is; header = header_now } in
-    let cut : rest ≡ blanks ++ ((91 ∷ at.inner) ++ left) =
-    is.joined ∙ ap (λ b. b ++ left) at.joined ∙ append_assoc blanks (91 ∷ at.inner) left in
-    let place : Comes text r.old_contents r.section ((91 ∷ at.inner) ++ left) =
-    comes_blanks r.front blanks ((91 ∷ at.inner) ++ left) r.joined cut is.blank (passed_holds some r.passed) in
-    let gone : RenamesHeader from to r.old_contents r.section (91 ∷ at.inner) put left =
-    ((at.inner, section, refl, at.header, is_in), ((inner, section_now, put_is, names, header_now), spelled)) in
-    record {
-      front = r.front ++ piece.bytes.now;
-      old_contents = r.old_contents;
-      new_contents = r.new_contents;
-      section = Some section;
-      next = Some section_now;
-      joined = joined_more text r.front rest piece.bytes.now left r.joined is.joined;
-      passed = simp append-nil at (passed_join {more = left} some r.passed (anywhere (header_holds is.blank at r.section)));
-      passed_now = rw (append_assoc new blanks put)
-          (simp append-nil at (passed_join {more = left} some r.passed_now (anywhere (header_holds is.blank at_now r.next))));
-      renames = r.renames;
-      corresponds = edit.renamed is_in names;
-      changes = rw (at.joined, ← append_assoc r.front blanks (91 ∷ at.inner))
-          (spec.changed (spec.kept blanks (becomes_before r.changes cut)) place gone);
-      unfound = λ none. absurd (true≢false none);
-    }
+module _ {from to : Key} {text rest new : List ℕ} {is_found : Bool} (r : Renaming from to text rest new is_found) where
+  pub renaming_keeps : (piece : Piece) → IsPiece rest piece → length piece.rest.now < length rest → ¬ (IsHeaderHeld from piece.held)
+      → Renaming from to text piece.rest.now (new ++ piece.bytes.now) is_found
+  renaming_keeps piece is shorter other =
+      let some = some_left rest piece.rest.now shorter in
+      let (renames, corresponds) = contents_renamed piece.held other r.corresponds r.renames in
+      record {
+        front = r.front ++ piece.bytes.now;
+        old_contents = r.old_contents ++ contents_in piece.held r.section;
+        new_contents = r.new_contents ++ contents_in piece.held r.next;
+        section = section_after piece.held r.section;
+        next = section_after piece.held r.next;
+        joined = joined_more text r.front rest piece.bytes.now piece.rest.now r.joined is.joined;
+        passed = passed_join some r.passed
+            (made_passed piece.held piece.blanks.now piece.is_line is.blank is.made r.section);
+        passed_now = passed_join some r.passed_now
+            (made_passed piece.held piece.blanks.now piece.is_line is.blank is.made r.next);
+        renames = renames;
+        corresponds = corresponds;
+        changes = spec.kept piece.bytes.now (becomes_before r.changes is.joined);
+        unfound = λ none.
+            let (nothing, outside) = r.unfound none in
+            let still = still_outside from piece.held r.section other outside in (
+              without_in_both r.old_contents r.old_contents nothing
+                  (none_in_piece from piece.held r.section (inl still)),
+              still,
+            );
+      }
 
-pub renaming_ends : {from to : Key} {text rest new : List ℕ} {contents : List Content} {is_found : Bool}
-    → Renaming from to text rest new is_found → Ends None text contents → (rest ≡ []) ⊎ (¬ (IsRead rest))
-    → (now : List Content) × Ends None new now × Renames from to contents now × Becomes (Comes text) (RenamesHeader from to) text [] new
-renaming_ends {from = from} {to = to} {text = text} {new = new} r whole left =
-    let (none, text_is, contents_are) = all_passed r.joined r.passed whole left in (
-      r.new_contents,
-      passed_ends none r.passed_now,
-      rw contents_are at r.renames,
-      subst (λ t. Becomes (Comes text) (RenamesHeader from to) t [] new) (sym text_is) (becomes_before r.changes none),
-    )
+  pub renaming_changes : (piece : Piece) (put : List ℕ) → IsPiece rest piece → length piece.rest.now < length rest
+      → IsHeaderHeld from piece.held
+      → IsHeader put to.section to.subsection → put ≡ 91 ∷ spelled_section to.section to.subsection
+      → Renaming from to text piece.rest.now ((new ++ piece.blanks.now) ++ put) true
+  renaming_changes piece put is shorter held_header (inner, section_now, put_is, names, header_now) spelled =
+      let some = some_left rest piece.rest.now shorter in
+      let blanks = piece.blanks.now in
+      let left = piece.rest.now in
+      let (section, at, is_in) = header_at piece.held from blanks piece.bytes.now left piece.is_line held_header is.made in
+      let at_now : IsHeaderAt section_now blanks (blanks ++ put) =
+      record { inner = inner; joined = ap (λ x. blanks ++ x) put_is; header = header_now } in
+      let cut : rest ≡ blanks ++ ((91 ∷ at.inner) ++ left) =
+      is.joined ∙ ap (λ b. b ++ left) at.joined ∙ append_assoc blanks (91 ∷ at.inner) left in
+      let place : Comes text r.old_contents r.section ((91 ∷ at.inner) ++ left) =
+      comes_blanks r.front blanks ((91 ∷ at.inner) ++ left) r.joined cut is.blank (passed_holds some r.passed) in
+      let gone : RenamesHeader from to r.old_contents r.section (91 ∷ at.inner) put left =
+      ((at.inner, section, refl, at.header, is_in), ((inner, section_now, put_is, names, header_now), spelled)) in
+      record {
+        front = r.front ++ piece.bytes.now;
+        old_contents = r.old_contents;
+        new_contents = r.new_contents;
+        section = Some section;
+        next = Some section_now;
+        joined = joined_more text r.front rest piece.bytes.now left r.joined is.joined;
+        passed = simp append-nil at (passed_join {more = left} some r.passed (anywhere (header_holds is.blank at r.section)));
+        passed_now = rw (append_assoc new blanks put)
+            (simp append-nil at (passed_join {more = left} some r.passed_now (anywhere (header_holds is.blank at_now r.next))));
+        renames = r.renames;
+        corresponds = edit.renamed is_in names;
+        changes = rw (at.joined, ← append_assoc r.front blanks (91 ∷ at.inner))
+            (spec.changed (spec.kept blanks (becomes_before r.changes cut)) place gone);
+        unfound = λ none. absurd (true≢false none);
+      }
 
-pub none_renamed : {from to : Key} {text rest new : List ℕ} {contents : List Content} {is_found : Bool}
-    → Renaming from to text rest new is_found → is_found ≡ false → Ends None text contents
-    → (rest ≡ []) ⊎ (¬ (IsRead rest)) → NoneIn from contents
-none_renamed r none whole left =
-    let (rest_is, text_is, contents_are) = all_passed r.joined r.passed whole left in
-    rw contents_are at (r.unfound none).0
+  pub renaming_ends : {contents : List Content} → Ends None text contents → (rest ≡ []) ⊎ (¬ (IsRead rest))
+      → (now : List Content) × Ends None new now × Renames from to contents now × Becomes (Comes text) (RenamesHeader from to) text [] new
+  renaming_ends whole left =
+      let (none, text_is, contents_are) = all_passed r.joined r.passed whole left in (
+        r.new_contents,
+        passed_ends none r.passed_now,
+        rw contents_are at r.renames,
+        subst (λ t. Becomes (Comes text) (RenamesHeader from to) t [] new) (sym text_is) (becomes_before r.changes none),
+      )
+
+  pub none_renamed : {contents : List Content} → is_found ≡ false → Ends None text contents
+      → (rest ≡ []) ⊎ (¬ (IsRead rest)) → NoneIn from contents
+  none_renamed none whole left =
+      let (rest_is, text_is, contents_are) = all_passed r.joined r.passed whole left in
+      rw contents_are at (r.unfound none).0
 
 -- the same text read from another line on has the same entries, on other lines
-pub relined : {section : Option Section} {line : ℕ} {text : List ℕ} {entries : List Entry}
+relined : {section : Option Section} {line : ℕ} {text : List ℕ} {entries : List Entry}
     → Reads section line text entries None → (other : ℕ)
-    → (later : List Entry) × Reads section other text later None × (map content later ≡ map content entries)
-relined file.ends other = ([], file.ends, refl)
+    → (later : List Entry) × (next : Option Section) × (end : ℕ) × Leads section other text later next end []
+    × (map content later ≡ map content entries)
+relined {section = section} file.ends other = ([], section, other, reached.here, refl)
 relined (file.blank is h) other =
-    let (later, reads, same) = relined h other in (later, file.blank is reads, same)
+    let (later, next, end, leads, same) = relined h other in (later, next, end, reached.blank is leads, same)
 relined (file.line_end is h) other =
-    let (later, reads, same) = relined h (other + 1) in (later, file.line_end is reads, same)
+    let (later, next, end, leads, same) = relined h (other + 1) in (later, next, end, reached.line_end is leads, same)
 relined (file.comment is run h) other =
-    let (later, reads, same) = relined h other in (later, file.comment is run reads, same)
+    let (later, next, end, leads, same) = relined h other in (later, next, end, reached.comment is run leads, same)
 relined (file.header is header h) other =
-    let (later, reads, same) = relined h other in (later, file.header is header reads, same)
+    let (later, next, end, leads, same) = relined h other in (later, next, end, reached.header is header leads, same)
 relined (file.entry {section = section} {lines = lines} {key = key} {value = value} letter takes h) other =
-    let (later, reads, same) = relined h (other + lines) in
-    (_, file.entry letter takes reads, ap (λ l. (section, key, value) ∷ l) same)
+    let (later, next, end, leads, same) = relined h (other + lines) in
+    (_, next, end, reached.entry letter takes leads, ap (λ l. (section, key, value) ∷ l) same)
 
 pub reads_end : {text : List ℕ} {entries : List Entry} {line : ℕ} → Reads None line text entries None
     → Ends None text (map content entries)
-reads_end reads = λ other. relined reads other
+reads_end reads = λ other.
+    let (later, next, end, leads, same) = relined reads other in
+    (later, rw append-nil at (compose leads file.ends), same)
 
 begun_ends : {text rest mark body : List ℕ} {line : ℕ} {entries : List Entry} → file.Begins text line rest
     → Reads None line rest entries None → IsSplit text mark body
@@ -375,26 +373,14 @@ pub split_joined : {text mark body : List ℕ} → IsSplit text mark body → te
 split_joined (edit.unmarked none) = refl
 split_joined (edit.marked {text = text} {body = body} is) = mark_is text body is
 
-reads_lead : {section : Option Section} {line : ℕ} {text : List ℕ} {entries : List Entry}
-    → Reads section line text entries None
-    → (next : Option Section) × (end : ℕ) × Leads section line text entries next end []
-reads_lead {section = section} {line = line} file.ends = (section, line, reached.here)
-reads_lead (file.blank is h) = let (next, end, leads) = reads_lead h in (next, end, reached.blank is leads)
-reads_lead (file.line_end is h) = let (next, end, leads) = reads_lead h in (next, end, reached.line_end is leads)
-reads_lead (file.comment is run h) = let (next, end, leads) = reads_lead h in (next, end, reached.comment is run leads)
-reads_lead (file.header is header h) =
-    let (next, end, leads) = reads_lead h in (next, end, reached.header is header leads)
-reads_lead (file.entry letter takes h) =
-    let (next, end, leads) = reads_lead h in (next, end, reached.entry letter takes leads)
-
 pub reaches_behind : {text mark body rest : List ℕ} {contents before : List Content}
     → IsSplit text mark body → Ends None body contents → ComesBehind body before rest → ReachesBehind text before rest
 reaches_behind split ends (inl (section, (front, joined, holds))) = (section, reaches front split ends joined holds)
 reaches_behind {body = body} split ends (inr (none, whole)) =
     let (line, begins) = split_begins split ends in
     let (entries, reads, same) = whole line in
-    let (section, end, leads) = reads_lead reads in
-    (section, reached_from begins (rw (← none) at leads) same)
+    let (later, section, end, leads, also) = relined reads line in
+    (section, reached_from begins (rw (← none) at leads) (also ∙ same))
 
 -- a text with its mark, of whose body stretches change
 pub becomes_marked : {M : List Content → Option Section → List ℕ → List ℕ → List ℕ → Type 0} {text mark body new : List ℕ}

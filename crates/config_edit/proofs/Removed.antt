@@ -162,50 +162,6 @@ header_may_go key places before h header blanks bytes rest is_line e all made is
       alone = λ on. refl;
     }
 
-pub losing_header : {key : Key} {places : Option (List ℕ)} {text rest new put : List ℕ} {section : Option Section} {g : Group}
-    {n : Count} {index : ℕ} (now : Group) (piece : Piece)
-    → Losing key places text rest new section g n index → IsPiece rest piece
-    → length piece.rest.now < length rest → (header : code.Section) → piece.held ≡ held.Header header
-    → IsFinished g put
-    → now.head.items ≡ piece.bytes.now → now.body.items ≡ [] → now.in_head ≡ true → now.has_lost ≡ false
-    → Losing key places text piece.rest.now (new ++ put) (Some (section_of header)) now n index
-losing_header {key = key} {places = places} {rest = rest} {new = new} {put = put} {section = section} now piece r is shorter header e done head_is body_is in_head has_lost =
-    let some = some_left rest piece.rest.now shorter in
-    let bytes = piece.bytes.now in
-    let left = piece.rest.now in
-    let was = r.head_was ++ r.body_was in
-    let (next, passed, changes) =
-    finished r.head_was r.body_was rest r.now_group r.base section r.begins r.group done in
-    let at : IsHeaderAt (section_of header) piece.blanks.now bytes = rw e at is.made in
-    record {
-      front = r.front ++ was;
-      head_was = bytes;
-      body_was = [];
-      before = r.old;
-      at = section;
-      old = r.old;
-      now = r.now ++ r.now_group;
-      now_group = [];
-      base = next;
-      past = simp append-nil (simp (e, append-nil) at (past_more piece r.past is shorter));
-      index_is = r.index_is;
-      new_is = holds_join new put r.new_is (passed_holds some passed);
-      changes = rw (append-nil bytes) (becomes_before (becomes_both r.front new r.changes changes) is.joined);
-      begins = (r.front ++ was, r.past.joined ∙ ap (λ x. (r.front ++ was) ++ x) is.joined, passed_holds some r.past.passed);
-      nothing_read = λ on. refl;
-      group = record {
-        passed = rw (head_is, body_is, append-nil bytes) (anywhere (header_holds is.blank at next));
-        in_head = λ on. (body_is, refl);
-        head_changes = rw head_is (spec.kept bytes spec.none);
-        body_changes = rw body_is spec.none;
-        in_section = λ lost. absurd (true≢false (sym lost ∙ has_lost));
-        empty = λ not_kept. (refl, λ any. rw body_is (anywhere (holds_nothing any)));
-        can_go = λ not_kept is_in. header_may_go key places r.old piece.held header piece.blanks.now bytes left piece.is_line e is.blank is.made is_in now.in_head left;
-      };
-      without = rw (append-nil (r.now ++ r.now_group)) r.without;
-      counted = rw (append-nil (r.now ++ r.now_group)) r.counted;
-    }
-
 -- What a piece does to a section: these bytes become what is put in their place, and these contents are more. If the head
 -- may go before, it may go with the bytes, too.
 record Turns (key : Key) (places : Option (List ℕ)) (before : List Content) (g now : Group) (text bytes put : List ℕ)
@@ -266,7 +222,7 @@ grouped {g = g} {bytes = bytes} head_was body_was group some joined t =
         record {
           passed = rw (head_now, body_now) (rw append_assoc at passed);
           in_head = λ still. absurd (true≢false (sym still ∙ t.off));
-          head_changes = rw head_now (rw append_assoc (rw joined at group.head_changes));
+          head_changes = rw (head_now, append_assoc, ← joined) group.head_changes;
           body_changes = rw body_now
               (becomes_both body_was g.body.items (rw joined at group.body_changes) t.here);
           in_section = t.in_section;
@@ -275,63 +231,10 @@ grouped {g = g} {bytes = bytes} head_was body_was group some joined t =
               let (no_more, also) = t.empty not_kept in
               (rw (none, no_more) refl, λ any. rw body_now (passed_join some (empty any) (also any)));
           can_go = λ not_kept is_in.
-              let head = group.can_go (t.was_empty not_kept) is_in in
-              record {
-                blanks = head.blanks;
-                header = head.header;
-                tail = head.tail;
-                joined = head.joined;
-                are_blank = head.are_blank;
-                is_header = head.is_header;
-                is_tail = rw append_assoc (rw joined at head.is_tail);
-                alone = λ still. absurd (true≢false (sym still ∙ t.off));
-              };
+              rw (t.off, ← off_before, append_assoc, ← joined) (group.can_go (t.was_empty not_kept) is_in);
         },
       )
     ]
-
-losing_turns : {key : Key} {places : Option (List ℕ)} {text rest new put : List ℕ} {section : Option Section} {g now : Group}
-    {n m : Count} {index next : ℕ} (piece : Piece) (more : List Content)
-    → (r : Losing key places text rest new section g n index) → IsPiece rest piece → length piece.rest.now < length rest
-    → next ≡ index + length (contents_in piece.held section) → section_after piece.held section ≡ section
-    → Turns key places r.before g now text piece.bytes.now put more section piece.rest.now
-    → Without key places (r.old ++ contents_in piece.held section) ((r.now ++ r.now_group) ++ more)
-    → Counted key places (r.old ++ contents_in piece.held section) ((r.now ++ r.now_group) ++ more) m
-    → Losing key places text piece.rest.now new section now m next
-losing_turns {key = key} {places = places} {text = text} {rest = rest} {section = section} {m = m} piece more r is shorter next_is same t without counted =
-    let bytes = piece.bytes.now in
-    let left = piece.rest.now in
-    let was = r.head_was ++ r.body_was in
-    let (head_was, body_was, joined, group) =
-    grouped r.head_was r.body_was r.group (some_left rest left shorter) is.joined t in
-    let left_is : was ++ rest ≡ (head_was ++ body_was) ++ left =
-    ap (λ x. was ++ x) is.joined ∙ sym (append_assoc was bytes left) ∙ ap (λ x. x ++ left) joined in
-    let front_is : (r.front ++ was) ++ bytes ≡ r.front ++ (head_was ++ body_was) =
-    append_assoc r.front was bytes ∙ ap (λ x. r.front ++ x) joined in
-    record {
-      front = r.front;
-      head_was = head_was;
-      body_was = body_was;
-      before = r.before;
-      at = r.at;
-      old = r.old ++ contents_in piece.held section;
-      now = r.now;
-      now_group = r.now_group ++ more;
-      base = r.base;
-      past = subst (λ f. IsPast text left f (r.old ++ contents_in piece.held section) section) front_is
-          (rw same at (past_more piece r.past is shorter));
-      index_is = next_is ∙ ap (λ i. i + length (contents_in piece.held section)) r.index_is
-          ∙ sym (length-append r.old (contents_in piece.held section));
-      new_is = r.new_is;
-      changes = becomes_before r.changes left_is;
-      begins = subst (λ x. Comes text r.before r.at x)
-          (sym (append_assoc r.head_was r.body_was rest) ∙ left_is ∙ append_assoc head_was body_was left) r.begins;
-      nothing_read = λ still. absurd (true≢false (sym still ∙ t.off));
-      group = group;
-      without = rw (append_assoc r.now r.now_group more) at without;
-      counted = subst (λ c. Counted key places (r.old ++ contents_in piece.held section) c m)
-          (append_assoc r.now r.now_group more) counted;
-    }
 
 -- a piece that stays
 is_kept_before : (kept blank : Bool) → (kept || not blank) ≡ false → (kept ≡ false) × (blank ≡ true)
@@ -358,36 +261,6 @@ tail_is_lost key places before section bytes blanks rest is_line all (tail, join
     } in
     inr (inl (is_line, whole, none))
 
-pub losing_keeps : {key : Key} {places : Option (List ℕ)} {text rest new : List ℕ} {section : Option Section} {g : Group} {n : Count}
-    {index next : ℕ} (now : Group) (piece : Piece)
-    → Losing key places text rest new section g n index → IsPiece rest piece
-    → length piece.rest.now < length rest → ¬ (IsEntryHeld key section piece.held × IsPlaceOf places index)
-    → next ≡ index + length (contents_in piece.held section)
-    → section_after piece.held section ≡ section → IsPushed g now piece.bytes.now → now.in_head ≡ false → now.has_lost ≡ g.has_lost
-    → now.is_kept ≡ (g.is_kept || not (is_blank_held piece.held))
-    → Losing key places text piece.rest.now new section now n next
-losing_keeps {key = key} {places = places} {section = section} {g = g} {n = n} now piece r is shorter other next_is same pushed off lost_is kept_is =
-    let bytes = piece.bytes.now in
-    let left = piece.rest.now in
-    let stays : Stays key places section piece.held r.old = rw r.index_is at other in
-    let passed = λ (s : Option Section). made_passed piece.held piece.blanks.now piece.is_line is.blank is.made s in
-    let before = λ (not_kept : now.is_kept ≡ false).
-    is_kept_before g.is_kept (is_blank_held piece.held) (sym kept_is ∙ not_kept) in
-    let nothing = λ (not_kept : now.is_kept ≡ false). blank_is_nothing piece.held (before not_kept).1 in
-    losing_turns piece (contents_in piece.held section) r is shorter next_is same (record {
-      pushed = pushed;
-      off = off;
-      here = spec.kept bytes spec.none;
-      passed = rw same at (passed section);
-      in_section = λ lost. r.group.in_section (sym lost_is ∙ lost);
-      was_empty = λ not_kept. (before not_kept).0;
-      empty = λ not_kept. (rw (nothing not_kept) refl, λ any. rw (nothing not_kept) at (passed any));
-      is_tail = λ not_kept is_in on header in_header. tail_is_lost key places r.before header bytes piece.blanks.now left piece.is_line is.blank
-          (rw (nothing not_kept) at is.made);
-    })
-    (without_kept piece.held section r.without stays)
-    (count_kept key n places r.old (r.now ++ r.now_group) piece.held section r.counted stays)
-
 -- an entry that goes
 entry_is_lost : (key : Key) (h : Held) (parts : EntryParts) (section : Option Section) (blanks bytes rest : List ℕ)
     (is_line : Bool) (put : List ℕ)
@@ -397,42 +270,151 @@ entry_is_lost : (key : Key) (h : Held) (parts : EntryParts) (section : Option Se
 entry_is_lost key h parts section blanks bytes rest is_line put e all made is end =
     (parts.key.now, value_of parts.value, parts.lines, parts.rest.now, blanks, is_line, is, all, rw e at made, end)
 
-pub losing_loses : {key : Key} {places : Option (List ℕ)} {text rest new : List ℕ} {section : Option Section} {g : Group} {n : Count}
-    {index : ℕ} (now : Group) (piece : Piece) (parts : EntryParts) (put : List ℕ)
-    → Losing key places text rest new section g n index
-    → IsPiece rest piece → length piece.rest.now < length rest → piece.held ≡ held.Entry parts
-    → IsOf key (content_of section parts) → IsPlaceOf places index
-    → IsEnd put → IsPushed g now put → now.in_head ≡ false → now.has_lost ≡ true → now.is_kept ≡ g.is_kept
-    → Losing key places text piece.rest.now new section now (one_more n) (index + 1)
-losing_loses {key = key} {places = places} {text = text} {rest = rest} {section = section} {n = n} {index = index} now piece parts put r is shorter e is_of is_at is_end pushed off lost_is kept_is =
-    let bytes = piece.bytes.now in
-    let left = piece.rest.now in
-    let x : Content = content_of section parts in
-    let here_is : IsPlaceOf places (length r.old) = rw r.index_is at is_at in
-    let loses = λ (s : Option Section) (end : List ℕ).
-    entry_is_lost key piece.held parts s piece.blanks.now bytes left piece.is_line end e is.blank is.made in
-    let place : Comes text r.old section (bytes ++ left) = (
-      r.front ++ (r.head_was ++ r.body_was),
-      r.past.joined ∙ ap (λ x. (r.front ++ (r.head_was ++ r.body_was)) ++ x) is.joined,
-      passed_holds (some_left rest left shorter) r.past.passed,
-    ) in
-    losing_turns piece [] r is shorter
-    (sym (ap (λ h. index + length (contents_in h section)) e))
-    (ap (λ h. section_after h section) e) (record {
-      pushed = pushed;
-      off = off;
-      here = spec.changed spec.none place (inl (here_is, loses section put is_of is_end));
-      passed = anywhere (end_holds section put is_end);
-      in_section = λ lost. is_of.0;
-      was_empty = λ not_kept. sym kept_is ∙ not_kept;
-      empty = λ not_kept. (refl, λ any. anywhere (end_holds any put is_end));
-      is_tail = λ not_kept is_in on header in_header. inr (inr (
-        subst (λ o. IsPlaceOf places (length o)) (r.nothing_read on) here_is,
-        loses (Some header) [] (in_header, is_of.1) (inl refl),
-      ));
-    })
-    (rw (e, append-nil (r.now ++ r.now_group)) (spec.lost x r.without is_of here_is))
-    (rw (e, append-nil (r.now ++ r.now_group)) (count_more key n places r.old (r.now ++ r.now_group) x r.counted is_of))
+-- one piece more
+module _ {key : Key} {places : Option (List ℕ)} {text rest new : List ℕ} {section : Option Section} {g : Group} {n : Count} {index : ℕ}
+    (r : Losing key places text rest new section g n index) {piece : Piece} (is : IsPiece rest piece)
+    (shorter : length piece.rest.now < length rest) where
+  pub losing_header : {put : List ℕ} (now : Group) (header : code.Section) → piece.held ≡ held.Header header → IsFinished g put
+      → now.head.items ≡ piece.bytes.now → now.body.items ≡ [] → now.in_head ≡ true → now.has_lost ≡ false
+      → Losing key places text piece.rest.now (new ++ put) (Some (section_of header)) now n index
+  losing_header {put = put} now header e done head_is body_is in_head has_lost =
+      let some = some_left rest piece.rest.now shorter in
+      let bytes = piece.bytes.now in
+      let left = piece.rest.now in
+      let was = r.head_was ++ r.body_was in
+      let (next, passed, changes) =
+      finished r.head_was r.body_was rest r.now_group r.base section r.begins r.group done in
+      let at : IsHeaderAt (section_of header) piece.blanks.now bytes = rw e at is.made in
+      record {
+        front = r.front ++ was;
+        head_was = bytes;
+        body_was = [];
+        before = r.old;
+        at = section;
+        old = r.old;
+        now = r.now ++ r.now_group;
+        now_group = [];
+        base = next;
+        past = simp append-nil (simp (e, append-nil) at (past_more piece r.past is shorter));
+        index_is = r.index_is;
+        new_is = holds_join new put r.new_is (passed_holds some passed);
+        changes = rw (append-nil bytes) (becomes_before (becomes_both r.front new r.changes changes) is.joined);
+        begins = (r.front ++ was, r.past.joined ∙ ap (λ x. (r.front ++ was) ++ x) is.joined, passed_holds some r.past.passed);
+        nothing_read = λ on. refl;
+        group = record {
+          passed = rw (head_is, body_is, append-nil bytes) (anywhere (header_holds is.blank at next));
+          in_head = λ on. (body_is, refl);
+          head_changes = rw head_is (spec.kept bytes spec.none);
+          body_changes = rw body_is spec.none;
+          in_section = λ lost. absurd (true≢false (sym lost ∙ has_lost));
+          empty = λ not_kept. (refl, λ any. rw body_is (anywhere (holds_nothing any)));
+          can_go = λ not_kept is_in. header_may_go key places r.old piece.held header piece.blanks.now bytes left piece.is_line e is.blank is.made is_in now.in_head left;
+        };
+        without = rw (append-nil (r.now ++ r.now_group)) r.without;
+        counted = rw (append-nil (r.now ++ r.now_group)) r.counted;
+      }
+
+  losing_turns : {put : List ℕ} {now : Group} {m : Count} {next : ℕ} (more : List Content)
+      → next ≡ index + length (contents_in piece.held section) → section_after piece.held section ≡ section
+      → Turns key places r.before g now text piece.bytes.now put more section piece.rest.now
+      → Without key places (r.old ++ contents_in piece.held section) ((r.now ++ r.now_group) ++ more)
+      → Counted key places (r.old ++ contents_in piece.held section) ((r.now ++ r.now_group) ++ more) m
+      → Losing key places text piece.rest.now new section now m next
+  losing_turns {m = m} more next_is same t without counted =
+      let bytes = piece.bytes.now in
+      let left = piece.rest.now in
+      let was = r.head_was ++ r.body_was in
+      let (head_was, body_was, joined, group) =
+      grouped r.head_was r.body_was r.group (some_left rest left shorter) is.joined t in
+      let left_is : was ++ rest ≡ (head_was ++ body_was) ++ left =
+      ap (λ x. was ++ x) is.joined ∙ sym (append_assoc was bytes left) ∙ ap (λ x. x ++ left) joined in
+      let front_is : (r.front ++ was) ++ bytes ≡ r.front ++ (head_was ++ body_was) =
+      append_assoc r.front was bytes ∙ ap (λ x. r.front ++ x) joined in
+      record {
+        front = r.front;
+        head_was = head_was;
+        body_was = body_was;
+        before = r.before;
+        at = r.at;
+        old = r.old ++ contents_in piece.held section;
+        now = r.now;
+        now_group = r.now_group ++ more;
+        base = r.base;
+        past = subst (λ f. IsPast text left f (r.old ++ contents_in piece.held section) section) front_is
+            (rw same at (past_more piece r.past is shorter));
+        index_is = next_is ∙ ap (λ i. i + length (contents_in piece.held section)) r.index_is
+            ∙ sym (length-append r.old (contents_in piece.held section));
+        new_is = r.new_is;
+        changes = becomes_before r.changes left_is;
+        begins = subst (λ x. Comes text r.before r.at x)
+            (sym (append_assoc r.head_was r.body_was rest) ∙ left_is ∙ append_assoc head_was body_was left) r.begins;
+        nothing_read = λ still. absurd (true≢false (sym still ∙ t.off));
+        group = group;
+        without = rw (append_assoc r.now r.now_group more) at without;
+        counted = subst (λ c. Counted key places (r.old ++ contents_in piece.held section) c m)
+            (append_assoc r.now r.now_group more) counted;
+      }
+
+  pub losing_keeps : {next : ℕ} (now : Group) → ¬ (IsEntryHeld key section piece.held × IsPlaceOf places index)
+      → next ≡ index + length (contents_in piece.held section)
+      → section_after piece.held section ≡ section → IsPushed g now piece.bytes.now → now.in_head ≡ false → now.has_lost ≡ g.has_lost
+      → now.is_kept ≡ (g.is_kept || not (is_blank_held piece.held))
+      → Losing key places text piece.rest.now new section now n next
+  losing_keeps now other next_is same pushed off lost_is kept_is =
+      let bytes = piece.bytes.now in
+      let left = piece.rest.now in
+      let stays : Stays key places section piece.held r.old = rw r.index_is at other in
+      let passed = λ (s : Option Section). made_passed piece.held piece.blanks.now piece.is_line is.blank is.made s in
+      let before = λ (not_kept : now.is_kept ≡ false).
+      is_kept_before g.is_kept (is_blank_held piece.held) (sym kept_is ∙ not_kept) in
+      let nothing = λ (not_kept : now.is_kept ≡ false). blank_is_nothing piece.held (before not_kept).1 in
+      losing_turns (contents_in piece.held section) next_is same (record {
+        pushed = pushed;
+        off = off;
+        here = spec.kept bytes spec.none;
+        passed = rw same at (passed section);
+        in_section = λ lost. r.group.in_section (sym lost_is ∙ lost);
+        was_empty = λ not_kept. (before not_kept).0;
+        empty = λ not_kept. (rw (nothing not_kept) refl, λ any. rw (nothing not_kept) at (passed any));
+        is_tail = λ not_kept is_in on header in_header. tail_is_lost key places r.before header bytes piece.blanks.now left piece.is_line is.blank
+            (rw (nothing not_kept) at is.made);
+      })
+      (without_kept piece.held section r.without stays)
+      (count_kept key n places r.old (r.now ++ r.now_group) piece.held section r.counted stays)
+
+  pub losing_loses : (now : Group) (parts : EntryParts) (put : List ℕ) → piece.held ≡ held.Entry parts
+      → IsOf key (content_of section parts) → IsPlaceOf places index
+      → IsEnd put → IsPushed g now put → now.in_head ≡ false → now.has_lost ≡ true → now.is_kept ≡ g.is_kept
+      → Losing key places text piece.rest.now new section now (one_more n) (index + 1)
+  losing_loses now parts put e is_of is_at is_end pushed off lost_is kept_is =
+      let bytes = piece.bytes.now in
+      let left = piece.rest.now in
+      let x : Content = content_of section parts in
+      let here_is : IsPlaceOf places (length r.old) = rw r.index_is at is_at in
+      let loses = λ (s : Option Section) (end : List ℕ).
+      entry_is_lost key piece.held parts s piece.blanks.now bytes left piece.is_line end e is.blank is.made in
+      let place : Comes text r.old section (bytes ++ left) = (
+        r.front ++ (r.head_was ++ r.body_was),
+        r.past.joined ∙ ap (λ x. (r.front ++ (r.head_was ++ r.body_was)) ++ x) is.joined,
+        passed_holds (some_left rest left shorter) r.past.passed,
+      ) in
+      losing_turns []
+      (sym (ap (λ h. index + length (contents_in h section)) e))
+      (ap (λ h. section_after h section) e) (record {
+        pushed = pushed;
+        off = off;
+        here = spec.changed spec.none place (inl (here_is, loses section put is_of is_end));
+        passed = anywhere (end_holds section put is_end);
+        in_section = λ lost. is_of.0;
+        was_empty = λ not_kept. sym kept_is ∙ not_kept;
+        empty = λ not_kept. (refl, λ any. anywhere (end_holds any put is_end));
+        is_tail = λ not_kept is_in on header in_header. inr (inr (
+          subst (λ o. IsPlaceOf places (length o)) (r.nothing_read on) here_is,
+          loses (Some header) [] (in_header, is_of.1) (inl refl),
+        ));
+      })
+      (rw (e, append-nil (r.now ++ r.now_group)) (spec.lost x r.without is_of here_is))
+      (rw (e, append-nil (r.now ++ r.now_group)) (count_more key n places r.old (r.now ++ r.now_group) x r.counted is_of))
 
 -- at the end of the text
 pub losing_ends : {key : Key} {places : Option (List ℕ)} {text rest new put : List ℕ} {contents : List Content}

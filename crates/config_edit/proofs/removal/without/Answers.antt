@@ -51,7 +51,7 @@ pieces-preserved c =
           let (head, body, in_head, has_lost, kept) = w.in_ok-begin-in-Header.ensures in
           let new_is : m.new.items ≡ p.new.items ++ put = ap (λ n. n.items) w.new-is ∙ pushed in
           rw (new_is, w.group-is, w.count-is, w.left-is, w.index-is, w.section-is) (
-            losing_header w.begin.new.self piece losing is shorter w.in-Header.header w.in-Header.is done head body in_head has_lost,
+            losing_header losing is shorter w.begin.new.self w.in-Header.header w.in-Header.is done head body in_head has_lost,
             left,
             omega arith,
           )
@@ -63,7 +63,7 @@ pieces-preserved c =
           (left p.index (omega arith)).1 (w.at_place-is_place.ensures.here.0 w.if-is_place.true) in
           let count_is : m.count ≡ one_more p.count = w.count-is ∙ w.more-count.ensures in
           rw (w.new-is, w.group-is, count_is, w.left-is, w.index-is, w.section-is) (
-            losing_loses w.lose.new.self piece w.in-Entry.parts end losing is shorter w.in-Entry.is of at is_end pushed off lost kept,
+            losing_loses losing is shorter w.lose.new.self w.in-Entry.parts end w.in-Entry.is of at is_end pushed off lost kept,
             left_after places (option_copied p.left) (option_copied w.at_place-is_place.result.1) p.index left w.at_place-is_place.ensures.left,
             omega arith,
           )
@@ -81,7 +81,7 @@ pieces-preserved c =
           sym (ap (λ h. p.index + length (contents_in h section)) w.in-Entry.is) in
           let same = ap (λ h. section_after h section) w.in-Entry.is in
           rw (w.new-is, w.group-is, w.count-is, w.left-is, w.index-is, w.section-is) (
-            losing_keeps w.keep.new.self piece losing is shorter other one same pushed off lost kept,
+            losing_keeps losing is shorter w.keep.new.self other one same pushed off lost kept,
             left_after places (option_copied p.left) (option_copied w.at_place-is_place.result.1) p.index left w.at_place-is_place.ensures.left,
             omega arith,
           )
@@ -94,7 +94,7 @@ pieces-preserved c =
           no_entry_held key section piece.held w.in-Nothing.is entry.0 in
           let same = no_header_after piece.held section w.in-Nothing.is in
           rw (w.new-is, w.group-is, w.count-is, w.left-is, w.index-is, w.section-is) (
-            losing_keeps w.keep-in-Nothing.new.self piece losing is shorter other one same pushed off lost kept,
+            losing_keeps losing is shorter w.keep-in-Nothing.new.self other one same pushed off lost kept,
             left,
             omega arith,
           )

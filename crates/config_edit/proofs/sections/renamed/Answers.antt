@@ -32,7 +32,7 @@ pieces-preserved c =
           let put : IsHeader c.push_header.new.spelling.items to.section to.subsection =
           rw header_is (header_spelled to.section to.subsection c.requires) in
           let step =
-          renaming_changes piece c.push_header.new.spelling.items renaming c.in-Some.ensures.piece c.in-Some.ensures.shorter held put header_is in
+          renaming_changes renaming piece c.push_header.new.spelling.items c.in-Some.ensures.piece c.in-Some.ensures.shorter held put header_is in
           let new_is : c.if-is_header_of.new.items ≡
           (c.pieces.new.items ++ piece.blanks.now) ++ c.push_header.new.spelling.items = search rules in (
             rw (w.is_found-is, new_is) step,
@@ -42,7 +42,7 @@ pieces-preserved c =
           let other : ¬ (IsHeaderHeld from piece.held) =
           λ held. true≢false (sym ((c.is_header_of.ensures c.pieces.rest.now c.in-Some.ensures.piece).1 held)
           ∙ w.if-is_header_of.false) in
-          let step = renaming_keeps piece renaming c.in-Some.ensures.piece c.in-Some.ensures.shorter other in
+          let step = renaming_keeps renaming piece c.in-Some.ensures.piece c.in-Some.ensures.shorter other in
           let new_is : c.if-is_header_of.new.items ≡ c.pieces.new.items ++ piece.bytes.now = search rules in (
             rw (w.is_found-is, new_is) step,
             header_is,
