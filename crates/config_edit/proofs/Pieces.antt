@@ -8,7 +8,7 @@ use Rattle.std.proofs.lemmas.Bool.Decides.{nat_tests}
 use Rattle.config_file.specs.declared.errors.FileError.{FileError}
 use Rattle.config_edit.specs.declared.piece.Held.{Held}
 use Rattle.config_edit.specs.declared.piece.Held.TheVariants as held
-use Rattle.config_file.specs.Bytes.{is_key_byte, is_name_byte, is_blank, is_comment_sign, is_comment_byte}
+use Rattle.config_file.specs.Bytes.{is_space, is_key_byte, is_name_byte, is_blank, is_comment_sign, is_comment_byte}
 use Rattle.config_file.specs.Bytes.{IsAtLineEnd}
 use Rattle.config_file.specs.Runs.{Run, StopsRun}
 use Rattle.config_file.specs.declared.errors.FileFault.{FileFault}
@@ -84,11 +84,6 @@ stops_moved : (test : ℕ → Bool) (front rest other : List ℕ) → Follows re
 stops_moved test [] rest other f none h = f.stops test none h
 stops_moved test (x ∷ front) rest other f none h = h
 
-pub run_moved : {test : ℕ → Bool} {text run : List ℕ} (rest other : List ℕ) → Follows rest other
-    → test 10 ≡ false → Run test text run rest → Run test (run ++ other) run other
-run_moved {test = test} rest other f none h =
-    record { joined = refl; pass = h.pass; longest = f.stops test none h.longest }
-
 -- a header is the same before any rest
 pub header_moved : {text rest : List ℕ} {section : Section} → Header text section rest
     → (front : List ℕ) × (text ≡ front ++ rest) × ((other : List ℕ) → Header (front ++ other) section other)
@@ -120,13 +115,13 @@ header_moved (quoted {name = name} {inner = inner} opens (closes {b = b} {raw = 
 key_moved : {text key : List ℕ} (rest other : List ℕ) → Follows rest other → (takes : TakesKey text key rest)
     → TakesKey ((key ++ takes.spaces) ++ other) key other
 key_moved {key = key} rest other f takes =
-    let spaced : StopsRun is_key_byte (takes.spaces ++ rest) =
-    subst (StopsRun is_key_byte) takes.space_run.joined takes.key_run.longest in
+    let longest =
+    stops_moved is_key_byte takes.spaces rest other f refl (rw takes.space_run.joined at takes.key_run.longest) in
     record {
       spaced = takes.spaces ++ other;
       spaces = takes.spaces;
-      key_run = record { joined = append_assoc key takes.spaces other; pass = takes.key_run.pass; longest = stops_moved is_key_byte takes.spaces rest other f refl spaced };
-      space_run = run_moved rest other f refl takes.space_run;
+      key_run = record { joined = append_assoc key takes.spaces other; pass = takes.key_run.pass; longest = longest };
+      space_run = record { joined = refl; pass = takes.space_run.pass; longest = f.stops is_space refl takes.space_run.longest };
     }
 
 pub key_joined : {text key : List ℕ} (rest : List ℕ) → (takes : TakesKey text key rest)
@@ -141,8 +136,7 @@ key_before_value {key = key} {after = after} {b = b} takes is =
     let no_return : b ≢ 13 = omega arith in (
       front,
       key_joined (b ∷ after) takes ∙ ap (λ c. front ++ c ∷ after) is,
-      λ other. subst (λ c. TakesKey (front ++ c ∷ other) key (c ∷ other)) is
-          (key_moved (b ∷ after) (b ∷ other) (follows [] b after other no_return) takes),
+      λ other. rw is at (key_moved (b ∷ after) (b ∷ other) (follows [] b after other no_return) takes),
     )
 
 value_moved : {after raw rest : List ℕ} {lines : ℕ} (other : List ℕ) → Follows rest other → rest ≢ []
@@ -160,24 +154,19 @@ entry_moved other f some (valued {b = b} {lines = lines} {key = key} {after = af
     let (joined, moved) = value_moved other f some taken in
     let front = key ++ takes.spaces in
     let no_return : b ≢ 13 = omega arith in
-    let key_before : TakesKey (front ++ b ∷ (raw ++ other)) key (b ∷ (raw ++ other)) =
-    key_moved (b ∷ after) (b ∷ (raw ++ other)) (follows [] b after (raw ++ other) no_return) takes in
-    let same : (front ++ b ∷ raw) ++ other ≡ front ++ b ∷ (raw ++ other) =
-    append_assoc front (b ∷ raw) other in (
+    let moves = follows [] b after (raw ++ other) no_return in (
       front ++ b ∷ raw,
-      key_joined (b ∷ after) takes ∙ ap (λ t. front ++ b ∷ t) joined
-          ∙ sym (append_assoc front (b ∷ raw) rest),
-      rw same (valued key_before is moved),
+      key_joined (b ∷ after) takes ∙ ap (λ t. front ++ b ∷ t) joined ∙ sym (append_assoc front (b ∷ raw) rest),
+      rw (append_assoc front (b ∷ raw) other) (valued (key_moved (b ∷ after) (b ∷ (raw ++ other)) moves takes) is moved),
     )
 
-cons_front : (b : ℕ) (text front rest : List ℕ) → b ∷ text ≡ front ++ rest → length rest < length (b ∷ text)
-    → (inner : List ℕ) × (front ≡ b ∷ inner) × (text ≡ inner ++ rest)
-cons_front b text [] rest joined shorter =
-    let same : length (b ∷ text) ≡ length rest = ap length joined in absurd (omega arith)
-cons_front b text (x ∷ front) rest joined shorter =
-    let first : x ≡ b = cc in
-    let more : text ≡ front ++ rest = cc in
-    (front, ap (λ c. c ∷ front) first, more)
+-- the same letter begins a text before any other rest
+pub letter_before : (front : List ℕ) (b : ℕ) (after other : List ℕ) → BeginsWithLetter (front ++ b ∷ after)
+    → BeginsWithLetter (front ++ b ∷ other)
+letter_before [] b after other (c, more, e, letter) =
+    let same : b ≡ c = cc in (b, other, refl, rw same letter)
+letter_before (x ∷ front) b after other (c, more, e, letter) =
+    let same : x ≡ c = cc in (x, front ++ b ∷ other, refl, rw same letter)
 
 -- blanks before a text change nothing
 pub first_blank : (b : ℕ) (blanks : List ℕ) → AreBlank (b ∷ blanks) → is_blank b ≡ true
@@ -253,28 +242,6 @@ pub header_holds : {new : Section} {blanks bytes : List ℕ} → AreBlank blanks
 header_holds all h section = λ line other.
     (line, [], rw h.joined (simp append_assoc (blanks_lead _ all (reached.header refl (h.header other) reached.here))), refl)
 
--- an entry with what is left of its line
-entry_leads : {key front prest : List ℕ} (lead rest : List ℕ) {value : Option (List ℕ)} {lines b : ℕ}
-    {more : List ℕ}
-    → front ++ prest ≡ b ∷ more → is_ascii_alphabetic b ≡ true
-    → TakesEntry (front ++ prest) key value lines prest → prest ≡ lead ++ 10 ∷ rest → (other : List ℕ)
-    → (inner : List ℕ) × (front ≡ b ∷ inner) × TakesEntry (front ++ (lead ++ 10 ∷ other)) key value lines (lead ++ 10 ∷ other)
-entry_leads {key = key} {front = front} {prest = prest} lead rest {value = value} {lines = lines} {b = b} {more = more} begins letter takes left other =
-    let shorter = entry_shortens (front ++ prest) begins letter takes in
-    let no_return : 10 ≢ 13 = omega arith in
-    let f : Follows prest (lead ++ 10 ∷ other) =
-    subst (λ x. Follows x (lead ++ 10 ∷ other)) (sym left) (follows lead 10 rest other no_return) in
-    let some : prest ≢ [] = λ none. not_none lead rest 10 (sym left ∙ none) in
-    let (again, again_joined, taken) = entry_moved (lead ++ 10 ∷ other) f some takes in
-    let same : front ≡ again = append_cancel_right front again prest again_joined in
-    let room : length prest < length (b ∷ more) = subst (λ x. length prest < length x) begins shorter in
-    let (inner, front_is, unused) = cons_front b more front prest (sym begins) room in (
-      inner,
-      front_is,
-      subst (λ x. TakesEntry (x ++ (lead ++ 10 ∷ other)) key value lines (lead ++ 10 ∷ other))
-          (sym same) taken,
-    )
-
 -- what the code cuts off a line
 pub comment_cut : {text after bytes rest : List ℕ} {sign : ℕ} → text ≡ sign ∷ after
     → is_comment_sign sign ≡ true → Run is_comment_byte after bytes rest
@@ -305,26 +272,39 @@ tail_of_end {blanks = blanks} {comment = comment} run at_is is end_is = (
   refl,
 )
 
+-- an entry with what is left of its line
 pub entry_holds : {key at bytes rest : List ℕ} {value : Option (List ℕ)} {lines : ℕ} (blanks : List ℕ)
     → AreBlank blanks
     → IsEntry key value lines at blanks bytes rest true → (section : Option Section)
     → Holds section bytes ((section, key, value) ∷ []) section
-entry_holds {key = key} {rest = rest} {value = value} {lines = lines} blanks all e section =
-    let (b, more, begins, letter) = e.begins in
+entry_holds {key = key} {at = at} {rest = rest} {value = value} {lines = lines} blanks all e section = λ line other.
     let t = e.is_tail in
     let lead = t.blanks ++ t.comment in
     let tail_is : e.tail ≡ lead ++ 10 ∷ [] = elim t.ends [
       | inl line_is ↦ line_is.1 ∙ sym (append_assoc t.blanks t.comment (10 ∷ []))
       | inr end_is ↦ absurd (true≢false end_is.0)
     ] in
-    let before = λ (other : List ℕ). ap (λ x. x ++ other) tail_is ∙ append_assoc lead (10 ∷ []) other in
-    λ line other.
-    let (inner, front_is, taken) = entry_leads {front = e.front} lead rest begins letter e.takes (e.left ∙ before rest) other in
-    let here = rw (← before other, front_is) at taken in
+    let before = λ (more : List ℕ). ap (λ x. x ++ more) tail_is ∙ append_assoc lead (10 ∷ []) more in
+    let left : at ≡ lead ++ 10 ∷ rest = e.left ∙ before rest in
+    let no_return : 10 ≢ 13 = omega arith in
+    let moves : Follows at (e.tail ++ other) = rw (left, before other) (follows lead 10 rest other no_return) in
+    let (front, joined, moved) =
+    entry_moved (e.tail ++ other) moves (λ none. not_none lead rest 10 (sym left ∙ none)) e.takes in
+    let taken : TakesEntry (e.front ++ (e.tail ++ other)) key value lines (e.tail ++ other) =
+    rw (append_cancel_right e.front front at joined) moved in
+    let begins_before : BeginsWithLetter ((e.front ++ lead) ++ 10 ∷ rest) =
+    rw (append_assoc e.front lead (10 ∷ rest), ← left) e.begins in
+    let (b, more, begins, letter) = letter_before (e.front ++ lead) 10 rest other begins_before in
+    let same : e.front ++ (e.tail ++ other) ≡ b ∷ more =
+    ap (λ x. e.front ++ x) (before other) ∙ sym (append_assoc e.front lead (10 ∷ other)) ∙ begins in
     let line_then = line + lines in
     let leads =
-    reached.entry {section = section} {line = line} letter here (tail_leads refl t section line_then other) in
-    (line_then + 1, entry_at section key value line_then ∷ [], rw (e.joined, front_is) (simp append_assoc (blanks_lead blanks all leads)), refl)
+    reached.entry {section = section} {line = line} letter (rw same at taken) (tail_leads refl t section line_then other) in (
+      line_then + 1,
+      entry_at section key value line_then ∷ [],
+      rw e.joined (simp append_assoc (blanks_lead blanks all (rw (← same) at leads))),
+      refl,
+    )
 
 entry_ends : {key at bytes rest : List ℕ} {value : Option (List ℕ)} {lines : ℕ} (blanks : List ℕ)
     → AreBlank blanks
