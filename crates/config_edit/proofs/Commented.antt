@@ -23,14 +23,14 @@ use Rattle.config_edit.specs.Edit.{WritesComment, IsEndOfLine, FeedsComment, Put
 use Rattle.config_edit.specs.Edit.{present}
 use Rattle.config_edit.specs.Reading.{HasHow, IsOpen, IsNamed, IsCommented, IsChangedIn, IsWritableName, IsWritableComment}
 use Rattle.config_file.specs.Views.{value_of}
-use Rattle.config_edit.proofs.Pieces.{first_blank, other_blanks}
+use Rattle.config_edit.proofs.Pieces.{first_blank, other_blanks, tail_ends}
 use Rattle.config_edit.proofs.Changed.{parts_blank, both_blank, gap_blank, spells_between, spells_before, can_hold, with_value}
 use Rattle.config_edit.proofs.Changed.{inside_is_not_outside, backslash_is_not_outside, tail_cut}
 use Rattle.config_edit.proofs.EachEntry.{entry_named, begins_named}
 use Rattle.config_edit.proofs.Closed.{goes_on_over, more_bytes, some_same}
 use Rattle.config_file.proofs.OneValue.{before_backslash}
 use Rattle.config_file.proofs.OneRun.{run_same}
-use Rattle.config_file.proofs.LineEnds.{all_more}
+use Rattle.config_file.proofs.LineEnds.{all_more, not_none, rest_none}
 
 -- the first bytes and the rests of two texts that are the same
 uncons : {b c : ℕ} {more rest : List ℕ} → b ∷ more ≡ c ∷ rest → (b ≡ c) × (more ≡ rest)
@@ -49,22 +49,12 @@ cut (x ∷ a) b (y ∷ c) d e =
     ]
 
 -- blanks do not hold a byte that is none
-last_of_blanks : (more : List ℕ) (x : ℕ) → AreBlank (more ++ x ∷ []) → is_blank x ≡ true
-last_of_blanks more x all = first_blank x [] (parts_blank more (x ∷ []) all).1
-
-nothing_behind : (c m : List ℕ) → [] ≡ c ++ m → m ≡ []
-nothing_behind [] m e = sym e
-nothing_behind (x ∷ c) m e = cc
-
-nothing_there : (b : ℕ) (more : List ℕ) → b ∷ more ≡ [] → ⊥
-nothing_there b more e = cc
-
 no_blank_left : (more : List ℕ) (x : ℕ) (c m : List ℕ) → more ++ x ∷ [] ≡ c ++ m → AreBlank m
     → is_blank x ≡ false → m ≡ []
 no_blank_left more x [] m e all other =
-    absurd (true≢false (sym (last_of_blanks more x (rw (← e) at all)) ∙ other))
+    absurd (true≢false (sym (first_blank x [] (parts_blank more (x ∷ []) (rw (← e) at all)).1) ∙ other))
 no_blank_left [] x (z ∷ c) m e all other =
-    nothing_behind c m (uncons e).1
+    rest_none c m (sym (uncons e).1)
 no_blank_left (w ∷ more) x (z ∷ c) m e all other =
     no_blank_left more x c m (uncons e).1 all other
 
@@ -88,10 +78,7 @@ no_blank : (b c : ℕ) → is_blank b ≡ true → b ≡ c → is_blank c ≡ fa
 no_blank b c is same other = true≢false (sym (subst (λ x. is_blank x ≡ true) same is) ∙ other)
 
 no_plain : (b : ℕ) → is_blank b ≡ true → is_plain false b ≡ true → ⊥
-no_plain b is plain =
-    let outer = and_parts (is_plain_in_quotes b) (not (is_blank b) && not (is_comment_sign b)) plain in
-    let inner = and_parts (not (is_blank b)) (not (is_comment_sign b)) outer.1 in
-    true≢false (sym inner.0 ∙ ap not is)
+no_plain b is plain = grind (arith, nat_tests)
 
 no_escape : (e k : ℕ) → is_blank e ≡ true → escape e ≡ Some k → ⊥
 no_escape e k is letter = grind (arith, nat_tests)
@@ -158,10 +145,8 @@ space_is_blank b is = grind (arith, nat_tests)
 
 comment_behind : (front more : List ℕ) → list_all is_comment_byte (front ++ 35 ∷ more) ≡ true
     → list_all is_comment_byte more ≡ true
-comment_behind front more all =
-    let parts = and_parts (list_all is_comment_byte front) (list_all is_comment_byte (35 ∷ more))
-    (sym (list_all-append is_comment_byte front (35 ∷ more)) ∙ all) in
-    more_bytes 35 more parts.1
+comment_behind [] more all = more_bytes 35 more all
+comment_behind (b ∷ front) more all = comment_behind front more (more_bytes b (front ++ 35 ∷ more) all)
 
 written_parts : {comment written : List ℕ} → list_all is_comment_byte comment ≡ true → WritesComment comment written
     → (blanks more : List ℕ) × (written ≡ blanks ++ 35 ∷ more) × AreBlank blanks × (list_all is_comment_byte more ≡ true)
@@ -198,11 +183,9 @@ letter_no_feed b letter is = grind (arith, nat_tests)
 letter_ends : (m bytes rest : List ℕ) → BeginsWithLetter (bytes ++ rest) → bytes ≢ [] → 13 ∷ 10 ∷ [] ≡ m ++ bytes → bytes ≡ 13 ∷ 10 ∷ []
 letter_ends [] bytes rest letter some e = sym e
 letter_ends (x ∷ []) bytes rest (b, more, bytes_is, letter) some e =
-    let left : 10 ∷ [] ≡ bytes = cc in
-    let begins : 10 ∷ rest ≡ b ∷ more = ap (λ t. t ++ rest) left ∙ bytes_is in
-    let same : b ≡ 10 = cc in absurd (letter_no_feed b letter same)
-letter_ends (x ∷ y ∷ m) bytes rest letter some e =
-    let left : [] ≡ m ++ bytes = cc in absurd (some (nothing_behind m bytes left))
+    let begins : 10 ∷ rest ≡ b ∷ more = ap (λ t. t ++ rest) (uncons e).1 ∙ bytes_is in
+    absurd (letter_no_feed b letter (sym (uncons begins).0))
+letter_ends (x ∷ y ∷ m) bytes rest letter some e = absurd (some (rest_none m bytes (sym (uncons (uncons e).1).1)))
 
 end_without_blanks : {bytes end : List ℕ} {is_line : Bool} (blanks gone rest : List ℕ) → bytes ≡ blanks ++ gone
     → BeginsWithLetter (gone ++ rest) → (is_line ≡ true → gone ≢ [])
@@ -220,14 +203,10 @@ end_without_blanks blanks gone rest joined letter some (spec.return_feed front) 
     ]
 
 line_is_some : {tail rest : List ℕ} {is_line : Bool} (front : List ℕ) → IsTail tail rest is_line → is_line ≡ true → front ++ tail ≢ []
-line_is_some {tail = tail} front t on = λ none.
-    let empty : tail ≡ [] = nothing_behind front tail (sym none) in
-    elim t.ends [
-      | inl line ↦
-          let left = nothing_behind t.blanks (t.comment ++ 10 ∷ []) (sym (sym line.1 ∙ empty)) in
-          nothing_there 10 [] (nothing_behind t.comment (10 ∷ []) (sym left))
-      | inr end ↦ true≢false (sym on ∙ end.0)
-    ]
+line_is_some front t on = λ none. elim t.ends [
+  | inl line ↦ not_none (front ++ (t.blanks ++ t.comment)) [] 10 (simp append_assoc (rw line.1 at none))
+  | inr end ↦ true≢false (sym on ∙ end.0)
+]
 
 comment_tail : {bytes end rest : List ℕ} {is_line : Bool} (more : List ℕ) → list_all is_comment_byte more ≡ true
     → IsEndOfLine bytes is_line end → (is_line ≡ false → rest ≡ []) → IsTail (35 ∷ (more ++ end)) rest is_line
@@ -245,12 +224,6 @@ comment_tail more all (spec.return_feed front) none =
       is_comment = present refl both;
       ends = inl (refl, ap (λ m. 35 ∷ m) (sym (append_assoc more (13 ∷ []) (10 ∷ []))));
     }
-
-end_of_text : {tail rest : List ℕ} {is_line : Bool} → IsTail tail rest is_line → is_line ≡ false → rest ≡ []
-end_of_text t off = elim t.ends [
-  | inl line ↦ absurd (true≢false (sym line.0 ∙ off))
-  | inr end ↦ end.1
-]
 
 -- an entry with another key, or with its own
 pub named_takes : {key at : List ℕ} {was : Option (List ℕ)} {lines : ℕ} (name : Option (List ℕ)) (between raw : List ℕ)
@@ -298,72 +271,6 @@ spelled_before {value = value} {bytes = bytes} core blanks written (as_open spel
     let over : SpellsValue (bytes ++ 10 ∷ []) value outside = goes_on_over (10 ∷ []) [] (inl refl) (inl refl) refl spells in
     rw (one, ← core_is) (simp append_assoc at (spells_before written also over))
 
-before_valued : {value raw at key between core_all blanks front bytes feed : List ℕ} {lines : ℕ} (written : List ℕ)
-    → BeginsWithLetter ((key ++ (between ++ raw)) ++ at) → TakesEntry ((key ++ (between ++ raw)) ++ at) key (Some raw) lines at
-    → core_all ++ blanks ≡ front ++ (key ++ (between ++ bytes)) → AreBlank blanks → AreBlank written
-    → Ends value raw bytes feed
-    → Before value between key (Some raw) blanks core_all front bytes feed written
-before_valued {value = value} {raw = raw} {key = key} {between = between} {core_all = core_all} {blanks = blanks} {front = front} {bytes = bytes} {feed = feed} written begins takes whole all also ends =
-    let h = can_hold (key ++ (between ++ raw)) refl refl begins takes in
-    let start_is : h.start ≡ key ++ between =
-    append_cancel_right h.start (key ++ between) raw (sym h.joined ∙ sym (append_assoc key between raw)) in
-    let xs = front ++ h.start in
-    let xs_ends : xs ≡ (front ++ h.before) ++ 61 ∷ [] =
-    ap (λ s. front ++ s) h.start_is ∙ sym (append_assoc front h.before (61 ∷ [])) in
-    let joined : core_all ++ blanks ≡ xs ++ bytes =
-    whole ∙ ap (λ x. front ++ x) (sym (append_assoc key between bytes) ∙ ap (λ s. s ++ bytes) (sym start_is))
-    ∙ sym (append_assoc front h.start bytes) in
-    let (core, bytes_are, core_is) = trail_within xs bytes core_all blanks (front ++ h.before) 61 xs_ends refl joined all in
-    let raw_now = core ++ (feed ++ written) in
-    let spells = spelled_before core blanks written ends bytes_are all also in
-    let text_is : h.start ++ raw_now ≡ key ++ (between ++ raw_now) =
-    ap (λ s. s ++ raw_now) start_is ∙ append_assoc key between raw_now in
-    record {
-      core = core;
-      bytes_are = bytes_are;
-      core_is = core_is ∙ append_assoc front h.start core
-          ∙ ap (λ x. front ++ x) (ap (λ s. s ++ core) start_is ∙ append_assoc key between core);
-      feeds = feeds_of ends;
-      raw = raw_now;
-      spells = spells;
-      takes = λ at end.
-          let (now, letter) = h.holds raw_now value at spells end in (
-            rw text_is at now,
-            rw text_is at letter,
-          );
-    }
-
-before_alone : {value at key between core_all blanks front bytes feed : List ℕ} {lines : ℕ} (written : List ℕ)
-    → BeginsWithLetter ((key ++ (between ++ [])) ++ at) → TakesEntry ((key ++ (between ++ [])) ++ at) key None lines at
-    → core_all ++ blanks ≡ front ++ (key ++ (between ++ bytes)) → AreBlank blanks → AreBlank written
-    → PutsValue value None bytes → feed ≡ []
-    → Before value between key None blanks core_all front bytes feed written
-before_alone {value = value} {key = key} {between = between} {core_all = core_all} {blanks = blanks} {front = front} {feed = feed} written begins takes whole all also (spec.behind_key {gap = gap} {spelling = spelling} is_gap s) none =
-    let more = front ++ (key ++ (between ++ gap)) in
-    let xs = more ++ 61 ∷ [] in
-    let joined : core_all ++ blanks ≡ xs ++ 32 ∷ spelling = whole ∙ simp append_assoc in
-    let (inner, inner_are, core_is) = trail_within xs (32 ∷ spelling) core_all blanks more 61 refl refl joined all in
-    let spelled : SpellsValue (32 ∷ spelling) value outside =
-    rw append-nil at (spells_between (32 ∷ []) [] refl refl s.0.0) in
-    let raw_now = inner ++ written in
-    let spells : SpellsValue raw_now value outside = spells_before written also (trimmed inner blanks all refl inner_are spelled) in
-    let text_is : (at : List ℕ) → ((key ++ (between ++ [])) ++ gap) ++ 61 ∷ (raw_now ++ at)
-    ≡ (key ++ (between ++ ((gap ++ 61 ∷ inner) ++ (feed ++ written)))) ++ at =
-    λ at. rw (none, append-nil between) (simp append_assoc) in
-    record {
-      core = gap ++ 61 ∷ inner;
-      bytes_are = ap (λ i. gap ++ 61 ∷ i) inner_are ∙ sym (append_assoc gap (61 ∷ inner) blanks);
-      core_is = core_is ∙ simp append_assoc;
-      feeds = rw none spec.behind_key;
-      raw = raw_now;
-      spells = spells;
-      takes = λ at end.
-          let (now, letter) = with_value (key ++ (between ++ [])) gap raw_now value {rest = at} refl refl begins takes is_gap spells end in (
-            rw (text_is at) at now,
-            rw (text_is at) at letter,
-          );
-    }
-
 -- the new bytes of a value spell it
 puts_spells : {value raw bytes : List ℕ} → PutsValue value (Some raw) bytes → SpellsValue bytes value outside
 puts_spells (spec.in_place lead trail before core after s) = spells_between lead trail before after s.0.0
@@ -400,21 +307,80 @@ ends_of {raw = raw} {bytes = bytes} parts held (inl (has, same)) how fed =
       ]
     ]
 
-before_of : {value at key between core_all blanks front bytes feed : List ℕ} {lines : ℕ} (parts : EntryParts) (was : Option (List ℕ)) (written : List ℕ)
-    → value_of parts.value ≡ was
-    → BeginsWithLetter ((key ++ (between ++ value_bytes was)) ++ at)
-    → TakesEntry ((key ++ (between ++ value_bytes was)) ++ at) key was lines at
-    → core_all ++ blanks ≡ front ++ (key ++ (between ++ bytes)) → AreBlank blanks → AreBlank written
-    → ChangesValueTo value was bytes → (HasValue was value → HasHow parts value)
-    → IsFed parts value feed → Before value between key was blanks core_all front bytes feed written
-before_of parts None written held begins takes whole all also (inl (has, same)) how feed_is = absurd has
-before_of {value = value} parts None written held begins takes whole all also (inr (other, puts)) how feed_is =
-    before_alone written begins takes whole all also puts (elim feed_is [
-      | inl (opened, has, one) ↦ absurd (other (rw held at has))
-      | inr (closed, none) ↦ none
-    ])
-before_of parts (Some raw) written held begins takes whole all also valued how feed_is =
-    before_valued written begins takes whole all also (ends_of parts held valued how feed_is)
+module _ {value at key between core_all blanks front feed : List ℕ} {lines : ℕ} (written : List ℕ)
+    (all : AreBlank blanks) (also : AreBlank written) where
+  before_valued : {raw bytes : List ℕ} → core_all ++ blanks ≡ front ++ (key ++ (between ++ bytes))
+      → BeginsWithLetter ((key ++ (between ++ raw)) ++ at) → TakesEntry ((key ++ (between ++ raw)) ++ at) key (Some raw) lines at
+      → Ends value raw bytes feed → Before value between key (Some raw) blanks core_all front bytes feed written
+  before_valued {raw = raw} {bytes = bytes} whole begins takes ends =
+      let h = can_hold (key ++ (between ++ raw)) refl refl begins takes in
+      let start_is : h.start ≡ key ++ between =
+      append_cancel_right h.start (key ++ between) raw (sym h.joined ∙ sym (append_assoc key between raw)) in
+      let xs_ends : front ++ h.start ≡ (front ++ h.before) ++ 61 ∷ [] =
+      ap (λ s. front ++ s) h.start_is ∙ sym (append_assoc front h.before (61 ∷ [])) in
+      let joined : core_all ++ blanks ≡ (front ++ h.start) ++ bytes = whole ∙ simp (start_is, append_assoc) in
+      let (core, bytes_are, core_is) =
+      trail_within (front ++ h.start) bytes core_all blanks (front ++ h.before) 61 xs_ends refl joined all in
+      let raw_now = core ++ (feed ++ written) in
+      let spells = spelled_before core blanks written ends bytes_are all also in
+      let text_is : h.start ++ raw_now ≡ key ++ (between ++ raw_now) = simp (start_is, append_assoc) in
+      record {
+        core = core;
+        bytes_are = bytes_are;
+        core_is = core_is ∙ simp (start_is, append_assoc);
+        feeds = feeds_of ends;
+        raw = raw_now;
+        spells = spells;
+        takes = λ at end.
+            let (now, letter) = h.holds raw_now value at spells end in (
+              rw text_is at now,
+              rw text_is at letter,
+            );
+      }
+
+  before_alone : {bytes : List ℕ} → core_all ++ blanks ≡ front ++ (key ++ (between ++ bytes))
+      → BeginsWithLetter ((key ++ (between ++ [])) ++ at) → TakesEntry ((key ++ (between ++ [])) ++ at) key None lines at
+      → PutsValue value None bytes → feed ≡ [] → Before value between key None blanks core_all front bytes feed written
+  before_alone whole begins takes (spec.behind_key {gap = gap} {spelling = spelling} is_gap s) none =
+      let more = front ++ (key ++ (between ++ gap)) in
+      let xs = more ++ 61 ∷ [] in
+      let joined : core_all ++ blanks ≡ xs ++ 32 ∷ spelling = whole ∙ simp append_assoc in
+      let (inner, inner_are, core_is) = trail_within xs (32 ∷ spelling) core_all blanks more 61 refl refl joined all in
+      let spelled : SpellsValue (32 ∷ spelling) value outside =
+      rw append-nil at (spells_between (32 ∷ []) [] refl refl s.0.0) in
+      let raw_now = inner ++ written in
+      let spells : SpellsValue raw_now value outside = spells_before written also (trimmed inner blanks all refl inner_are spelled) in
+      let text_is : (at : List ℕ) → ((key ++ (between ++ [])) ++ gap) ++ 61 ∷ (raw_now ++ at)
+      ≡ (key ++ (between ++ ((gap ++ 61 ∷ inner) ++ (feed ++ written)))) ++ at =
+      λ at. rw (none, append-nil between) (simp append_assoc) in
+      record {
+        core = gap ++ 61 ∷ inner;
+        bytes_are = ap (λ i. gap ++ 61 ∷ i) inner_are ∙ sym (append_assoc gap (61 ∷ inner) blanks);
+        core_is = core_is ∙ simp append_assoc;
+        feeds = rw none spec.behind_key;
+        raw = raw_now;
+        spells = spells;
+        takes = λ at end.
+            let (now, letter) = with_value (key ++ (between ++ [])) gap raw_now value {rest = at} refl refl begins takes is_gap spells end in (
+              rw (text_is at) at now,
+              rw (text_is at) at letter,
+            );
+      }
+
+  before_of : {bytes : List ℕ} (parts : EntryParts) (was : Option (List ℕ)) → core_all ++ blanks ≡ front ++ (key ++ (between ++ bytes))
+      → value_of parts.value ≡ was
+      → BeginsWithLetter ((key ++ (between ++ value_bytes was)) ++ at)
+      → TakesEntry ((key ++ (between ++ value_bytes was)) ++ at) key was lines at
+      → ChangesValueTo value was bytes → (HasValue was value → HasHow parts value)
+      → IsFed parts value feed → Before value between key was blanks core_all front bytes feed written
+  before_of parts None whole held begins takes (inl (has, same)) how feed_is = absurd has
+  before_of parts None whole held begins takes (inr (other, puts)) how feed_is =
+      before_alone whole begins takes puts (elim feed_is [
+        | inl (opened, has, one) ↦ absurd (other (rw held at has))
+        | inr (closed, none) ↦ none
+      ])
+  before_of parts (Some raw) whole held begins takes valued how feed_is =
+      before_valued whole begins takes (ends_of parts held valued how feed_is)
 
 -- the entry with its comment
 pub changed_commented : {change : Change} {parts : EntryParts} {piece : Piece} {line put : List ℕ} (value comment : List ℕ)
@@ -437,7 +403,7 @@ changed_commented {change = change} {parts = parts} {piece = piece} {line = line
     ∙ sym (append_assoc blanks (key ++ (s.between ++ s.bytes)) s.tail) ∙ ap (λ t. named ++ t) (sym tail_is)) in
     let (spaces, more, written_is, spaces_are, more_are) = written_parts all k.is_written in
     let b : Before value s.between key was k.blanks k.core blanks s.bytes k.feed spaces =
-    before_of parts was spaces refl begins takes whole k.are_blank spaces_are s.is_valued s.how k.feed_is in
+    before_of spaces k.are_blank spaces_are parts was whole refl begins takes s.is_valued s.how k.feed_is in
     let at = 35 ∷ (more ++ (k.end ++ rest)) in
     let (takes_now, begins_now) = b.takes at (inr refl) in
     let front = key ++ (s.between ++ (b.core ++ (k.feed ++ spaces))) in
@@ -454,7 +420,7 @@ changed_commented {change = change} {parts = parts} {piece = piece} {line = line
       begins = begins_now;
       takes = takes_now;
       left = ap (λ m. 35 ∷ m) (sym (append_assoc more k.end rest));
-      is_tail = comment_tail more more_are k.is_end (end_of_text e.is_tail);
+      is_tail = comment_tail more more_are k.is_end (λ off. (tail_ends off e.is_tail None 0).0);
       joined = put_is ∙ ap (λ x. blanks ++ x) after_is;
     } in
     let old = parts.key.now ++ (s.between ++ value_bytes was) in
