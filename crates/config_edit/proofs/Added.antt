@@ -21,7 +21,7 @@ use Rattle.config_file.specs.Header.{Section}
 use Rattle.config_file.specs.Value as spells
 use Rattle.config_file.specs.Value.{SpellsValue, closed, line_feeds}
 use Rattle.config_file.specs.Subsection.{SpellsSubsection}
-use Rattle.config_file.specs.File.{TakesKey, TakesEntry, valued}
+use Rattle.config_file.specs.File.{TakesKey, valued}
 use Rattle.config_file.specs.Listing as listing
 use Rattle.config_file.specs.Listing.{IsListedSection}
 use Rattle.config_file.specs.Spelling.{SpellsOptional, SpellsSection}
@@ -36,7 +36,7 @@ use Rattle.config_edit.specs.Reading.{IsAdded, new_line}
 use Rattle.config_edit.specs.Edit.{AreBlank, IsEntry, IsTail, absent}
 use Rattle.config_file.specs.Reading.Spellings.{is_section, is_spellable}
 use Rattle.config_file.specs.Spelling.{spelled_section, git_spelled}
-use Rattle.config_edit.proofs.Pieces.{header_holds, entry_holds, made_passed, first_of, first_blank, other_blanks, blank_no_sign}
+use Rattle.config_edit.proofs.Pieces.{header_holds, entry_holds, made_passed, first_of, first_blank, other_blanks}
 use Rattle.config_file.proofs.LineEnds.{not_none}
 use Rattle.config_file.proofs.SpelledHeaders.{header_spelled, letter_is_key_byte}
 use Rattle.config_file.proofs.Spellings.{git_spelling}

@@ -1,5 +1,5 @@
 -- Texts of which stretches change where the reading comes.
-use Rattle.std.proofs.Common.{◌≡◌, ℕ, List, [], ◌++◌, Option, sym, append_assoc, append-nil}
+use Rattle.std.proofs.Common.{◌≡◌, ℕ, List, [], ◌++◌, Option, append_assoc, append-nil}
 use Rattle.config_file.specs.Header.{Section}
 use Rattle.config_edit.specs.Edit as spec
 use Rattle.config_edit.specs.Edit.{Content, Becomes}

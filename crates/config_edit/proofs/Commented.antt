@@ -1,17 +1,16 @@
 -- Entries that get comments.
-use Rattle.std.proofs.Common.{◌≡◌, ◌≢◌, ℕ, ◌+◌, Bool, true, false, not, List, [], ◌∷◌, ◌++◌, Option, Some, None, refl}
-use Rattle.std.proofs.Common.{sym, ap, ◌∙◌, subst, append_assoc, append-nil, arith, inl, inr, ◌⊎◌, true≢false, ◌&&◌}
-use Rattle.std.proofs.Common.{option_copied, eqb-true, ◌==◌, length}
+use Rattle.std.proofs.Common.{◌≡◌, ◌≢◌, ℕ, Bool, true, false, List, [], ◌∷◌, ◌++◌, Option, Some, None, refl}
+use Rattle.std.proofs.Common.{sym, ap, ◌∙◌, subst, append_assoc, append-nil, arith, inl, inr, ◌⊎◌, true≢false}
+use Rattle.std.proofs.Common.{option_copied, ◌==◌, length}
 use Rattle.std.specs.List.{list_all}
 use Rattle.std.specs.Char.{is_ascii_alphabetic}
-use Rattle.std.proofs.lemmas.Bool.{and_parts, cases_Bool}
 use Rattle.std.proofs.lemmas.Bool.Decides.{nat_tests}
 use Rattle.std.proofs.lemmas.List.{append_cancel_left, append_cancel_right}
 use Rattle.std.proofs.lemmas.List.Folds.{list_all-append}
 use Rattle.config_edit.specs.declared.Change.{Change}
 use Rattle.config_edit.specs.declared.piece.Piece.{Piece}
 use Rattle.config_file.specs.declared.entry.EntryParts.{EntryParts}
-use Rattle.config_file.specs.Bytes.{is_blank, is_space, is_comment_byte, is_comment_sign, is_plain, is_plain_in_quotes, BeginsWithLetter}
+use Rattle.config_file.specs.Bytes.{is_blank, is_space, is_comment_byte, is_plain, BeginsWithLetter}
 use Rattle.config_file.specs.Header.{BeginsWithout}
 use Rattle.config_file.specs.Runs.{Run}
 use Rattle.config_file.specs.Value as value

@@ -1,8 +1,7 @@
 -- Pieces of a text.
-use Rattle.std.proofs.Common.{◌≡◌, ◌≢◌, ℕ, ◌+◌, ◌<◌, Bool, true, false, List, [], ◌∷◌, ◌++◌, Option, Some}
-use Rattle.std.proofs.Common.{None, length, refl, sym, ap, ◌∙◌, subst, append_assoc, append-nil, arith, inl}
+use Rattle.std.proofs.Common.{◌≡◌, ◌≢◌, ℕ, ◌+◌, Bool, true, false, List, [], ◌∷◌, ◌++◌, Option, Some}
+use Rattle.std.proofs.Common.{None, refl, sym, ap, ◌∙◌, subst, append_assoc, append-nil, arith, inl}
 use Rattle.std.proofs.Common.{inr, ◌⊎◌, true≢false}
-use Rattle.std.specs.Char.{is_ascii_alphabetic}
 use Rattle.std.proofs.lemmas.List.{append_cancel_right}
 use Rattle.std.proofs.lemmas.Bool.Decides.{nat_tests}
 use Rattle.config_file.specs.declared.errors.FileError.{FileError}
@@ -18,13 +17,11 @@ use Rattle.config_file.specs.File as file
 use Rattle.config_file.specs.File.{Entry, entry_at, TakesKey, TakesEntry, EntryStops, alone, valued, Reads}
 use Rattle.config_edit.specs.Reached.{Leads}
 use Rattle.config_edit.specs.Reached as reached
-use Rattle.config_edit.specs.Reading as edit
 use Rattle.config_edit.specs.Reading.{Holds, Ends, Passed, anywhere, at_end, IsHeaderAt, IsMade}
-use Rattle.config_edit.specs.Reading.{IsRead, GoesOn, StartsLine, IsPiece, contents_in, section_after}
+use Rattle.config_edit.specs.Reading.{IsRead, GoesOn, StartsLine, contents_in, section_after}
 use Rattle.config_edit.specs.Edit.{AreBlank, IsComment, absent, present, IsTail, IsEntry}
 use Rattle.config_file.proofs.LineEnds.{not_none}
 use Rattle.config_file.specs.Bytes.{BeginsWithLetter}
-use Rattle.config_file.proofs.Bounds.{entry_shortens}
 use Rattle.config_file.proofs.OneReading.{reads_once}
 use Rattle.config_file.proofs.Readings.{at_entry, begins_none}
 

@@ -28,8 +28,7 @@ use Rattle.config_edit.proofs.Edits.{holds_nothing, holds_join, passed_holds, pa
 use Rattle.config_edit.proofs.Edits.{all_passed, some_left}
 use Rattle.config_edit.proofs.Becomes.{becomes_before, becomes_both}
 use Rattle.config_edit.proofs.Changed.{both_blank}
-use Rattle.config_edit.proofs.Replaced.{holds_then, other_after, past_begins, past_more, end_holds}
-use Rattle.config_edit.proofs.Replaced.{without_both, none_in}
+use Rattle.config_edit.proofs.Replaced.{holds_then, past_begins, past_more, end_holds}
 
 -- how many entries have been lost
 count_more : (key : Key) (n : Count) (places : Option (List ℕ)) (old new : List Content) (x : Content)

@@ -1,7 +1,6 @@
-use Rattle.std.proofs.Common.{rules, ◌≡◌, ◌++◌, ◌∙◌, ap, sym, subst, [], None}
+use Rattle.std.proofs.Common.{rules, ◌≡◌, ◌++◌, ◌∙◌, ap, sym, subst, []}
 use Rattle.std.proofs.Common.{option_copied, option_map, true≢false, length, ◌+◌, ◌≤◌, arith}
 use Rattle.config_edit.specs.declared.removal.Taken.{Taken}
-use Rattle.config_edit.specs.declared.removal.Count.TheVariants as count
 use Rattle.config_file.specs.KeyView.{key_of}
 use Rattle.config_file.specs.Views.{section_of}
 use Rattle.config_edit.specs.Edit.{IsOf, IsPlaceOf}

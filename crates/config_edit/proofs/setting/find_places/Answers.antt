@@ -1,6 +1,5 @@
 use Rattle.std.proofs.Common.{◌≡◌, ◌⊎◌, ◌∙◌, inl, inr, sym, false, IsTrue, ◌&&◌, true}
-use Rattle.std.proofs.Common.{◌↔◌, refl, true≢false}
-use Rattle.config_edit.specs.declared.setting.Insertion.{Insertion}
+use Rattle.std.proofs.Common.{◌↔◌, true≢false}
 use Rattle.config_edit.specs.declared.setting.Places.{Places}
 use Rattle.config_file.specs.KeyView.{key_of}
 use Rattle.config_file.specs.declared.section.Section as code
