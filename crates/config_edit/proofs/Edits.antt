@@ -91,27 +91,6 @@ ends_once first second =
     let (others, again, also) = second 0 in
     sym same ∙ ap (λ e. map content e) (reads_once reads again).0 ∙ also
 
--- what follows is read, if the whole text is
-left_read : {section next : Option Section} {text front rest : List ℕ} {xs all : List Content}
-    → text ≡ front ++ rest → Passed section front xs next rest → Ends section text all
-    → IsRead rest
-left_read {rest = rest} joined (at_end none ends) whole = (None, 0, [], rw none file.ends)
-left_read {next = next} {rest = rest} joined (anywhere holds) whole =
-    let (end, entries, leads, same) = holds 0 rest in
-    let (more, error, reads) = are_read (length rest) next end rest (omega arith) in
-    let (all_entries, again, also) = whole 0 in
-    let none : error ≡ None = sym (reads_once (rw joined at again) (compose leads reads)).1 in
-    (next, end, more, rw none at reads)
-
--- where no piece is left, all of the text has been passed
-pub all_passed : {section next : Option Section} {text front rest : List ℕ} {xs all : List Content}
-    → text ≡ front ++ rest → Passed section front xs next rest
-    → Ends section text all → (rest ≡ []) ⊎ (¬ (IsRead rest)) → (rest ≡ []) × (text ≡ front) × (xs ≡ all)
-all_passed {front = front} joined passed whole (inl none) =
-    let same = joined ∙ ap (λ r. front ++ r) none ∙ append-nil front in
-    (none, same, ends_once (passed_ends none passed) (rw same at whole))
-all_passed joined passed whole (inr not_read) = absurd (not_read (left_read joined passed whole))
-
 pub is_none_left : (rest : List ℕ) → true ≡ (length rest == 0) → rest ≡ []
 is_none_left [] none = refl
 is_none_left (b ∷ rest) none = grind (arith, nat_tests)
@@ -119,12 +98,31 @@ is_none_left (b ∷ rest) none = grind (arith, nat_tests)
 pub is_some_left : (rest : List ℕ) → false ≡ (length rest == 0) → rest ≢ []
 is_some_left rest some none = absurd (true≢false (sym (some ∙ ap (λ r. length r == 0) none)))
 
--- where a piece cannot be read, the text is no file
-pub not_read : {section next : Option Section} {text front rest : List ℕ} {xs all : List Content}
-    → text ≡ front ++ rest → Passed section front xs next rest
-    → rest ≢ [] → (rest ≡ []) ⊎ (¬ (IsRead rest)) → ¬ (Ends section text all)
-not_read joined passed some (inl none) = λ whole. some none
-not_read joined passed some (inr not) = λ whole. not (left_read joined passed whole)
+module _ {section next : Option Section} {text front rest : List ℕ} {xs all : List Content} (joined : text ≡ front ++ rest)
+    (passed : Passed section front xs next rest) where
+  -- what follows is read, if the whole text is
+  left_read : Ends section text all → IsRead rest
+  left_read whole = elim passed [
+    | at_end none ends ↦ (None, 0, [], rw none file.ends)
+    | anywhere holds ↦
+        let (end, entries, leads, same) = holds 0 rest in
+        let (more, error, reads) = are_read (length rest) next end rest (omega arith) in
+        let (all_entries, again, also) = whole 0 in
+        let none : error ≡ None = sym (reads_once (rw joined at again) (compose leads reads)).1 in
+        (next, end, more, rw none at reads)
+  ]
+
+  -- where no piece is left, all of the text has been passed
+  pub all_passed : Ends section text all → (rest ≡ []) ⊎ (¬ (IsRead rest)) → (rest ≡ []) × (text ≡ front) × (xs ≡ all)
+  all_passed whole (inl none) =
+      let same = joined ∙ ap (λ r. front ++ r) none ∙ append-nil front in
+      (none, same, ends_once (passed_ends none passed) (rw same at whole))
+  all_passed whole (inr not_read) = absurd (not_read (left_read whole))
+
+  -- where a piece cannot be read, the text is no file
+  pub not_read : rest ≢ [] → (rest ≡ []) ⊎ (¬ (IsRead rest)) → ¬ (Ends section text all)
+  not_read some (inl none) = λ whole. some none
+  not_read some (inr not) = λ whole. not (left_read whole)
 
 -- a piece of a text
 pub some_left : (text rest : List ℕ) → length rest < length text → text ≢ []

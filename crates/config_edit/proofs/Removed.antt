@@ -117,18 +117,18 @@ losing_begins key places text g head_is body_is in_head has_lost is_kept =
     }
 
 -- a section that is finished
-finished : {key : Key} {places : Option (List ℕ)} {g : Group} {text put : List ℕ} {before : List Content} {at : Option Section}
-    (head_was body_was rest : List ℕ) (now : List Content)
-    (base section : Option Section)
-    → Comes text before at (head_was ++ (body_was ++ rest))
-    → IsGroup key places before g text head_was body_was now base section rest → IsFinished g put
-    → (next : Option Section) × Passed base put now next rest × Becomes (Comes text) (MayUnset key places) (head_was ++ body_was) rest put
-finished {g = g} head_was body_was rest now base section place group edit.whole =
-    (section, group.passed, becomes_both head_was g.head.items group.head_changes group.body_changes)
-finished {key = key} {places = places} {g = g} {text = text} head_was body_was rest now base section place group (edit.without_head {end = end} not_kept has_lost is_end) =
-    let (nothing, empty) = group.empty not_kept in
-    let head = group.can_go not_kept (group.in_section has_lost) in
-    let here : Becomes (Comes text) (MayUnset key places) head_was (body_was ++ rest) end = spec.changed spec.none place (inr record {
+finished : {key : Key} {places : Option (List ℕ)} {text rest new put : List ℕ} {section : Option Section} {g : Group} {n : Count}
+    {index : ℕ} (r : Losing key places text rest new section g n index) → IsFinished g put
+    → (next : Option Section) × Passed r.base put r.now_group next rest
+    × Becomes (Comes text) (MayUnset key places) (r.front ++ (r.head_was ++ r.body_was)) rest (new ++ put)
+finished {new = new} {section = section} {g = g} r edit.whole =
+    let changes = becomes_both r.head_was g.head.items r.group.head_changes r.group.body_changes in
+    (section, r.group.passed, becomes_both r.front new r.changes changes)
+finished {key = key} {places = places} {text = text} {rest = rest} {new = new} {g = g} r (edit.without_head {end = end} not_kept has_lost is_end) =
+    let (nothing, empty) = r.group.empty not_kept in
+    let head = r.group.can_go not_kept (r.group.in_section has_lost) in
+    let here : Becomes (Comes text) (MayUnset key places) r.head_was (r.body_was ++ rest) end =
+    spec.changed spec.none r.begins (inr record {
       blanks = head.blanks;
       header = head.header;
       tail = head.tail;
@@ -138,9 +138,9 @@ finished {key = key} {places = places} {g = g} {text = text} head_was body_was r
       is_tail = head.is_tail;
       is_end = is_end;
     }) in (
-      base,
-      rw nothing (holds_then end g.body.items (end_holds base end is_end) (empty base)),
-      becomes_both head_was end here group.body_changes,
+      r.base,
+      rw nothing (holds_then end g.body.items (end_holds r.base end is_end) (empty r.base)),
+      becomes_both r.front new r.changes (becomes_both r.head_was end here r.group.body_changes),
     )
 
 -- another section begins
@@ -247,18 +247,20 @@ blank_is_nothing h blank = absurd (true≢false (sym blank))
 tail_is_lost : (key : Key) (places : Option (List ℕ)) (before : List Content) (section : Section) (bytes blanks rest : List ℕ) (is_line : Bool) → AreBlank blanks
     → edit.IsBlankLine blanks bytes rest is_line → IsLostTail key places before section bytes rest
 tail_is_lost key places before section bytes blanks rest is_line all (tail, joined, t, none) =
-    let whole : IsTail bytes rest is_line =
-    record {
-      blanks = blanks ++ t.blanks;
-      comment = t.comment;
-      are_blank = both_blank blanks t.blanks all t.are_blank;
-      is_comment = t.is_comment;
-      ends = elim t.ends [
-        | inl line ↦ inl (line.0, rw (joined, line.1) (simp append_assoc))
-        | inr end ↦ inr (end.0, end.1, rw (joined, end.2) (simp append_assoc))
-      ];
-    } in
-    inr (inl (is_line, whole, none))
+    inr (inl (
+      is_line,
+      record {
+        blanks = blanks ++ t.blanks;
+        comment = t.comment;
+        are_blank = both_blank blanks t.blanks all t.are_blank;
+        is_comment = t.is_comment;
+        ends = elim t.ends [
+          | inl line ↦ inl (line.0, rw (joined, line.1) (simp append_assoc))
+          | inr end ↦ inr (end.0, end.1, rw (joined, end.2) (simp append_assoc))
+        ];
+      },
+      none,
+    ))
 
 -- an entry that goes
 entry_is_lost : (key : Key) (h : Held) (parts : EntryParts) (section : Option Section) (blanks bytes rest : List ℕ)
@@ -281,8 +283,7 @@ module _ {key : Key} {places : Option (List ℕ)} {text rest new : List ℕ} {se
       let bytes = piece.bytes.now in
       let left = piece.rest.now in
       let was = r.head_was ++ r.body_was in
-      let (next, passed, changes) =
-      finished r.head_was r.body_was rest r.now_group r.base section r.begins r.group done in
+      let (next, passed, changes) = finished r done in
       let at : IsHeaderAt (section_of header) piece.blanks.now bytes = rw e at is.made in
       record {
         front = r.front ++ was;
@@ -297,7 +298,7 @@ module _ {key : Key} {places : Option (List ℕ)} {text rest new : List ℕ} {se
         past = simp append-nil (simp (e, append-nil) at (past_more piece r.past is shorter));
         index_is = r.index_is;
         new_is = holds_join new put r.new_is (passed_holds some passed);
-        changes = rw (append-nil bytes) (becomes_before (becomes_both r.front new r.changes changes) is.joined);
+        changes = rw (append-nil bytes) (becomes_before changes is.joined);
         begins = (r.front ++ was, r.past.joined ∙ ap (λ x. (r.front ++ was) ++ x) is.joined, passed_holds some r.past.passed);
         nothing_read = λ on. refl;
         group = record {
@@ -319,9 +320,10 @@ module _ {key : Key} {places : Option (List ℕ)} {text rest new : List ℕ} {se
       → Without key places (r.old ++ contents_in piece.held section) ((r.now ++ r.now_group) ++ more)
       → Counted key places (r.old ++ contents_in piece.held section) ((r.now ++ r.now_group) ++ more) m
       → Losing key places text piece.rest.now new section now m next
-  losing_turns {m = m} more next_is same t without counted =
+  losing_turns more next_is same t without counted =
       let bytes = piece.bytes.now in
       let left = piece.rest.now in
+      let held = contents_in piece.held section in
       let was = r.head_was ++ r.body_was in
       let (head_was, body_was, joined, group) =
       grouped r.head_was r.body_was r.group (some_left rest left shorter) is.joined t in
@@ -335,14 +337,12 @@ module _ {key : Key} {places : Option (List ℕ)} {text rest new : List ℕ} {se
         body_was = body_was;
         before = r.before;
         at = r.at;
-        old = r.old ++ contents_in piece.held section;
+        old = r.old ++ held;
         now = r.now;
         now_group = r.now_group ++ more;
         base = r.base;
-        past = subst (λ f. IsPast text left f (r.old ++ contents_in piece.held section) section) front_is
-            (rw same at (past_more piece r.past is shorter));
-        index_is = next_is ∙ ap (λ i. i + length (contents_in piece.held section)) r.index_is
-            ∙ sym (length-append r.old (contents_in piece.held section));
+        past = rw (front_is, same) at (past_more piece r.past is shorter);
+        index_is = next_is ∙ ap (λ i. i + length held) r.index_is ∙ sym (length-append r.old held);
         new_is = r.new_is;
         changes = becomes_before r.changes left_is;
         begins = subst (λ x. Comes text r.before r.at x)
@@ -350,8 +350,7 @@ module _ {key : Key} {places : Option (List ℕ)} {text rest new : List ℕ} {se
         nothing_read = λ still. absurd (true≢false (sym still ∙ t.off));
         group = group;
         without = rw (append_assoc r.now r.now_group more) at without;
-        counted = subst (λ c. Counted key places (r.old ++ contents_in piece.held section) c m)
-            (append_assoc r.now r.now_group more) counted;
+        counted = rw (append_assoc r.now r.now_group more) at counted;
       }
 
   pub losing_keeps : {next : ℕ} (now : Group) → ¬ (IsEntryHeld key section piece.held × IsPlaceOf places index)
@@ -421,11 +420,10 @@ pub losing_ends : {key : Key} {places : Option (List ℕ)} {text rest new put : 
     → Losing key places text rest new section g taken.count index → Ends None text contents
     → (rest ≡ []) ⊎ (¬ (IsRead rest)) → IsFinished g put → taken.text.items ≡ new ++ put
     → IsTaken key places text contents taken
-losing_ends {key = key} {places = places} {text = text} {rest = rest} {new = new} {put = put} {section = section} taken r whole left done text_now =
+losing_ends {key = key} {places = places} {text = text} {new = new} {put = put} taken r whole left done text_now =
     let (rest_is, text_is, contents_are) = all_passed r.past.joined r.past.passed whole left in
-    let (next, passed, changes) =
-    finished r.head_was r.body_was rest r.now_group r.base section r.begins r.group done in
-    let all = becomes_before (becomes_both r.front new r.changes changes) rest_is in
+    let (next, passed, changes) = finished r done in
+    let all = becomes_before changes rest_is in
     record {
       now = r.now ++ r.now_group;
       ends = rw text_now (passed_ends rest_is (holds_then new put r.new_is passed));
