@@ -127,44 +127,6 @@ past_comes {front = front} {section = section} past = elim past.passed [
   | at_end none ends ↦ inr (none, rw (past.joined, none, append-nil front) ends)
 ]
 
-pub placing_here : {key : Key} {text rest : List ℕ} {inside : Option Insertion} {e f : End}
-    (was before is_inside after : Bool) (piece : Piece)
-    → (p : Placing key text rest was before inside e) → IsPiece rest piece
-    → length piece.rest.now < length rest → IsEndOf piece f
-    → (IsTrue is_inside ↔ IsIn key (section_after piece.held p.section)) → is_inside ≡ true
-    → ((new : code.Section) → piece.held ≡ held.Header new → after ≡ true)
-    → Placing key text piece.rest.now is_inside after (Some (record { rest = piece.rest; end = f })) f
-placing_here {f = f} was before is_inside after piece p is shorter end_is inside_is inside header =
-    let past = past_more piece p.past is shorter in
-    let closes = closes_more piece p.past is shorter end_is in
-    record {
-      front = p.front ++ piece.bytes.now;
-      contents = p.contents ++ contents_in piece.held p.section;
-      section = section_after piece.held p.section;
-      past = past;
-      inside_is = inside_is;
-      closes = closes;
-      place = record {
-        front = p.front ++ piece.bytes.now;
-        between = [];
-        before = p.contents ++ contents_in piece.held p.section;
-        after = [];
-        there = section_after piece.held p.section;
-        joined = past.joined;
-        cut = refl;
-        comes = past_comes past;
-        apart = elim (piece_apart piece.held piece.blanks.now piece.bytes.now piece.rest.now p.front piece.is_line is.made) [
-          | inl apart ↦ inl apart
-          | inr (new, held_is) ↦ inr (refl, rw (inside, header new held_is) refl)
-        ];
-        closes = closes;
-        in_section = inside_is.0 inside;
-        passed = anywhere (holds_nothing (section_after piece.held p.section));
-        last = spec.none;
-        contents_are = sym (append-nil (p.contents ++ contents_in piece.held p.section));
-      };
-    }
-
 no_item_after : (h : Held) (section : Option Section) → is_item h ≡ false → section_after h section ≡ section
 no_item_after (held.Header new) section none = absurd (true≢false none)
 no_item_after h section none = refl
@@ -191,12 +153,9 @@ place_kept : (key : Key) (text rest : List ℕ) (contents : List Content) (secti
     → (is_inside ≡ false) ⊎ (is_item piece.held ≡ false)
     → IsPlaceSoFar key text piece.rest.now (contents ++ contents_in piece.held section) (section_after piece.held section) is_inside after inside
 place_kept key text rest contents section was before_too is_inside after_too None piece (nothing, false_is) apart is shorter before after either =
-    let now = still_outside key section was is_inside piece.held before false_is after either in (
-      without_in_both contents contents nothing
-          (none_in_piece key piece.held section
-          (inl (outside key (section_after piece.held section) after now))),
-      now,
-    )
+    let now = still_outside key section was is_inside piece.held before false_is after either in
+    let other = outside key (section_after piece.held section) after now in
+    (without_in_both contents contents nothing (none_in_piece key piece.held section (inl other)), now)
 place_kept key text rest contents section was before_too is_inside after_too (Some place) piece r apart is shorter before after either =
     record {
       front = r.front;
@@ -223,22 +182,52 @@ place_kept key text rest contents section was before_too is_inside after_too (So
           ∙ append_assoc r.before r.after (contents_in piece.held section);
     }
 
-pub placing_kept : {key : Key} {text rest : List ℕ} {inside : Option Insertion} {e f : End}
-    (was before is_inside after : Bool) (piece : Piece)
-    → (p : Placing key text rest was before inside e) → ((was && before) ≡ true → NoCommentNext rest) → IsPiece rest piece
-    → length piece.rest.now < length rest → IsEndOf piece f
-    → (IsTrue is_inside ↔ IsIn key (section_after piece.held p.section))
-    → (is_inside ≡ false) ⊎ (is_item piece.held ≡ false) → Placing key text piece.rest.now is_inside after inside f
-placing_kept {key = key} {text = text} {rest = rest} {inside = inside} was before is_inside after piece p apart is shorter end_is inside_is either =
-    record {
-      front = p.front ++ piece.bytes.now;
-      contents = p.contents ++ contents_in piece.held p.section;
-      section = section_after piece.held p.section;
-      past = past_more piece p.past is shorter;
-      inside_is = inside_is;
-      closes = closes_more piece p.past is shorter end_is;
-      place = place_kept key text rest p.contents p.section was before is_inside after inside piece p.place apart is shorter p.inside_is inside_is either;
-    }
+module _ {key : Key} {text rest : List ℕ} {was before : Bool} {inside : Option Insertion} {e f : End}
+    (p : Placing key text rest was before inside e) {piece : Piece} (is : IsPiece rest piece)
+    (shorter : length piece.rest.now < length rest) (end_is : IsEndOf piece f) (is_inside after : Bool)
+    (inside_is : IsTrue is_inside ↔ IsIn key (section_after piece.held p.section)) where
+  placing_more : (now : Option Insertion)
+      → IsPlaceSoFar key text piece.rest.now (p.contents ++ contents_in piece.held p.section) (section_after piece.held p.section) is_inside after now
+      → Placing key text piece.rest.now is_inside after now f
+  placing_more now place =
+      record {
+        front = p.front ++ piece.bytes.now;
+        contents = p.contents ++ contents_in piece.held p.section;
+        section = section_after piece.held p.section;
+        past = past_more piece p.past is shorter;
+        inside_is = inside_is;
+        closes = closes_more piece p.past is shorter end_is;
+        place = place;
+      }
+
+  pub placing_here : is_inside ≡ true → ((new : code.Section) → piece.held ≡ held.Header new → after ≡ true)
+      → Placing key text piece.rest.now is_inside after (Some (record { rest = piece.rest; end = f })) f
+  placing_here inside_now header =
+      let past = past_more piece p.past is shorter in
+      placing_more (Some (record { rest = piece.rest; end = f })) (record {
+        front = p.front ++ piece.bytes.now;
+        between = [];
+        before = p.contents ++ contents_in piece.held p.section;
+        after = [];
+        there = section_after piece.held p.section;
+        joined = past.joined;
+        cut = refl;
+        comes = past_comes past;
+        apart = elim (piece_apart piece.held piece.blanks.now piece.bytes.now piece.rest.now p.front piece.is_line is.made) [
+          | inl apart ↦ inl apart
+          | inr (new, held_is) ↦ inr (refl, rw (inside_now, header new held_is) refl)
+        ];
+        closes = closes_more piece p.past is shorter end_is;
+        in_section = inside_is.0 inside_now;
+        passed = anywhere (holds_nothing (section_after piece.held p.section));
+        last = spec.none;
+        contents_are = sym (append-nil (p.contents ++ contents_in piece.held p.section));
+      })
+
+  pub placing_kept : ((was && before) ≡ true → NoCommentNext rest) → (is_inside ≡ false) ⊎ (is_item piece.held ≡ false)
+      → Placing key text piece.rest.now is_inside after inside f
+  placing_kept apart either =
+      placing_more inside (place_kept key text rest p.contents p.section was before is_inside after inside piece p.place apart is shorter p.inside_is inside_is either)
 
 places_at_end : (key : Key) (text : List ℕ) (contents : List Content) (section : Option Section)
     (is_inside after : Bool) (inside : Option Insertion)

@@ -149,13 +149,9 @@ comment_behind (b ∷ front) more all = comment_behind front more (more_bytes b 
 
 written_parts : {comment written : List ℕ} → list_all is_comment_byte comment ≡ true → WritesComment comment written
     → (blanks more : List ℕ) × (written ≡ blanks ++ 35 ∷ more) × AreBlank blanks × (list_all is_comment_byte more ≡ true)
-written_parts all (spec.spaced b blanks more spaces) = (
-  b ∷ blanks,
-  more,
-  refl,
-  all_more is_space is_blank space_is_blank (b ∷ blanks) spaces,
-  comment_behind (b ∷ blanks) more all,
-)
+written_parts all (spec.spaced b blanks more spaces) =
+    let are_blank = all_more is_space is_blank space_is_blank (b ∷ blanks) spaces in
+    (b ∷ blanks, more, refl, are_blank, comment_behind (b ∷ blanks) more all)
 written_parts all (spec.signed {more = more}) = (32 ∷ [], more, refl, refl, more_bytes 35 more all)
 written_parts all (spec.plain {comment = comment} other) = (32 ∷ [], 32 ∷ comment, refl, refl, all)
 
@@ -331,10 +327,7 @@ module _ {value at key between core_all blanks front feed : List ℕ} {lines : �
         raw = raw_now;
         spells = spells;
         takes = λ at end.
-            let (now, letter) = h.holds raw_now value at spells end in (
-              rw text_is at now,
-              rw text_is at letter,
-            );
+            let (now, letter) = h.holds raw_now value at spells end in (rw text_is at now, rw text_is at letter);
       }
 
   before_alone : {bytes : List ℕ} → core_all ++ blanks ≡ front ++ (key ++ (between ++ bytes))
@@ -360,10 +353,8 @@ module _ {value at key between core_all blanks front feed : List ℕ} {lines : �
         raw = raw_now;
         spells = spells;
         takes = λ at end.
-            let (now, letter) = with_value (key ++ (between ++ [])) gap raw_now value {rest = at} refl refl begins takes is_gap spells end in (
-              rw (text_is at) at now,
-              rw (text_is at) at letter,
-            );
+            let (now, letter) = with_value (key ++ (between ++ [])) gap raw_now value {rest = at} refl refl begins takes is_gap spells end in
+            (rw (text_is at) at now, rw (text_is at) at letter);
       }
 
   before_of : {bytes : List ℕ} (parts : EntryParts) (was : Option (List ℕ)) → core_all ++ blanks ≡ front ++ (key ++ (between ++ bytes))

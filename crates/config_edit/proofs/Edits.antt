@@ -48,13 +48,8 @@ pub holds_join : {section middle next : Option Section} (a b : List ℕ) {xs ys 
     → Holds section (a ++ b) (xs ++ ys) next
 holds_join a b first second = λ line other.
     let (half, entries, leads, same) = first line (b ++ other) in
-    let (end, more, later, also) = second half other in (
-      end,
-      entries ++ more,
-      rw (append_assoc a b other)
-          (onward leads later),
-      two_contents entries more same also,
-    )
+    let (end, more, later, also) = second half other in
+    (end, entries ++ more, rw append_assoc (onward leads later), two_contents entries more same also)
 
 pub holds_end : {section middle : Option Section} (a b : List ℕ) {xs ys : List Content}
     → Holds section a xs middle → Ends middle b ys → Ends section (a ++ b) (xs ++ ys)
@@ -233,11 +228,9 @@ module _ {from to : Key} {text rest new : List ℕ} {is_found : Bool} (r : Renam
         changes = spec.kept piece.bytes.now (becomes_before r.changes is.joined);
         unfound = λ none.
             let (nothing, outside) = r.unfound none in
-            let still = still_outside from piece.held r.section other outside in (
-              without_in_both r.old_contents r.old_contents nothing
-                  (none_in_piece from piece.held r.section (inl still)),
-              still,
-            );
+            let still = still_outside from piece.held r.section other outside in
+            let none = none_in_piece from piece.held r.section (inl still) in
+            (without_in_both r.old_contents r.old_contents nothing none, still);
       }
 
   pub renaming_changes : (piece : Piece) (put : List ℕ) → IsPiece rest piece → length piece.rest.now < length rest

@@ -217,11 +217,8 @@ pub tail_ends : {tail rest : List ℕ} {is_line : Bool} → is_line ≡ false �
 tail_ends {tail = tail} is t section line =
     elim t.ends [
       | inl line_is ↦ absurd (true≢false (sym line_is.0 ∙ is))
-      | inr end_is ↦ (
-        end_is.1,
-        rw end_is.2
-            (blanks_read t.blanks t.are_blank (comment_ends t.is_comment section line)),
-      )
+      | inr end_is ↦
+          (end_is.1, rw end_is.2 (blanks_read t.blanks t.are_blank (comment_ends t.is_comment section line)))
     ]
 
 line_passed : {tail rest bytes : List ℕ} (blanks : List ℕ) (is_line : Bool) → AreBlank blanks
@@ -249,23 +246,23 @@ comment_cut {bytes = bytes} {sign = sign} e is run =
 pub no_comment : (text : List ℕ) → (comment : List ℕ) × (text ≡ comment ++ text) × IsComment comment
 no_comment text = ([], refl, absent)
 
-pub tail_of_line : {text blanks at comment end rest : List ℕ} → Run is_blank text blanks at
-    → at ≡ comment ++ end → IsComment comment → end ≡ 10 ∷ rest
-    → (tail : List ℕ) × (text ≡ tail ++ rest) × (t : IsTail tail rest true) × (t.comment ≡ comment)
-tail_of_line {blanks = blanks} {comment = comment} run at_is is end_is = (
-  blanks ++ (comment ++ 10 ∷ []),
+pub tail_of : {text blanks at comment end rest : List ℕ} {is_line : Bool} (last : List ℕ) → Run is_blank text blanks at
+    → at ≡ comment ++ end → IsComment comment → end ≡ last ++ rest
+    → ((is_line ≡ true) × (last ≡ 10 ∷ [])) ⊎ ((is_line ≡ false) × (rest ≡ []) × (last ≡ []))
+    → (tail : List ℕ) × (text ≡ tail ++ rest) × (t : IsTail tail rest is_line) × (t.comment ≡ comment)
+tail_of {blanks = blanks} {comment = comment} last run at_is is end_is ends = (
+  blanks ++ (comment ++ last),
   run.joined ∙ rw (at_is, end_is) (simp append_assoc),
-  record { blanks = blanks; comment = comment; are_blank = run.pass; is_comment = is; ends = inl (refl, refl) },
-  refl,
-)
-
-pub tail_of_end : {text blanks at comment end : List ℕ} → Run is_blank text blanks at → at ≡ comment ++ end
-    → IsComment comment → end ≡ []
-    → (tail : List ℕ) × (text ≡ tail ++ end) × (t : IsTail tail end false) × (t.comment ≡ comment)
-tail_of_end {blanks = blanks} {comment = comment} run at_is is end_is = (
-  blanks ++ comment,
-  run.joined ∙ rw at_is (simp append_assoc),
-  record { blanks = blanks; comment = comment; are_blank = run.pass; is_comment = is; ends = inr (refl, end_is, refl) },
+  record {
+    blanks = blanks;
+    comment = comment;
+    are_blank = run.pass;
+    is_comment = is;
+    ends = elim ends [
+      | inl (line, e) ↦ inl (line, rw e refl)
+      | inr (off, none, e) ↦ inr (off, none, rw (e, append-nil comment) refl)
+    ];
+  },
   refl,
 )
 
