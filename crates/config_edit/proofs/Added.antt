@@ -91,10 +91,7 @@ piece_apart : (h : Held) (blanks bytes rest front : List ℕ) (is_line : Bool) �
 piece_apart (held.Entry parts) blanks bytes rest front is_line made =
     inl (apart_with front (blanks ++ made.front) (made.joined ∙ sym (append_assoc blanks made.front made.tail)) made.is_tail)
 piece_apart (held.Header new) blanks bytes rest front is_line made = inr (new, refl)
-piece_apart held.Nothing blanks bytes rest front is_line (tail, joined, t, none) =
-    inl (apart_with front blanks joined t)
-piece_apart held.Comment blanks bytes rest front is_line (tail, joined, t) =
-    inl (apart_with front blanks joined t)
+piece_apart h blanks bytes rest front is_line made = inl (apart_with front blanks made.1 made.2)
 
 no_sign : (b : ℕ) → is_blank b ≡ true → is_comment_sign b ≡ false
 no_sign b blank = grind (arith, nat_tests)

@@ -136,26 +136,30 @@ key_before_value {key = key} {after = after} {b = b} takes is =
       λ other. rw is at (key_moved (b ∷ after) (b ∷ other) (follows [] b after other no_return) takes),
     )
 
-value_moved : {after raw rest : List ℕ} {lines : ℕ} (other : List ℕ) → Follows rest other → rest ≢ []
-    → TakesValue after raw lines rest
-    → (after ≡ raw ++ rest) × TakesValue (raw ++ other) raw lines other
-value_moved other f some (closed joined spells ends) = (joined, closed refl spells (f.ends_value ends))
-value_moved other f some (open_end spells) = absurd (some refl)
-
-entry_moved : {text key rest : List ℕ} {value : Option (List ℕ)} {lines : ℕ} (other : List ℕ)
-    → Follows rest other → rest ≢ [] → TakesEntry text key value lines rest
-    → (front : List ℕ) × (text ≡ front ++ rest) × TakesEntry (front ++ other) key value lines other
-entry_moved other f some (alone {key = key} {rest = rest} takes end) =
-    (key ++ takes.spaces, key_joined rest takes, alone (key_moved rest other f takes) (f.line_end end))
-entry_moved other f some (valued {b = b} {lines = lines} {key = key} {after = after} {raw = raw} {rest = rest} takes is taken) =
-    let (joined, moved) = value_moved other f some taken in
+-- an entry is bytes before a rest, and the same bytes are it before any text that can stand for that rest
+entry_moved : {text key rest : List ℕ} {value : Option (List ℕ)} {lines : ℕ} → TakesEntry text key value lines rest
+    → (front : List ℕ) × (text ≡ front ++ rest)
+    × ((other : List ℕ) → Follows rest other → rest ≢ [] → TakesEntry (front ++ other) key value lines other)
+entry_moved (alone {key = key} {rest = rest} takes end) = (
+  key ++ takes.spaces,
+  key_joined rest takes,
+  λ other f some. alone (key_moved rest other f takes) (f.line_end end),
+)
+entry_moved (valued {b = b} {key = key} {after = after} takes is (closed {raw = raw} {rest = rest} joined spells ends)) =
     let front = key ++ takes.spaces in
-    let no_return : b ≢ 13 = omega arith in
-    let moves = follows [] b after (raw ++ other) no_return in (
+    let no_return : b ≢ 13 = omega arith in (
       front ++ b ∷ raw,
       key_joined (b ∷ after) takes ∙ ap (λ t. front ++ b ∷ t) joined ∙ sym (append_assoc front (b ∷ raw) rest),
-      rw (append_assoc front (b ∷ raw) other) (valued (key_moved (b ∷ after) (b ∷ (raw ++ other)) moves takes) is moved),
+      λ other f some.
+          let moves = follows [] b after (raw ++ other) no_return in
+          let key_now = key_moved (b ∷ after) (b ∷ (raw ++ other)) moves takes in
+          rw (append_assoc front (b ∷ raw) other) (valued key_now is (closed refl spells (f.ends_value ends))),
     )
+entry_moved (valued {b = b} {key = key} {after = after} takes is (open_end spells)) = (
+  (key ++ takes.spaces) ++ b ∷ after,
+  key_joined (b ∷ after) takes ∙ sym (append-nil ((key ++ takes.spaces) ++ b ∷ after)),
+  λ other f some. absurd (some refl),
+)
 
 -- the same letter begins a text before any other rest
 pub letter_before : (front : List ℕ) (b : ℕ) (after other : List ℕ) → BeginsWithLetter (front ++ b ∷ after)
@@ -282,10 +286,10 @@ entry_holds {key = key} {at = at} {rest = rest} {value = value} {lines = lines} 
     let left : at ≡ lead ++ 10 ∷ rest = e.left ∙ before rest in
     let no_return : 10 ≢ 13 = omega arith in
     let moves : Follows at (e.tail ++ other) = rw (left, before other) (follows lead 10 rest other no_return) in
-    let (front, joined, moved) =
-    entry_moved (e.tail ++ other) moves (λ none. not_none lead rest 10 (sym left ∙ none)) e.takes in
+    let (front, joined, moved) = entry_moved e.takes in
     let taken : TakesEntry (e.front ++ (e.tail ++ other)) key value lines (e.tail ++ other) =
-    rw (append_cancel_right e.front front at joined) moved in
+    rw (append_cancel_right e.front front at joined)
+    (moved (e.tail ++ other) moves (λ none. not_none lead rest 10 (sym left ∙ none))) in
     let begins_before : BeginsWithLetter ((e.front ++ lead) ++ 10 ∷ rest) =
     rw (append_assoc e.front lead (10 ∷ rest), ← left) e.begins in
     let (b, more, begins, letter) = letter_before (e.front ++ lead) 10 rest other begins_before in
@@ -331,10 +335,7 @@ pub made_passed : (h : Held) {bytes rest : List ℕ} (blanks : List ℕ) (is_lin
     → Passed section bytes (contents_in h section) (section_after h section) rest
 made_passed (held.Entry parts) blanks is_line all made section = entry_passed blanks is_line all made section
 made_passed (held.Header new) blanks is_line all made section = anywhere (header_holds all made section)
-made_passed held.Nothing blanks is_line all (tail, joined, t, none) section =
-    line_passed blanks is_line all joined t section
-made_passed held.Comment blanks is_line all (tail, joined, t) section =
-    line_passed blanks is_line all joined t section
+made_passed h blanks is_line all made section = line_passed blanks is_line all made.1 made.2 section
 
 -- where no piece is, no file is read
 pub refused : {text at : List ℕ} (blanks : List ℕ) → text ≡ blanks ++ at → AreBlank blanks
@@ -344,11 +345,10 @@ refused blanks joined all stops (section, line, entries, reads) =
     let (error, stop) = stops section line in
     let same : None ≡ Some error = (reads_once (rw joined at reads) (blanks_read blanks all stop)).1 in cc
 
-pub header_stops : {at after : List ℕ} {lines : ℕ} {fault : FileFault} → at ≡ 91 ∷ after
-    → HeaderStops after lines fault
-    → (section : Option Section) (line : ℕ) → (error : FileError) × Reads section line at [] (Some error)
-header_stops {lines = lines} {fault = fault} e stops section line =
-    (file.error_at (line + lines) fault, rw e (file.header_refused refl stops))
+pub header_stops : {after : List ℕ} {lines : ℕ} {fault : FileFault} → HeaderStops after lines fault
+    → (section : Option Section) (line : ℕ) → (error : FileError) × Reads section line (91 ∷ after) [] (Some error)
+header_stops {lines = lines} {fault = fault} stops section line =
+    (file.error_at (line + lines) fault, file.header_refused refl stops)
 
 pub entry_stops : {at : List ℕ} {lines : ℕ} {fault : FileFault} → BeginsWithLetter at → EntryStops at lines fault
     → (section : Option Section) (line : ℕ) → (error : FileError) × Reads section line at [] (Some error)
@@ -432,26 +432,13 @@ pub header_front : {text after rest : List ℕ} {new : Section} (blanks : List �
 header_front blanks joined header =
     let (inner, is, moved) = header_moved header in line_front blanks (91 ∷ inner) joined (ap (λ x. 91 ∷ x) is)
 
-entry_front : {at key prest : List ℕ} {value : Option (List ℕ)} {lines : ℕ}
-    → TakesEntry at key value lines prest → (front : List ℕ) × (at ≡ front ++ prest)
-entry_front (alone {key = key} {rest = rest} takes end) = (key ++ takes.spaces, key_joined rest takes)
-entry_front (valued {b = b} {key = key} {after = after} takes is (closed {raw = raw} {rest = rest} joined spells ends)) = (
-  (key ++ takes.spaces) ++ b ∷ raw,
-  key_joined (b ∷ after) takes ∙ ap (λ x. (key ++ takes.spaces) ++ b ∷ x) joined
-      ∙ sym (append_assoc (key ++ takes.spaces) (b ∷ raw) rest),
-)
-entry_front (valued {b = b} {key = key} {after = after} takes is (open_end spells)) = (
-  (key ++ takes.spaces) ++ b ∷ after,
-  key_joined (b ∷ after) takes ∙ sym (append-nil ((key ++ takes.spaces) ++ b ∷ after)),
-)
-
 pub entry_cut : {text at bytes rest tail key after : List ℕ} {value : Option (List ℕ)} {lines : ℕ}
     (blanks : List ℕ) (is_line : Bool)
     → text ≡ blanks ++ at → BeginsWithLetter at
     → TakesEntry at key value lines after → after ≡ tail ++ rest → IsTail tail rest is_line
     → text ≡ bytes ++ rest → IsEntry key value lines after blanks bytes rest is_line
 entry_cut {at = at} {rest = rest} {tail = tail} {after = after} blanks is_line joined letter takes left is_tail cut =
-    let (front, at_is) = entry_front takes in
+    let (front, at_is, unused) = entry_moved takes in
     record {
       front = front;
       tail = tail;
@@ -467,7 +454,7 @@ pub entry_text_front : {at key prest text rest : List ℕ} {value : Option (List
     → text ≡ blanks ++ at → TakesEntry at key value lines prest
     → prest ≡ tail ++ rest → (front : List ℕ) × (text ≡ front ++ rest)
 entry_text_front {at = at} {prest = prest} {rest = rest} blanks tail joined takes left =
-    let (front, at_is) = entry_front takes in
+    let (front, at_is, unused) = entry_moved takes in
     line_front blanks (front ++ tail) joined (joined_more at front prest tail rest at_is left)
 
 pub line_made : (h : Held) {bytes rest : List ℕ} (blanks : List ℕ) (is_line : Bool) (tail : List ℕ)

@@ -22,4 +22,4 @@ returns-in-Ok-clause-shorter c =
 
 pub returns-in-Err-clause-piece : goal.returns-in-Err-clause-piece
 returns-in-Err-clause-piece c =
-    refused c.args.blanks.now c.requires.joined c.requires.blank (header_stops refl c.in-Err.ensures)
+    refused c.args.blanks.now c.requires.joined c.requires.blank (header_stops c.in-Err.ensures)
