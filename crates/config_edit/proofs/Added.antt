@@ -5,8 +5,8 @@ use Rattle.std.proofs.Common.{append_assoc, append-nil, inl, inr, ◌⊎◌, ◌
 use Rattle.std.specs.List.{list_all}
 use Rattle.std.specs.Char.{to_ascii_lowercase, is_ascii_alphabetic}
 use Rattle.std.proofs.lemmas.List.{append_cancel_right}
-use Rattle.std.proofs.lemmas.Bool.{and_parts, cases_Bool}
-use Rattle.std.proofs.lemmas.Bool.Decides.{nat_tests}
+use Rattle.std.proofs.lemmas.Bool.{and_parts, cases_Bool, false_from_ne_true}
+use Rattle.config_file.proofs.OneRun.{run_same}
 use Rattle.config_edit.specs.declared.setting.Insertion.{Insertion}
 use Rattle.config_edit.specs.declared.setting.Places.{Places}
 use Rattle.config_edit.specs.declared.write.End.{End}
@@ -36,7 +36,7 @@ use Rattle.config_edit.specs.Reading.{IsAdded, new_line}
 use Rattle.config_edit.specs.Edit.{AreBlank, IsEntry, IsTail, absent}
 use Rattle.config_file.specs.Reading.Spellings.{is_section, is_spellable}
 use Rattle.config_file.specs.Spelling.{spelled_section, git_spelled}
-use Rattle.config_edit.proofs.Pieces.{header_holds, entry_holds, made_passed, first_of, first_blank, other_blanks}
+use Rattle.config_edit.proofs.Pieces.{header_holds, entry_holds, made_passed, blank_no_sign}
 use Rattle.config_file.proofs.LineEnds.{not_none}
 use Rattle.config_file.proofs.SpelledHeaders.{header_spelled, letter_is_key_byte}
 use Rattle.config_file.proofs.Spellings.{git_spelling}
@@ -93,21 +93,17 @@ piece_apart (held.Entry parts) blanks bytes rest front is_line made =
 piece_apart (held.Header new) blanks bytes rest front is_line made = inr (new, refl)
 piece_apart h blanks bytes rest front is_line made = inl (apart_with front blanks made.1 made.2)
 
-no_sign : (b : ℕ) → is_blank b ≡ true → is_comment_sign b ≡ false
-no_sign b blank = grind (arith, nat_tests)
-
 no_comment_at : (before : List ℕ) (c : ℕ) (rest : List ℕ) → AreBlank before → is_blank c ≡ false
     → is_comment_sign c ≡ false
     → (blanks more : List ℕ) (b : ℕ) → before ++ c ∷ rest ≡ blanks ++ b ∷ more → AreBlank blanks
     → is_comment_sign b ≡ false
-no_comment_at [] c rest all no_blank other blanks more b e also =
-    subst (λ x. is_comment_sign x ≡ false) (sym (first_of blanks more (sym e) also no_blank)) other
-no_comment_at (x ∷ before) c rest all no_blank other [] more b e also =
-    let same : x ≡ b = cc in
-    no_sign b (rw same at (first_blank x before all))
-no_comment_at (x ∷ before) c rest all no_blank other (y ∷ blanks) more b e also =
-    let left : before ++ c ∷ rest ≡ blanks ++ b ∷ more = cc in
-    no_comment_at before c rest (other_blanks x before all) no_blank other blanks more b left (other_blanks y blanks also)
+no_comment_at before c rest all no_blank other blanks more b e also = elim (cases_Bool (is_blank b)) [
+  | inl blank ↦ false_from_ne_true (is_comment_sign b) (blank_no_sign b blank)
+  | inr none ↦
+      let left = (run_same is_blank before blanks (c ∷ rest) (b ∷ more) all also no_blank none e).1 in
+      let same : c ≡ b = cc in
+      rw same at other
+]
 
 pub header_next : {rest : List ℕ} (h : Held) (blanks bytes more : List ℕ) (is_line : Bool) (new : code.Section)
     → h ≡ held.Header new → AreBlank blanks → IsMade h blanks bytes more is_line → rest ≡ bytes ++ more → NoCommentNext rest
@@ -137,10 +133,8 @@ still_outside : (key : Key) (section : Option Section) (was is_inside : Bool) (h
     → (is_inside ≡ false) ⊎ (is_item h ≡ false) → is_inside ≡ false
 still_outside key section was is_inside h before false_is after (inl outside_now) = outside_now
 still_outside key section was is_inside h before false_is after (inr no_item) =
-    elim (cases_Bool is_inside) [
-      | inl inside ↦ absurd (outside key section before false_is (rw (no_item_after h section no_item) at (after.0 inside)))
-      | inr outside_now ↦ outside_now
-    ]
+    false_from_ne_true is_inside
+    (λ inside. outside key section before false_is (rw (no_item_after h section no_item) at (after.0 inside)))
 
 place_kept : (key : Key) (text rest : List ℕ) (contents : List Content) (section : Option Section)
     (was before is_inside after : Bool) (inside : Option Insertion) (piece : Piece)

@@ -23,6 +23,7 @@ use Rattle.config_edit.specs.Edit.{AreBlank, IsComment, absent, present, IsTail,
 use Rattle.config_file.proofs.LineEnds.{not_none}
 use Rattle.config_file.specs.Bytes.{BeginsWithLetter}
 use Rattle.config_file.proofs.OneReading.{reads_once}
+use Rattle.config_file.proofs.OneRun.{run_same}
 use Rattle.config_file.proofs.Readings.{at_entry, begins_none}
 
 -- the reading goes on where the bytes before lead
@@ -355,19 +356,13 @@ pub entry_stops : {at : List ℕ} {lines : ℕ} {fault : FileFault} → BeginsWi
 entry_stops {lines = lines} {fault = fault} (b, more, begins, letter) stops section line =
     (file.error_at (line + lines) fault, rw begins (file.entry_refused letter (rw begins at stops)))
 
-pub first_of : (blanks more : List ℕ) {b c : ℕ} {rest : List ℕ} → blanks ++ b ∷ more ≡ c ∷ rest → AreBlank blanks
-    → is_blank c ≡ false → b ≡ c
-first_of [] more e all no_blank = cc
-first_of (x ∷ blanks) more {c = c} e all no_blank =
-    let same : x ≡ c = cc in
-    absurd (true≢false (sym (rw same at (first_blank x blanks all)) ∙ no_blank))
-
 pub nothing_stops : (at : List ℕ) → StartsLine at → GoesOn at → (section : Option Section) (line : ℕ)
     → (error : FileError) × Reads section line at [] (Some error)
 nothing_stops [] starts (blanks, b, more, joined, all, unused, no_sign, no_line) section line =
     absurd (not_none blanks more b (sym joined))
-nothing_stops (c ∷ rest) (no_blank, no_bracket, no_letter) (blanks, b, more, joined, all, unused, no_sign, no_line) section line =
-    let same : b ≡ c = first_of blanks more (sym joined) all no_blank in
+nothing_stops (c ∷ rest) (no_blank, no_bracket, no_letter) (blanks, b, more, joined, all, other, no_sign, no_line) section line =
+    let left = (run_same is_blank [] blanks (c ∷ rest) (b ∷ more) refl all no_blank other joined).1 in
+    let same : b ≡ c = cc in
     let sign : is_comment_sign c ≡ false = rw (sym same) no_sign in
     let feed : c ≢ 10 = λ is. no_line (same ∙ is) in
     (file.error_at line (fault_at (c ∷ rest)), file.no_item (begins_none c no_blank feed sign no_bracket no_letter))

@@ -2,6 +2,7 @@
 use Rattle.std.proofs.Common.{◌≡◌, ◌≢◌, ℕ, ◌<◌, Bool, true, false, not, ◌||◌, List, [], ◌∷◌, ◌++◌, Option}
 use Rattle.std.proofs.Common.{Some, None, length, refl, sym, ap, ◌∙◌, subst, append_assoc, append-nil, inl}
 use Rattle.std.proofs.Common.{inr, ◌⊎◌, ◌+◌, true≢false, length-append}
+use Rattle.std.proofs.lemmas.Bool.{or_parts}
 use Rattle.config_edit.specs.declared.removal.Count.{Count}
 use Rattle.config_edit.specs.declared.removal.Count.TheVariants as count
 use Rattle.config_edit.specs.declared.removal.Group.{Group}
@@ -236,13 +237,9 @@ grouped {g = g} {bytes = bytes} head_was body_was group some joined t =
     ]
 
 -- a piece that stays
-is_kept_before : (kept blank : Bool) → (kept || not blank) ≡ false → (kept ≡ false) × (blank ≡ true)
-is_kept_before false true e = (refl, refl)
-is_kept_before kept blank e = absurd (true≢false e)
-
-blank_is_nothing : (h : Held) → is_blank_held h ≡ true → h ≡ held.Nothing
+blank_is_nothing : (h : Held) → not (is_blank_held h) ≡ false → h ≡ held.Nothing
 blank_is_nothing held.Nothing blank = refl
-blank_is_nothing h blank = absurd (true≢false (sym blank))
+blank_is_nothing h blank = absurd (true≢false blank)
 
 tail_is_lost : (key : Key) (places : Option (List ℕ)) (before : List Content) (section : Section) (bytes blanks rest : List ℕ) (is_line : Bool) → AreBlank blanks
     → edit.IsBlankLine blanks bytes rest is_line → IsLostTail key places before section bytes rest
@@ -364,7 +361,7 @@ module _ {key : Key} {places : Option (List ℕ)} {text rest new : List ℕ} {se
       let stays : Stays key places section piece.held r.old = rw r.index_is at other in
       let passed = λ (s : Option Section). made_passed piece.held piece.blanks.now piece.is_line is.blank is.made s in
       let before = λ (not_kept : now.is_kept ≡ false).
-      is_kept_before g.is_kept (is_blank_held piece.held) (sym kept_is ∙ not_kept) in
+      or_parts g.is_kept (not (is_blank_held piece.held)) (sym kept_is ∙ not_kept) in
       let nothing = λ (not_kept : now.is_kept ≡ false). blank_is_nothing piece.held (before not_kept).1 in
       losing_turns (contents_in piece.held section) next_is same (record {
         pushed = pushed;
