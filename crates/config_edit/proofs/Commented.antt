@@ -35,42 +35,18 @@ use Rattle.config_file.proofs.LineEnds.{all_more, not_none, rest_none}
 uncons : {b c : ℕ} {more rest : List ℕ} → b ∷ more ≡ c ∷ rest → (b ≡ c) × (more ≡ rest)
 uncons e = ((cc), (cc))
 
--- a text that is cut at two places
-cut : (a b c d : List ℕ) → a ++ b ≡ c ++ d
-    → ((m : List ℕ) × (c ≡ a ++ m) × (b ≡ m ++ d)) ⊎ ((m : List ℕ) × (a ≡ c ++ m) × (d ≡ m ++ b))
-cut [] b c d e = inl (c, refl, e)
-cut (x ∷ a) b [] d e = inr (x ∷ a, refl, sym e)
-cut (x ∷ a) b (y ∷ c) d e =
-    let (same, more) = uncons e in
-    elim (cut a b c d more) [
-      | inl (m, front, back) ↦ inl (m, cc, back)
-      | inr (m, front, back) ↦ inr (m, cc, back)
-    ]
-
--- blanks do not hold a byte that is none
-no_blank_left : (more : List ℕ) (x : ℕ) (c m : List ℕ) → more ++ x ∷ [] ≡ c ++ m → AreBlank m
-    → is_blank x ≡ false → m ≡ []
-no_blank_left more x [] m e all other =
-    absurd (true≢false (sym (first_blank x [] (parts_blank more (x ∷ []) (rw (← e) at all)).1) ∙ other))
-no_blank_left [] x (z ∷ c) m e all other =
-    rest_none c m (sym (uncons e).1)
-no_blank_left (w ∷ more) x (z ∷ c) m e all other =
-    no_blank_left more x c m (uncons e).1 all other
-
 -- the blanks at the end of a text stay behind a byte that is none
-trail_within : (xs ys core blanks more : List ℕ) (x : ℕ) → xs ≡ more ++ x ∷ [] → is_blank x ≡ false
-    → core ++ blanks ≡ xs ++ ys → AreBlank blanks → (inner : List ℕ) × (ys ≡ inner ++ blanks) × (core ≡ xs ++ inner)
-trail_within xs ys core blanks more x ends other joined all =
-    elim (cut xs ys core blanks (sym joined)) [
-      | inl (m, core_is, ys_is) ↦ (m, ys_is, core_is)
-      | inr (m, xs_is, blanks_is) ↦
-          let none : m ≡ [] =
-          no_blank_left more x core m (sym ends ∙ xs_is) (parts_blank m ys (subst AreBlank blanks_is all)).0 other in (
-            [],
-            sym (blanks_is ∙ ap (λ k. k ++ ys) none),
-            sym (append-nil xs ∙ xs_is ∙ ap (λ k. core ++ k) none ∙ append-nil core),
-          )
-    ]
+trail_within : (front : List ℕ) (x : ℕ) (more core blanks : List ℕ) → is_blank x ≡ false → AreBlank blanks
+    → core ++ blanks ≡ front ++ x ∷ more → (inner : List ℕ) × (more ≡ inner ++ blanks) × (core ≡ front ++ x ∷ inner)
+trail_within front x more [] blanks other all e =
+    absurd (true≢false (sym (first_blank x more (parts_blank front (x ∷ more) (rw e at all)).1) ∙ other))
+trail_within [] x more (c ∷ core) blanks other all e =
+    let (same, left) = uncons e in
+    (core, sym left, ap (λ b. b ∷ core) same)
+trail_within (f ∷ front) x more (c ∷ core) blanks other all e =
+    let (same, left) = uncons e in
+    let (inner, more_is, core_is) = trail_within front x more core blanks other all left in
+    (inner, more_is, cc)
 
 -- a value without the blanks behind it
 no_blank : (b c : ℕ) → is_blank b ≡ true → b ≡ c → is_blank c ≡ false → ⊥
@@ -175,27 +151,23 @@ front_of_spaced {blanks = b ∷ blanks} {after = after} run sign some = rw (run.
 letter_no_feed : (b : ℕ) → is_ascii_alphabetic b ≡ true → b ≡ 10 → ⊥
 letter_no_feed b letter is = grind (arith, nat_tests)
 
-letter_ends : (m bytes rest : List ℕ) → BeginsWithLetter (bytes ++ rest) → bytes ≢ [] → 13 ∷ 10 ∷ [] ≡ m ++ bytes → bytes ≡ 13 ∷ 10 ∷ []
-letter_ends [] bytes rest letter some e = sym e
-letter_ends (x ∷ []) bytes rest (b, more, bytes_is, letter) some e =
-    let begins : 10 ∷ rest ≡ b ∷ more = ap (λ t. t ++ rest) (uncons e).1 ∙ bytes_is in
-    absurd (letter_no_feed b letter (sym (uncons begins).0))
-letter_ends (x ∷ y ∷ m) bytes rest letter some e = absurd (some (rest_none m bytes (sym (uncons (uncons e).1).1)))
+ends_behind : (front blanks gone rest : List ℕ) → BeginsWithLetter (gone ++ rest) → gone ≢ []
+    → front ++ 13 ∷ 10 ∷ [] ≡ blanks ++ gone → IsEndOfLine gone true (13 ∷ 10 ∷ [])
+ends_behind front [] gone rest letter some e = rw (← e) (spec.return_feed front)
+ends_behind (f ∷ front) (b ∷ blanks) gone rest letter some e = ends_behind front blanks gone rest letter some (uncons e).1
+ends_behind [] (b ∷ []) gone rest (l, more, gone_is, letter) some e =
+    let begins : 10 ∷ rest ≡ l ∷ more = ap (λ t. t ++ rest) (uncons e).1 ∙ gone_is in
+    absurd (letter_no_feed l letter (sym (uncons begins).0))
+ends_behind [] (b ∷ c ∷ blanks) gone rest letter some e = absurd (some (rest_none blanks gone (sym (uncons (uncons e).1).1)))
 
 end_without_blanks : {bytes end : List ℕ} {is_line : Bool} (blanks gone rest : List ℕ) → bytes ≡ blanks ++ gone
     → BeginsWithLetter (gone ++ rest) → (is_line ≡ true → gone ≢ [])
     → IsEndOfLine bytes is_line end → IsEndOfLine gone is_line end
 end_without_blanks blanks gone rest joined letter some spec.unended = spec.unended
 end_without_blanks blanks gone rest joined letter some (spec.feed other) =
-    spec.feed (λ front e. other (blanks ++ front)
-    (joined ∙ ap (λ g. blanks ++ g) e ∙ sym (append_assoc blanks front (13 ∷ 10 ∷ []))))
+    spec.feed (λ front e. other (blanks ++ front) (joined ∙ rw e (sym (append_assoc blanks front (13 ∷ 10 ∷ [])))))
 end_without_blanks blanks gone rest joined letter some (spec.return_feed front) =
-    elim (cut front (13 ∷ 10 ∷ []) blanks gone joined) [
-      | inl (m, blanks_is, end_is) ↦
-          rw (letter_ends m gone rest letter (some refl) end_is) (spec.return_feed [])
-      | inr (m, front_is, gone_is) ↦
-          rw gone_is (spec.return_feed m)
-    ]
+    ends_behind front blanks gone rest letter (some refl) joined
 
 line_is_some : {tail rest : List ℕ} {is_line : Bool} (front : List ℕ) → IsTail tail rest is_line → is_line ≡ true → front ++ tail ≢ []
 line_is_some front t on = λ none. elim t.ends [
@@ -261,7 +233,8 @@ spelled_before {value = value} core blanks written (as_closed spells none) joine
     rw none (spells_before written also (trimmed core blanks all refl joined spells))
 spelled_before {value = value} {bytes = bytes} core blanks written (as_open spells same one) joined all also =
     let (front, ends) = before_backslash spells in
-    let nothing : blanks ≡ [] = no_blank_left front 92 core blanks (sym ends ∙ joined) all refl in
+    let (inner, inner_is, unused) = trail_within front 92 [] core blanks refl all (sym joined ∙ ends) in
+    let nothing : blanks ≡ [] = rest_none inner blanks (sym inner_is) in
     let core_is : bytes ≡ core = joined ∙ ap (λ b. core ++ b) nothing ∙ append-nil core in
     let over : SpellsValue (bytes ++ 10 ∷ []) value outside = goes_on_over (10 ∷ []) [] (inl refl) (inl refl) refl spells in
     rw (one, ← core_is) (simp append_assoc at (spells_before written also over))
@@ -311,18 +284,18 @@ module _ {value at key between core_all blanks front feed : List ℕ} {lines : �
       let h = can_hold (key ++ (between ++ raw)) refl refl begins takes in
       let start_is : h.start ≡ key ++ between =
       append_cancel_right h.start (key ++ between) raw (sym h.joined ∙ sym (append_assoc key between raw)) in
-      let xs_ends : front ++ h.start ≡ (front ++ h.before) ++ 61 ∷ [] =
-      ap (λ s. front ++ s) h.start_is ∙ sym (append_assoc front h.before (61 ∷ [])) in
-      let joined : core_all ++ blanks ≡ (front ++ h.start) ++ bytes = whole ∙ simp (start_is, append_assoc) in
+      let before_is : key ++ between ≡ h.before ++ 61 ∷ [] = sym start_is ∙ h.start_is in
+      let moved : (s : List ℕ) → front ++ (key ++ (between ++ s)) ≡ (front ++ h.before) ++ 61 ∷ s =
+      λ s. ap (λ t. front ++ t) (sym (append_assoc key between s) ∙ ap (λ t. t ++ s) before_is) ∙ simp append_assoc in
       let (core, bytes_are, core_is) =
-      trail_within (front ++ h.start) bytes core_all blanks (front ++ h.before) 61 xs_ends refl joined all in
+      trail_within (front ++ h.before) 61 bytes core_all blanks refl all (whole ∙ moved bytes) in
       let raw_now = core ++ (feed ++ written) in
       let spells = spelled_before core blanks written ends bytes_are all also in
       let text_is : h.start ++ raw_now ≡ key ++ (between ++ raw_now) = simp (start_is, append_assoc) in
       record {
         core = core;
         bytes_are = bytes_are;
-        core_is = core_is ∙ simp (start_is, append_assoc);
+        core_is = core_is ∙ sym (moved core);
         feeds = feeds_of ends;
         raw = raw_now;
         spells = spells;
@@ -335,9 +308,8 @@ module _ {value at key between core_all blanks front feed : List ℕ} {lines : �
       → PutsValue value None bytes → feed ≡ [] → Before value between key None blanks core_all front bytes feed written
   before_alone whole begins takes (spec.behind_key {gap = gap} {spelling = spelling} is_gap s) none =
       let more = front ++ (key ++ (between ++ gap)) in
-      let xs = more ++ 61 ∷ [] in
-      let joined : core_all ++ blanks ≡ xs ++ 32 ∷ spelling = whole ∙ simp append_assoc in
-      let (inner, inner_are, core_is) = trail_within xs (32 ∷ spelling) core_all blanks more 61 refl refl joined all in
+      let joined : core_all ++ blanks ≡ more ++ 61 ∷ 32 ∷ spelling = whole ∙ simp append_assoc in
+      let (inner, inner_are, core_is) = trail_within more 61 (32 ∷ spelling) core_all blanks refl all joined in
       let spelled : SpellsValue (32 ∷ spelling) value outside =
       rw append-nil at (spells_between (32 ∷ []) [] refl refl s.0.0) in
       let raw_now = inner ++ written in
