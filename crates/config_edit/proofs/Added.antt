@@ -136,23 +136,23 @@ still_outside key section was is_inside h before false_is after (inr no_item) =
     false_from_ne_true is_inside
     (λ inside. outside key section before false_is (rw (no_item_after h section no_item) at (after.0 inside)))
 
-place_kept : (key : Key) (text rest : List ℕ) (contents : List Content) (section : Option Section)
-    (was before is_inside after : Bool) (inside : Option Insertion) (piece : Piece)
-    → IsPlaceSoFar key text rest contents section was before inside → ((was && before) ≡ true → NoCommentNext rest) → IsPiece rest piece
-    → length piece.rest.now < length rest
-    → (IsTrue was ↔ IsIn key section) → (IsTrue is_inside ↔ IsIn key (section_after piece.held section))
-    → (is_inside ≡ false) ⊎ (is_item piece.held ≡ false)
-    → IsPlaceSoFar key text piece.rest.now (contents ++ contents_in piece.held section) (section_after piece.held section) is_inside after inside
-place_kept key text rest contents section was before_too is_inside after_too None piece (nothing, false_is) apart is shorter before after either =
-    let now = still_outside key section was is_inside piece.held before false_is after either in
-    let other = outside key (section_after piece.held section) after now in
-    (without_in_both contents contents nothing (none_in_piece key piece.held section (inl other)), now)
-place_kept key text rest contents section was before_too is_inside after_too (Some place) piece r apart is shorter before after either =
+place_kept : {key : Key} {text rest : List ℕ} {was before : Bool} {e : End} (inside : Option Insertion)
+    (p : Placing key text rest was before inside e) {piece : Piece} → IsPiece rest piece → length piece.rest.now < length rest
+    → (is_inside after : Bool) → (IsTrue is_inside ↔ IsIn key (section_after piece.held p.section))
+    → ((was && before) ≡ true → NoCommentNext rest) → (is_inside ≡ false) ⊎ (is_item piece.held ≡ false)
+    → IsPlaceSoFar key text piece.rest.now (p.contents ++ contents_in piece.held p.section) (section_after piece.held p.section) is_inside after inside
+place_kept {key = key} {was = was} None p {piece = piece} is shorter is_inside after inside_is apart either =
+    let (nothing, false_is) = p.place in
+    let now = still_outside key p.section was is_inside piece.held p.inside_is false_is inside_is either in
+    let other = outside key (section_after piece.held p.section) inside_is now in
+    (without_in_both p.contents p.contents nothing (none_in_piece key piece.held p.section (inl other)), now)
+place_kept {key = key} {rest = rest} (Some place) p {piece = piece} is shorter is_inside after inside_is apart either =
+    let r = p.place in
     record {
       front = r.front;
       between = r.between ++ piece.bytes.now;
       before = r.before;
-      after = r.after ++ contents_in piece.held section;
+      after = r.after ++ contents_in piece.held p.section;
       there = r.there;
       joined = r.joined;
       cut = joined_more place.rest.now r.between rest piece.bytes.now piece.rest.now r.cut is.joined;
@@ -164,13 +164,13 @@ place_kept key text rest contents section was before_too is_inside after_too (So
       closes = r.closes;
       in_section = r.in_section;
       passed = passed_join (some_left rest piece.rest.now shorter) r.passed
-          (made_passed piece.held piece.blanks.now piece.is_line is.blank is.made section);
-      last = without_in_both r.after r.after r.last (none_in_piece key piece.held section (elim either [
-        | inl false_is ↦ inl (outside key (section_after piece.held section) after false_is)
+          (made_passed piece.held piece.blanks.now piece.is_line is.blank is.made p.section);
+      last = without_in_both r.after r.after r.last (none_in_piece key piece.held p.section (elim either [
+        | inl false_is ↦ inl (outside key (section_after piece.held p.section) inside_is false_is)
         | inr no_item ↦ inr no_item
       ]));
-      contents_are = ap (λ c. c ++ contents_in piece.held section) r.contents_are
-          ∙ append_assoc r.before r.after (contents_in piece.held section);
+      contents_are = ap (λ c. c ++ contents_in piece.held p.section) r.contents_are
+          ∙ append_assoc r.before r.after (contents_in piece.held p.section);
     }
 
 module _ {key : Key} {text rest : List ℕ} {was before : Bool} {inside : Option Insertion} {e f : End}
@@ -218,7 +218,7 @@ module _ {key : Key} {text rest : List ℕ} {was before : Bool} {inside : Option
   pub placing_kept : ((was && before) ≡ true → NoCommentNext rest) → (is_inside ≡ false) ⊎ (is_item piece.held ≡ false)
       → Placing key text piece.rest.now is_inside after inside f
   placing_kept apart either =
-      placing_more inside (place_kept key text rest p.contents p.section was before is_inside after inside piece p.place apart is shorter p.inside_is inside_is either)
+      placing_more inside (place_kept inside p is shorter is_inside after inside_is apart either)
 
 places_at_end : (key : Key) (text : List ℕ) (contents : List Content) (section : Option Section)
     (is_inside after : Bool) (inside : Option Insertion)
@@ -440,9 +440,8 @@ pub inside_after_other : (key : Key) (section : Option Section) (is_inside : Boo
     → (IsTrue is_inside ↔ IsIn key (section_after h section))
 inside_after_other key section is_inside h other both = rw (other_after h section other) both
 
-pub place_within : (key : Key) (text rest : List ℕ) (contents : List Content) (section : Option Section)
-    (is_inside after : Bool) (inside : Option Insertion)
-    → IsPlaceSoFar key text rest contents section is_inside after inside
+pub place_within : {key : Key} {text rest : List ℕ} {is_inside after : Bool} (inside : Option Insertion) {e : End}
+    → Placing key text rest is_inside after inside e
     → IfSome inside (λ place. (front : List ℕ) × (text ≡ front ++ place.rest.now))
-place_within key text rest contents section is_inside after None so_far = tt
-place_within key text rest contents section is_inside after (Some place) r = (r.front, r.joined)
+place_within None p = tt
+place_within (Some place) p = (p.place.front, p.place.joined)

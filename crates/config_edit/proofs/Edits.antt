@@ -30,7 +30,7 @@ use Rattle.config_file.specs.Spelling.{spelled_section}
 use Rattle.config_file.specs.Views.{section_of, value_of}
 use Rattle.config_file.proofs.AddedEntries.{begins_no_mark, begins_unmarked, mark_is}
 use Rattle.config_file.proofs.EachReading.{are_read, not_empty}
-use Rattle.config_file.proofs.OneReading.{reads_once}
+use Rattle.config_file.proofs.OneReading.{reads_once, begins_only}
 use Rattle.config_edit.proofs.Pieces.{compose, onward, made_passed, header_holds, blanks_lead}
 pub use Rattle.config_edit.proofs.Pieces.{joined_more}
 use Rattle.config_edit.proofs.Becomes.{becomes_before, becomes_more, becomes_behind}
@@ -307,23 +307,16 @@ reads_end reads = λ other.
     let (later, next, end, leads, same) = relined reads other in
     (later, rw append-nil at (compose leads file.ends), same)
 
-begun_ends : {text rest mark body : List ℕ} {line : ℕ} {entries : List Entry} → file.Begins text line rest
-    → Reads None line rest entries None → IsSplit text mark body
-    → Ends None body (map content entries)
-begun_ends {rest = rest} {body = body} (file.marked e) reads (edit.marked f) =
-    let same : rest ≡ body = cc in
-    rw same at (reads_end reads)
-begun_ends (file.marked e) reads (edit.unmarked f) = cc
-begun_ends (file.part_of_mark {text = []} part) reads split = absurd part
-begun_ends (file.part_of_mark {text = b ∷ []} part) reads split = absurd (begins_no_mark reads part)
-begun_ends (file.part_of_mark {text = b ∷ c ∷ text} part) reads split = absurd (begins_no_mark reads part.0)
-begun_ends (file.unmarked none other) reads (edit.unmarked f) = reads_end reads
-begun_ends (file.unmarked none other) reads (edit.marked f) = cc
-
 -- a file without its mark
+begun_is : {text rest mark body : List ℕ} {line : ℕ} → file.Begins text line rest → IsSplit text mark body → rest ≡ body
+begun_is begins (edit.marked f) = (begins_only begins (file.marked f)).1
+begun_is (file.marked e) (edit.unmarked f) = cc
+begun_is (file.part_of_mark part) (edit.unmarked f) = refl
+begun_is (file.unmarked none other) (edit.unmarked f) = refl
+
 pub body_ends : {text mark body : List ℕ} {entries : List Entry} → IsFile text entries None
     → IsSplit text mark body → Ends None body (map content entries)
-body_ends is_file split = begun_ends is_file.begins is_file.reads split
+body_ends is_file split = rw (begun_is is_file.begins split) at (reads_end is_file.reads)
 
 -- a text with the mark of another
 begins_one : (text : List ℕ) (entries : List Entry) → Reads None 1 text entries None → file.Begins text 1 text

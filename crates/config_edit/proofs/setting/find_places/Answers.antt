@@ -80,6 +80,4 @@ returns-clause-places c = λ contents ends.
     placing_ends places c.pieces.invariant ends c.in_default.ensures.piece
 
 pub returns-clause-within : goal.returns-clause-within
-returns-clause-within c =
-    let p = c.pieces.invariant in
-    place_within (key_of c.args.key.now) c.args.text.now c.pieces.rest.now p.contents p.section c.pieces.is_inside c.pieces.after_header c.pieces.inside p.place
+returns-clause-within c = place_within c.pieces.inside c.pieces.invariant
