@@ -27,7 +27,7 @@ use Rattle.config_file.specs.Listing.{IsListedSection}
 use Rattle.config_file.specs.Spelling.{SpellsOptional, SpellsSection}
 use Rattle.config_file.specs.Key.{Key, is_name, stem, dotted}
 use Rattle.config_edit.specs.Edit as spec
-use Rattle.config_edit.specs.Edit.{Content, IsIn, WithoutIn, NoneIn, SameEntry, IsLineEnd, AddsContent, PutsLine}
+use Rattle.config_edit.specs.Edit.{Content, IsIn, WithoutIn, NoneIn, SameEntry, IsLineEnd, AddsContent, PutsLine, IsNewHeader}
 use Rattle.config_edit.specs.Edit.{entry_line, HasValue, NoCommentNext, IsApart}
 use Rattle.config_edit.specs.Reading.{Holds, Ends, Passed, anywhere, at_end, IsRead, IsMade, IsPiece}
 use Rattle.config_edit.specs.Reading.{IsHeaderAt, contents_in, section_after, IsPast, IsEndOf, Closes}
@@ -305,56 +305,72 @@ are_ends end.Line feed = inl refl
 are_ends end.Open feed = inr (inl refl)
 are_ends end.Backslash feed = inr (inr refl)
 
+-- an entry behind a text that is closed, or behind a header that is put there
+added : {key : Key} {value text new : List ℕ} {contents : List Content} {there : Option Section} {s : Section}
+    (front back feed header : List ℕ) (before after : List Content) (e : End)
+    → is_name key.name ≡ true → is_spellable value ≡ true → IsLineEnd feed → Closes None front before there e
+    → Holds there header [] (Some s) → Ends (Some s) back after → IsIn key (Some s) → NoneIn key after
+    → contents ≡ before ++ after → text ≡ front ++ back
+    → new ≡ front ++ (line_ends e feed ++ (header ++ (new_line key.name value feed ++ back)))
+    → ComesBehind text before back → IsApart front back → IsNewHeader key contents back feed header
+    → IsAdded key value text contents new
+added {key = key} {value = value} {s = s} front back feed header before after e is_a_name spellable is_feed closes head later in_section last old_is cut new_is place apart is_header =
+    let ends = line_ends e feed in
+    let line = new_line key.name value feed in
+    let (kept, holds, same) = closes feed is_feed in
+    let (raw, has_value, line_is) = line_holds key.name value feed is_a_name spellable is_feed (Some s) in
+    let behind = holds_end header (line ++ back) head (holds_end line back line_is later) in
+    record {
+      now = kept ++ (Some s, key.name, Some raw) ∷ after;
+      ends = rw (new_is, ← append_assoc front ends (header ++ (line ++ back)))
+          (holds_end (front ++ ends) (header ++ (line ++ back)) holds behind);
+      adds = record {
+        before = before;
+        kept = kept;
+        after = after;
+        section = s;
+        raw = raw;
+        old_is = old_is;
+        same = same;
+        in_section = in_section;
+        has_value = has_value;
+        new_is = refl;
+        last = last;
+      };
+      bytes = record {
+        front = front;
+        back = back;
+        feed = feed;
+        ends = ends;
+        header = header;
+        spelling = git_spelled value;
+        old_is = cut;
+        new_is = new_is;
+        is_feed = is_feed;
+        are_ends = are_ends e feed;
+        place = place;
+        apart = apart;
+        is_header = is_header;
+        spells = (git_spelling value spellable, refl);
+      };
+    }
+
 pub added_inside : {key : Key} (value text new feed front : List ℕ) {contents : List Content}
     {section : Option Section} {place : Insertion}
     → is_name key.name ≡ true → is_spellable value ≡ true
     → IsPlace key text [] contents section true place → IsLineEnd feed → text ≡ front ++ place.rest.now
     → new ≡ front ++ (line_ends place.end feed ++ (new_line key.name value feed ++ place.rest.now))
     → IsAdded key value text contents new
-added_inside {key = key} value text new feed front {contents = contents} {place = place} is_a_name spellable r is_feed cut new_is =
-    let ends = line_ends place.end feed in
-    let line = new_line key.name value feed in
+added_inside {key = key} value text new feed front {place = place} is_a_name spellable r is_feed cut new_is =
     let rest = place.rest.now in
     let front_is : front ≡ r.front = append_cancel_right front r.front rest (sym cut ∙ r.joined) in
-    let (kept, holds, same) = r.closes feed is_feed in
     let (s, there_is, in_there) = in_some key r.there r.in_section in
-    let (raw, has_value, line_is) = line_holds key.name value feed is_a_name spellable is_feed r.there in
     let rest_is : rest ≡ r.between = r.cut ∙ append-nil r.between in
     let later : Ends r.there rest r.after = rw rest_is (passed_ends refl r.passed) in
-    let whole = holds_end (r.front ++ ends) (line ++ rest) holds (holds_end line rest line_is later) in
-    record {
-      now = kept ++ (r.there, key.name, Some raw) ∷ r.after;
-      ends = rw (new_is, front_is, ← append_assoc r.front ends (line ++ rest)) whole;
-      adds = record {
-        before = r.before;
-        kept = kept;
-        after = r.after;
-        section = s;
-        raw = raw;
-        old_is = r.contents_are;
-        same = same;
-        in_section = in_there;
-        has_value = has_value;
-        new_is = ap (λ t. kept ++ (t, key.name, Some raw) ∷ r.after) there_is;
-        last = r.last;
-      };
-      bytes = record {
-        front = front;
-        back = rest;
-        feed = feed;
-        ends = ends;
-        header = [];
-        spelling = git_spelled value;
-        old_is = cut;
-        new_is = new_is;
-        is_feed = is_feed;
-        are_ends = are_ends place.end feed;
-        place = r.comes;
-        apart = rw front_is (place_apart r);
-        is_header = inl refl;
-        spells = (git_spelling value spellable, refl);
-      };
-    }
+    let later_there : Ends (Some s) rest r.after = subst (λ t. Ends t rest r.after) there_is later in
+    let head : Holds r.there [] [] (Some s) = subst (λ t. Holds r.there [] [] t) there_is (holds_nothing r.there) in
+    added r.front rest feed [] r.before r.after place.end is_a_name spellable is_feed r.closes head later_there in_there r.last
+    r.contents_are r.joined (rw front_is at new_is) r.comes (place_apart r) (inl refl)
 
 -- a new section
 listed_as_stem : (name : List ℕ) (raw text : Option (List ℕ)) → SpellsOptional SpellsSubsection raw text
@@ -376,53 +392,17 @@ pub added_behind : (key : Key) (value text new feed : List ℕ) (contents : List
     → new ≡ text ++ (line_ends e feed ++ ((91 ∷ spelled_section key.section key.subsection) ++ (feed ++ new_line key.name value feed)))
     → IsAdded key value text contents new
 added_behind key value text new feed contents section e is_a_name spellable is_a_section nothing closes is_feed whole_text new_is =
-    let ends = line_ends e feed in
     let line = new_line key.name value feed in
     let header = 91 ∷ spelled_section key.section key.subsection in
     let is_header = header_spelled key.section key.subsection is_a_section in
     let (inner, s, header_is, names, header_at) = is_header in
     let at : IsHeaderAt s [] header = record { inner = inner; joined = header_is; header = header_at } in
-    let (kept, holds, same) = closes feed is_feed in
-    let (raw, has_value, line_is) = line_holds key.name value feed is_a_name spellable is_feed (Some s) in
-    let x : Content = (Some s, key.name, Some raw) in
-    let last : Holds section (header ++ (feed ++ line)) (x ∷ []) (Some s) =
-    holds_join header (feed ++ line) (header_holds refl at section)
-    (holds_join feed line (end_holds (Some s) feed (inr is_feed)) line_is) in
-    let passed : Passed None ((text ++ ends) ++ (header ++ (feed ++ line))) (kept ++ x ∷ []) (Some s) [] =
-    anywhere (holds_join (text ++ ends) (header ++ (feed ++ line)) holds last) in
-    record {
-      now = kept ++ x ∷ [];
-      ends = rw (new_is, ← append_assoc text ends (header ++ (feed ++ line))) (passed_ends refl passed);
-      adds = record {
-        before = contents;
-        kept = kept;
-        after = [];
-        section = s;
-        raw = raw;
-        old_is = sym (append-nil contents);
-        same = same;
-        in_section = names_in key s names;
-        has_value = has_value;
-        new_is = refl;
-        last = spec.none;
-      };
-      bytes = record {
-        front = text;
-        back = [];
-        feed = feed;
-        ends = ends;
-        header = header ++ feed;
-        spelling = git_spelled value;
-        old_is = sym (append-nil text);
-        new_is = rw (append-nil line, append_assoc header feed line) new_is;
-        is_feed = is_feed;
-        are_ends = are_ends e feed;
-        place = inr (refl, whole_text);
-        apart = inr (nothing_next [] refl);
-        is_header = inr (header, (is_header, refl), refl, refl, nothing);
-        spells = (git_spelling value spellable, refl);
-      };
-    }
+    let head : Holds section (header ++ feed) [] (Some s) =
+    holds_join header feed (header_holds refl at section) (end_holds (Some s) feed (inr is_feed)) in
+    added text [] feed (header ++ feed) contents [] e is_a_name spellable is_feed closes head
+    (passed_ends refl (anywhere (holds_nothing (Some s)))) (names_in key s names) spec.none (sym (append-nil contents))
+    (sym (append-nil text)) (rw (append-nil line, append_assoc header feed line) new_is) (inr (refl, whole_text))
+    (inr (nothing_next [] refl)) (inr (header, (is_header, refl), refl, refl, nothing))
 
 -- what the code knows of the section after a piece
 pub inside_after_header : (key : Key) (before : Option Section) (is_inside : Bool) (h : Held)
