@@ -28,6 +28,7 @@ use Rattle.config_edit.proofs.Changed.{inside_is_not_outside, backslash_is_not_o
 use Rattle.config_edit.proofs.EachEntry.{entry_named, begins_named}
 use Rattle.config_edit.proofs.Closed.{goes_on_over, more_bytes, some_same}
 use Rattle.config_file.proofs.OneValue.{before_backslash}
+use Rattle.config_file.proofs.Spelled.{after_held, after_plain}
 use Rattle.config_file.proofs.OneRun.{run_same}
 use Rattle.config_file.proofs.LineEnds.{all_more, not_none, rest_none}
 
@@ -52,33 +53,24 @@ trail_within (f ∷ front) x more (c ∷ core) blanks other all e =
 no_blank : (b c : ℕ) → is_blank b ≡ true → b ≡ c → is_blank c ≡ false → ⊥
 no_blank b c is same other = true≢false (sym (subst (λ x. is_blank x ≡ true) same is) ∙ other)
 
-no_plain : (b : ℕ) → is_blank b ≡ true → is_plain false b ≡ true → ⊥
-no_plain b is plain = grind (arith, nat_tests)
-
 no_escape : (e k : ℕ) → is_blank e ≡ true → escape e ≡ Some k → ⊥
 no_escape e k is letter = grind (arith, nat_tests)
 
-nothing_spelled : {w : ℕ → ℕ} {q : Bool} {so_far held raw text : List ℕ} {ending : Ending} → Spells w q so_far held raw text ending
-    → AreBlank raw → ending ≡ outside → (q ≡ false) × (text ≡ so_far)
-nothing_spelled value.ends_outside all e = (refl, refl)
-nothing_spelled value.ends_inside all e = absurd (inside_is_not_outside e)
-nothing_spelled (value.ends_at_backslash is) all e = absurd (backslash_is_not_outside e)
-nothing_spelled (value.quote {b = b} {raw = raw} is s) all e = absurd (no_blank b 34 (first_blank b raw all) is refl)
-nothing_spelled (value.escaped {b = b} {e = l} {raw = raw} is letter s) all e =
-    absurd (no_blank b 92 (first_blank b (l ∷ raw) all) is refl)
-nothing_spelled (value.continued {b = b} {e = l} {raw = raw} is line s) all e =
-    absurd (no_blank b 92 (first_blank b (l ∷ raw) all) is refl)
-nothing_spelled (value.continued_after_return {b = b} {e = l} {f = m} {raw = raw} is return line s) all e =
-    absurd (no_blank b 92 (first_blank b (l ∷ m ∷ raw) all) is refl)
-nothing_spelled (value.blank {b = b} {raw = raw} is s) all e = nothing_spelled s (other_blanks b raw all) e
-nothing_spelled (value.plain {b = b} {raw = raw} is s) all e =
-    absurd (no_plain b (first_blank b raw all) (rw (nothing_spelled s (other_blanks b raw all) e).0 at is))
+nothing_spelled : {w : ℕ → ℕ} {q : Bool} {so_far held text : List ℕ} {ending : Ending} (raw : List ℕ)
+    → Spells w q so_far held raw text ending → AreBlank raw → ending ≡ outside → (q ≡ false) × (text ≡ so_far)
+nothing_spelled [] value.ends_outside all e = (refl, refl)
+nothing_spelled [] value.ends_inside all e = absurd (inside_is_not_outside e)
+nothing_spelled {q = false} (b ∷ raw) s all e =
+    nothing_spelled raw (after_held s (first_blank b raw all)) (other_blanks b raw all) e
+nothing_spelled {q = true} (b ∷ raw) s all e =
+    let other = λ (c : ℕ) (no_blank_is : is_blank c ≡ false) (is : b ≡ c). no_blank b c (first_blank b raw all) is no_blank_is in
+    absurd (true≢false (nothing_spelled raw (after_plain s refl (other 34 refl) (other 92 refl)) (other_blanks b raw all) e).0)
 
 trimmed : {w : ℕ → ℕ} {q : Bool} {so_far held raw text : List ℕ} {ending : Ending} (core blanks : List ℕ)
     → AreBlank blanks → ending ≡ outside → raw ≡ core ++ blanks → Spells w q so_far held raw text ending
     → Spells w q so_far held core text outside
 trimmed [] blanks all e joined s =
-    let (q_is, text_is) = nothing_spelled s (rw joined all) e in
+    let (q_is, text_is) = nothing_spelled blanks (rw joined at s) all e in
     rw (q_is, text_is) value.ends_outside
 trimmed (c ∷ core) blanks all e joined value.ends_outside = cc
 trimmed (c ∷ core) blanks all e joined value.ends_inside = absurd (inside_is_not_outside e)
