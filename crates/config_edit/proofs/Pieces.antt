@@ -406,51 +406,36 @@ pub joined_more : (text front rest bytes more : List ℕ) → text ≡ front ++ 
 joined_more text front rest bytes more joined cut =
     joined ∙ ap (λ r. front ++ r) cut ∙ sym (append_assoc front bytes more)
 
-pub line_cut : {text at bytes : List ℕ} (rest tail blanks : List ℕ) → text ≡ blanks ++ at → at ≡ tail ++ rest
-    → text ≡ bytes ++ rest → bytes ≡ blanks ++ tail
-line_cut {text = text} {at = at} {bytes = bytes} rest tail blanks joined at_is cut =
-    append_cancel_right bytes (blanks ++ tail) rest (sym cut ∙ joined_more text blanks at tail rest joined at_is)
+pub same_bytes : {text bytes other : List ℕ} (rest : List ℕ) → text ≡ bytes ++ rest → text ≡ other ++ rest → bytes ≡ other
+same_bytes {bytes = bytes} {other = other} rest cut also = append_cancel_right bytes other rest (sym cut ∙ also)
 
-pub line_front : {text at rest : List ℕ} (blanks tail : List ℕ) → text ≡ blanks ++ at → at ≡ tail ++ rest
-    → (front : List ℕ) × (text ≡ front ++ rest)
-line_front {text = text} {at = at} {rest = rest} blanks tail joined cut =
-    (blanks ++ tail, joined_more text blanks at tail rest joined cut)
+pub header_cut : {text after rest : List ℕ} {new : Section} (blanks : List ℕ) → text ≡ blanks ++ 91 ∷ after
+    → Header after new rest → (bytes : List ℕ) × (text ≡ bytes ++ rest) × IsHeaderAt new blanks bytes
+header_cut {text = text} {after = after} {rest = rest} blanks joined header =
+    let (inner, is, moved) = header_moved header in (
+      blanks ++ 91 ∷ inner,
+      joined_more text blanks (91 ∷ after) (91 ∷ inner) rest joined (ap (λ x. 91 ∷ x) is),
+      record { inner = inner; joined = refl; header = moved },
+    )
 
-pub header_cut : {text blanks after rest bytes : List ℕ} {new : Section} → text ≡ blanks ++ 91 ∷ after
-    → Header after new rest → text ≡ bytes ++ rest → IsHeaderAt new blanks bytes
-header_cut {blanks = blanks} {rest = rest} joined header cut =
-    let (inner, is, moved) = header_moved header in
-    record { inner = inner; joined = line_cut rest (91 ∷ inner) blanks joined (ap (λ x. 91 ∷ x) is) cut; header = moved }
-
-pub header_front : {text after rest : List ℕ} {new : Section} (blanks : List ℕ) → text ≡ blanks ++ 91 ∷ after
-    → Header after new rest → (front : List ℕ) × (text ≡ front ++ rest)
-header_front blanks joined header =
-    let (inner, is, moved) = header_moved header in line_front blanks (91 ∷ inner) joined (ap (λ x. 91 ∷ x) is)
-
-pub entry_cut : {text at bytes rest tail key after : List ℕ} {value : Option (List ℕ)} {lines : ℕ}
-    (blanks : List ℕ) (is_line : Bool)
+pub entry_cut : {text at rest tail key after : List ℕ} {value : Option (List ℕ)} {lines : ℕ} {is_line : Bool} (blanks : List ℕ)
     → text ≡ blanks ++ at → BeginsWithLetter at
     → TakesEntry at key value lines after → after ≡ tail ++ rest → IsTail tail rest is_line
-    → text ≡ bytes ++ rest → IsEntry key value lines after blanks bytes rest is_line
-entry_cut {at = at} {rest = rest} {tail = tail} {after = after} blanks is_line joined letter takes left is_tail cut =
-    let (front, at_is, unused) = entry_moved takes in
-    record {
-      front = front;
-      tail = tail;
-      begins = rw at_is at letter;
-      takes = rw at_is at takes;
-      left = left;
-      is_tail = is_tail;
-      joined = line_cut rest (front ++ tail) blanks joined (joined_more at front after tail rest at_is left) cut;
-    }
-
-pub entry_text_front : {at key prest text rest : List ℕ} {value : Option (List ℕ)} {lines : ℕ}
-    (blanks tail : List ℕ)
-    → text ≡ blanks ++ at → TakesEntry at key value lines prest
-    → prest ≡ tail ++ rest → (front : List ℕ) × (text ≡ front ++ rest)
-entry_text_front {at = at} {prest = prest} {rest = rest} blanks tail joined takes left =
-    let (front, at_is, unused) = entry_moved takes in
-    line_front blanks (front ++ tail) joined (joined_more at front prest tail rest at_is left)
+    → (bytes : List ℕ) × (text ≡ bytes ++ rest) × IsEntry key value lines after blanks bytes rest is_line
+entry_cut {text = text} {at = at} {rest = rest} {tail = tail} {after = after} blanks joined letter takes left is_tail =
+    let (front, at_is, unused) = entry_moved takes in (
+      blanks ++ (front ++ tail),
+      joined_more text blanks at (front ++ tail) rest joined (joined_more at front after tail rest at_is left),
+      record {
+        front = front;
+        tail = tail;
+        begins = rw at_is at letter;
+        takes = rw at_is at takes;
+        left = left;
+        is_tail = is_tail;
+        joined = refl;
+      },
+    )
 
 pub line_made : (h : Held) {bytes rest : List ℕ} (blanks : List ℕ) (is_line : Bool) (tail : List ℕ)
     → bytes ≡ blanks ++ tail → (t : IsTail tail rest is_line)
