@@ -1,11 +1,12 @@
 -- Texts with one entry more.
 use Rattle.std.proofs.Common.{◌≡◌, ℕ, ◌<◌, Bool, true, false, List, [], ◌∷◌, ◌++◌, Option, Some}
 use Rattle.std.proofs.Common.{None, IsTrue, IfSome, MatchOption, ◌↔◌, length, map, refl, sym, ap, ◌∙◌, subst}
-use Rattle.std.proofs.Common.{append_assoc, append-nil, inl, inr, ◌⊎◌, ◌&&◌, true≢false}
+use Rattle.std.proofs.Common.{append_assoc, append-nil, inl, inr, ◌⊎◌, ◌&&◌, true≢false, arith}
 use Rattle.std.specs.List.{list_all}
 use Rattle.std.specs.Char.{to_ascii_lowercase, is_ascii_alphabetic}
 use Rattle.std.proofs.lemmas.List.{append_cancel_right}
-use Rattle.std.proofs.lemmas.Bool.{and_parts}
+use Rattle.std.proofs.lemmas.Bool.{and_parts, cases_Bool, false_from_ne_true}
+use Rattle.config_file.proofs.OneRun.{run_same}
 use Rattle.config_edit.specs.declared.setting.Insertion.{Insertion}
 use Rattle.config_edit.specs.declared.setting.Places.{Places}
 use Rattle.config_edit.specs.declared.write.End.{End}
@@ -20,13 +21,13 @@ use Rattle.config_file.specs.Header.{Section}
 use Rattle.config_file.specs.Value as spells
 use Rattle.config_file.specs.Value.{SpellsValue, closed, line_feeds}
 use Rattle.config_file.specs.Subsection.{SpellsSubsection}
-use Rattle.config_file.specs.File.{TakesKey, TakesEntry, valued}
+use Rattle.config_file.specs.File.{TakesKey, valued}
 use Rattle.config_file.specs.Listing as listing
 use Rattle.config_file.specs.Listing.{IsListedSection}
 use Rattle.config_file.specs.Spelling.{SpellsOptional, SpellsSection}
 use Rattle.config_file.specs.Key.{Key, is_name, stem, dotted}
 use Rattle.config_edit.specs.Edit as spec
-use Rattle.config_edit.specs.Edit.{Content, IsIn, WithoutIn, NoneIn, SameEntry, IsLineEnd, AddsContent, PutsLine}
+use Rattle.config_edit.specs.Edit.{Content, IsIn, WithoutIn, NoneIn, SameEntry, IsLineEnd, AddsContent, PutsLine, IsNewHeader}
 use Rattle.config_edit.specs.Edit.{entry_line, HasValue, NoCommentNext, IsApart}
 use Rattle.config_edit.specs.Reading.{Holds, Ends, Passed, anywhere, at_end, IsRead, IsMade, IsPiece}
 use Rattle.config_edit.specs.Reading.{IsHeaderAt, contents_in, section_after, IsPast, IsEndOf, Closes}
@@ -35,25 +36,17 @@ use Rattle.config_edit.specs.Reading.{IsAdded, new_line}
 use Rattle.config_edit.specs.Edit.{AreBlank, IsEntry, IsTail, absent}
 use Rattle.config_file.specs.Reading.Spellings.{is_section, is_spellable}
 use Rattle.config_file.specs.Spelling.{spelled_section, git_spelled}
-use Rattle.config_edit.proofs.Pieces.{header_holds, entry_holds, made_passed, first_of, first_blank, other_blanks, blank_no_sign}
+use Rattle.config_edit.proofs.Pieces.{header_holds, entry_holds, made_passed, blank_no_sign}
 use Rattle.config_file.proofs.LineEnds.{not_none}
 use Rattle.config_file.proofs.SpelledHeaders.{header_spelled, letter_is_key_byte}
 use Rattle.config_file.proofs.Spellings.{git_spelling}
+pub use Rattle.config_edit.proofs.Edits.{none_in_piece}
 use Rattle.config_edit.proofs.Edits.{without_in_both, holds_nothing, holds_join, holds_end, passed_holds}
 use Rattle.config_edit.proofs.Edits.{passed_join, passed_ends, all_passed, some_left, joined_more}
 use Rattle.config_edit.proofs.Edits.{header_listed}
 use Rattle.config_edit.proofs.Changed.{spells_between}
 use Rattle.config_edit.proofs.Replaced.{in_some, other_after, past_begins, past_more, end_holds}
 use Rattle.config_edit.proofs.Closed.{return_of, return_blank, same_entries, both_same, piece_closes}
-
--- what a piece has in the section of a key
-pub none_in_piece : (key : Key) (h : Held) (section : Option Section)
-    → (¬ (IsIn key (section_after h section))) ⊎ (is_item h ≡ false) → NoneIn key (contents_in h section)
-none_in_piece key (held.Entry parts) section (inl other) = spec.kept _ spec.none other
-none_in_piece key (held.Entry parts) section (inr no_item) = absurd (true≢false no_item)
-none_in_piece key (held.Header new) section either = spec.none
-none_in_piece key held.Nothing section either = spec.none
-none_in_piece key held.Comment section either = spec.none
 
 -- the place of a new entry
 pub placing_begins : (key : Key) (text : List ℕ) → Placing key text text false false None end.Line
@@ -75,12 +68,10 @@ closes_more : {text rest front : List ℕ} {contents : List Content} {section : 
     → Closes None (front ++ piece.bytes.now) (contents ++ contents_in piece.held section) (section_after piece.held section) e
 closes_more {rest = rest} {front = front} {contents = contents} {section = section} {e = e} piece past is shorter end_is = λ line_end line_is.
     let holds = passed_holds (some_left rest piece.rest.now shorter) past.passed in
-    let (now, more, same) = piece_closes piece is end_is section line_end line_is in
-    let ends = line_ends e line_end in
-    let next = section_after piece.held section in (
+    let (now, more, same) = piece_closes piece is end_is section line_end line_is in (
       contents ++ now,
-      subst (λ t. Holds None t (contents ++ now) next) (sym (append_assoc front piece.bytes.now ends))
-          (holds_join front (piece.bytes.now ++ ends) holds more),
+      rw (append_assoc front piece.bytes.now (line_ends e line_end))
+          (holds_join front (piece.bytes.now ++ line_ends e line_end) holds more),
       both_same contents contents (contents_in piece.held section) now (same_entries contents) same,
     )
 
@@ -88,117 +79,50 @@ closes_more {rest = rest} {front = front} {contents = contents} {section = secti
 nothing_next : (rest : List ℕ) → rest ≡ [] → NoCommentNext rest
 nothing_next rest none = λ blanks more b e all. absurd (not_none blanks more b (sym e ∙ none))
 
-tail_apart : {tail rest : List ℕ} {is_line : Bool} (lead : List ℕ) → IsTail tail rest is_line → IsApart (lead ++ tail) rest
-tail_apart {rest = rest} lead t = elim t.ends [
-  | inl line ↦ inl (
-    lead ++ (t.blanks ++ t.comment),
-    ap (λ x. lead ++ x) (line.1 ∙ sym (append_assoc t.blanks t.comment (10 ∷ [])))
-        ∙ sym (append_assoc lead (t.blanks ++ t.comment) (10 ∷ [])),
-  )
-  | inr end ↦ inr (nothing_next rest end.1)
-]
-
 apart_with : {bytes rest tail : List ℕ} {is_line : Bool} (front lead : List ℕ) → bytes ≡ lead ++ tail → IsTail tail rest is_line
     → IsApart (front ++ bytes) rest
-apart_with {rest = rest} {tail = tail} front lead joined t =
-    subst (λ f. IsApart f rest) (append_assoc front lead tail ∙ ap (λ b. front ++ b) (sym joined)) (tail_apart (front ++ lead) t)
+apart_with {rest = rest} front lead joined t = elim t.ends [
+  | inl line ↦ inl (front ++ (lead ++ (t.blanks ++ t.comment)), rw (joined, line.1) (simp append_assoc))
+  | inr end ↦ inr (nothing_next rest end.1)
+]
 
 piece_apart : (h : Held) (blanks bytes rest front : List ℕ) (is_line : Bool) → IsMade h blanks bytes rest is_line
     → IsApart (front ++ bytes) rest ⊎ ((new : code.Section) × (h ≡ held.Header new))
 piece_apart (held.Entry parts) blanks bytes rest front is_line made =
     inl (apart_with front (blanks ++ made.front) (made.joined ∙ sym (append_assoc blanks made.front made.tail)) made.is_tail)
 piece_apart (held.Header new) blanks bytes rest front is_line made = inr (new, refl)
-piece_apart held.Nothing blanks bytes rest front is_line (tail, joined, t, none) =
-    inl (apart_with front blanks joined t)
-piece_apart held.Comment blanks bytes rest front is_line (tail, joined, t) =
-    inl (apart_with front blanks joined t)
-
-either_way : (b : Bool) → (b ≡ true) ⊎ (b ≡ false)
-either_way true = inl refl
-either_way false = inr refl
-
-no_sign : (b : ℕ) → (is_comment_sign b ≡ true → ⊥) → is_comment_sign b ≡ false
-no_sign b other = elim (either_way (is_comment_sign b)) [ inl is ↦ absurd (other is) | inr is ↦ is ]
+piece_apart h blanks bytes rest front is_line made = inl (apart_with front blanks made.1 made.2)
 
 no_comment_at : (before : List ℕ) (c : ℕ) (rest : List ℕ) → AreBlank before → is_blank c ≡ false
     → is_comment_sign c ≡ false
     → (blanks more : List ℕ) (b : ℕ) → before ++ c ∷ rest ≡ blanks ++ b ∷ more → AreBlank blanks
     → is_comment_sign b ≡ false
-no_comment_at [] c rest all no_blank other blanks more b e also =
-    subst (λ x. is_comment_sign x ≡ false) (sym (first_of blanks more (sym e) also no_blank)) other
-no_comment_at (x ∷ before) c rest all no_blank other [] more b e also =
-    let same : x ≡ b = cc in
-    let blank : is_blank b ≡ true = subst (λ y. is_blank y ≡ true) same (first_blank x before all) in
-    no_sign b (blank_no_sign b blank)
-no_comment_at (x ∷ before) c rest all no_blank other (y ∷ blanks) more b e also =
-    let left : before ++ c ∷ rest ≡ blanks ++ b ∷ more = cc in
-    no_comment_at before c rest (other_blanks x before all) no_blank other blanks more b left (other_blanks y blanks also)
+no_comment_at before c rest all no_blank other blanks more b e also = elim (cases_Bool (is_blank b)) [
+  | inl blank ↦ false_from_ne_true (is_comment_sign b) (blank_no_sign b blank)
+  | inr none ↦
+      let left = (run_same is_blank before blanks (c ∷ rest) (b ∷ more) all also no_blank none e).1 in
+      let same : c ≡ b = cc in
+      rw same at other
+]
 
 pub header_next : {rest : List ℕ} (h : Held) (blanks bytes more : List ℕ) (is_line : Bool) (new : code.Section)
     → h ≡ held.Header new → AreBlank blanks → IsMade h blanks bytes more is_line → rest ≡ bytes ++ more → NoCommentNext rest
 header_next h blanks bytes more is_line new e all made joined =
-    let at : IsHeaderAt (section_of new) blanks bytes = subst (λ x. IsMade x blanks bytes more is_line) e made in
-    subst (λ t. NoCommentNext t)
-    (sym (joined ∙ ap (λ b. b ++ more) at.joined ∙ append_assoc blanks (91 ∷ at.inner) more))
+    let at : IsHeaderAt (section_of new) blanks bytes = rw e at made in
+    rw (joined, at.joined, append_assoc blanks (91 ∷ at.inner) more)
     (no_comment_at blanks 91 (at.inner ++ more) all refl refl)
 
 -- where a text is passed, its reading comes
 past_comes : {text rest front : List ℕ} {contents : List Content} {section : Option Section}
     → IsPast text rest front contents section → ComesBehind text contents rest
-past_comes {text = text} {front = front} {contents = contents} {section = section} past = elim past.passed [
+past_comes {front = front} {section = section} past = elim past.passed [
   | anywhere holds ↦ inl (section, (front, past.joined, holds))
-  | at_end none ends ↦ inr (
-    none,
-    subst (λ t. Ends None t contents) (sym (past.joined ∙ ap (λ r. front ++ r) none ∙ append-nil front)) ends,
-  )
+  | at_end none ends ↦ inr (none, rw (past.joined, none, append-nil front) ends)
 ]
-
-pub placing_here : {key : Key} {text rest : List ℕ} {inside : Option Insertion} {e f : End}
-    (was before is_inside after : Bool) (piece : Piece)
-    → (p : Placing key text rest was before inside e) → IsPiece rest piece
-    → length piece.rest.now < length rest → IsEndOf piece f
-    → (IsTrue is_inside ↔ IsIn key (section_after piece.held p.section)) → is_inside ≡ true
-    → ((new : code.Section) → piece.held ≡ held.Header new → after ≡ true)
-    → (here : Insertion) → here.rest.now ≡ piece.rest.now → here.end ≡ f
-    → Placing key text piece.rest.now is_inside after (Some here) f
-placing_here {key = key} {text = text} was before is_inside after piece p is shorter end_is inside_is inside header here rest_is here_is =
-    let past = past_more piece p.past is shorter in
-    let closes = closes_more piece p.past is shorter end_is in
-    record {
-      front = p.front ++ piece.bytes.now;
-      contents = p.contents ++ contents_in piece.held p.section;
-      section = section_after piece.held p.section;
-      past = past;
-      inside_is = inside_is;
-      closes = closes;
-      place = record {
-        front = p.front ++ piece.bytes.now;
-        between = [];
-        before = p.contents ++ contents_in piece.held p.section;
-        after = [];
-        there = section_after piece.held p.section;
-        joined = past.joined ∙ ap (λ r. (p.front ++ piece.bytes.now) ++ r) (sym rest_is);
-        cut = rest_is;
-        comes = subst (λ r. ComesBehind text (p.contents ++ contents_in piece.held p.section) r) (sym rest_is) (past_comes past);
-        apart = elim (piece_apart piece.held piece.blanks.now piece.bytes.now piece.rest.now p.front piece.is_line is.made) [
-          | inl apart ↦ inl (subst (λ r. IsApart (p.front ++ piece.bytes.now) r) (sym rest_is) apart)
-          | inr (new, held_is) ↦ inr (rest_is, rw (inside, header new held_is) refl)
-        ];
-        closes = subst (λ x. Closes None (p.front ++ piece.bytes.now)
-            (p.contents ++ contents_in piece.held p.section) (section_after piece.held p.section) x)
-            (sym here_is) closes;
-        in_section = inside_is.0 inside;
-        passed = anywhere (holds_nothing (section_after piece.held p.section));
-        last = spec.none;
-        contents_are = sym (append-nil (p.contents ++ contents_in piece.held p.section));
-      };
-    }
 
 no_item_after : (h : Held) (section : Option Section) → is_item h ≡ false → section_after h section ≡ section
 no_item_after (held.Header new) section none = absurd (true≢false none)
-no_item_after (held.Entry parts) section none = absurd (true≢false none)
-no_item_after held.Nothing section none = refl
-no_item_after held.Comment section none = refl
+no_item_after h section none = refl
 
 outside : {is_inside : Bool} (key : Key) (section : Option Section) → (IsTrue is_inside ↔ IsIn key section)
     → is_inside ≡ false → ¬ (IsIn key section)
@@ -209,69 +133,92 @@ still_outside : (key : Key) (section : Option Section) (was is_inside : Bool) (h
     → (is_inside ≡ false) ⊎ (is_item h ≡ false) → is_inside ≡ false
 still_outside key section was is_inside h before false_is after (inl outside_now) = outside_now
 still_outside key section was is_inside h before false_is after (inr no_item) =
-    elim (either_way is_inside) [
-      | inl inside ↦ absurd (outside key section before false_is
-          (subst (IsIn key) (no_item_after h section no_item) (after.0 inside)))
-      | inr outside_now ↦ outside_now
-    ]
+    false_from_ne_true is_inside
+    (λ inside. outside key section before false_is (rw (no_item_after h section no_item) at (after.0 inside)))
 
-place_kept : (key : Key) (text rest : List ℕ) (contents : List Content) (section : Option Section)
-    (was before is_inside after : Bool) (inside : Option Insertion) (piece : Piece)
-    → IsPlaceSoFar key text rest contents section was before inside → ((was && before) ≡ true → NoCommentNext rest) → IsPiece rest piece
-    → length piece.rest.now < length rest
-    → (IsTrue was ↔ IsIn key section) → (IsTrue is_inside ↔ IsIn key (section_after piece.held section))
-    → (is_inside ≡ false) ⊎ (is_item piece.held ≡ false)
-    → IsPlaceSoFar key text piece.rest.now (contents ++ contents_in piece.held section) (section_after piece.held section) is_inside after inside
-place_kept key text rest contents section was before_too is_inside after_too None piece (nothing, false_is) apart is shorter before after either =
-    let now = still_outside key section was is_inside piece.held before false_is after either in (
-      without_in_both contents contents nothing
-          (none_in_piece key piece.held section
-          (inl (outside key (section_after piece.held section) after now))),
-      now,
-    )
-place_kept key text rest contents section was before_too is_inside after_too (Some place) piece r apart is shorter before after either =
-    let none = none_in_piece key piece.held section (elim either [
-      | inl false_is ↦ inl (outside key (section_after piece.held section) after false_is)
-      | inr no_item ↦ inr no_item
-    ]) in
+place_kept : {key : Key} {text rest : List ℕ} {was before : Bool} {e : End} (inside : Option Insertion)
+    (p : Placing key text rest was before inside e) {piece : Piece} → IsPiece rest piece → length piece.rest.now < length rest
+    → (is_inside after : Bool) → (IsTrue is_inside ↔ IsIn key (section_after piece.held p.section))
+    → ((was && before) ≡ true → NoCommentNext rest) → (is_inside ≡ false) ⊎ (is_item piece.held ≡ false)
+    → IsPlaceSoFar key text piece.rest.now (p.contents ++ contents_in piece.held p.section) (section_after piece.held p.section) is_inside after inside
+place_kept {key = key} {was = was} None p {piece = piece} is shorter is_inside after inside_is apart either =
+    let (nothing, false_is) = p.place in
+    let now = still_outside key p.section was is_inside piece.held p.inside_is false_is inside_is either in
+    let other = outside key (section_after piece.held p.section) inside_is now in
+    (without_in_both p.contents p.contents nothing (none_in_piece key piece.held p.section (inl other)), now)
+place_kept {key = key} {rest = rest} (Some place) p {piece = piece} is shorter is_inside after inside_is apart either =
+    let r = p.place in
     record {
       front = r.front;
       between = r.between ++ piece.bytes.now;
       before = r.before;
-      after = r.after ++ contents_in piece.held section;
+      after = r.after ++ contents_in piece.held p.section;
       there = r.there;
       joined = r.joined;
       cut = joined_more place.rest.now r.between rest piece.bytes.now piece.rest.now r.cut is.joined;
       comes = r.comes;
       apart = elim r.apart [
         | inl apart_is ↦ inl apart_is
-        | inr pending ↦ inl (inr (subst (λ t. NoCommentNext t) (sym pending.0) (apart pending.1)))
+        | inr pending ↦ inl (inr (rw pending.0 (apart pending.1)))
       ];
       closes = r.closes;
       in_section = r.in_section;
       passed = passed_join (some_left rest piece.rest.now shorter) r.passed
-          (made_passed piece.held piece.blanks.now piece.is_line is.blank is.made section);
-      last = without_in_both r.after r.after r.last none;
-      contents_are = ap (λ c. c ++ contents_in piece.held section) r.contents_are
-          ∙ append_assoc r.before r.after (contents_in piece.held section);
+          (made_passed piece.held piece.blanks.now piece.is_line is.blank is.made p.section);
+      last = without_in_both r.after r.after r.last (none_in_piece key piece.held p.section (elim either [
+        | inl false_is ↦ inl (outside key (section_after piece.held p.section) inside_is false_is)
+        | inr no_item ↦ inr no_item
+      ]));
+      contents_are = ap (λ c. c ++ contents_in piece.held p.section) r.contents_are
+          ∙ append_assoc r.before r.after (contents_in piece.held p.section);
     }
 
-pub placing_kept : {key : Key} {text rest : List ℕ} {inside : Option Insertion} {e f : End}
-    (was before is_inside after : Bool) (piece : Piece)
-    → (p : Placing key text rest was before inside e) → ((was && before) ≡ true → NoCommentNext rest) → IsPiece rest piece
-    → length piece.rest.now < length rest → IsEndOf piece f
-    → (IsTrue is_inside ↔ IsIn key (section_after piece.held p.section))
-    → (is_inside ≡ false) ⊎ (is_item piece.held ≡ false) → Placing key text piece.rest.now is_inside after inside f
-placing_kept {key = key} {text = text} {rest = rest} {inside = inside} was before is_inside after piece p apart is shorter end_is inside_is either =
-    record {
-      front = p.front ++ piece.bytes.now;
-      contents = p.contents ++ contents_in piece.held p.section;
-      section = section_after piece.held p.section;
-      past = past_more piece p.past is shorter;
-      inside_is = inside_is;
-      closes = closes_more piece p.past is shorter end_is;
-      place = place_kept key text rest p.contents p.section was before is_inside after inside piece p.place apart is shorter p.inside_is inside_is either;
-    }
+module _ {key : Key} {text rest : List ℕ} {was before : Bool} {inside : Option Insertion} {e f : End}
+    (p : Placing key text rest was before inside e) {piece : Piece} (is : IsPiece rest piece)
+    (shorter : length piece.rest.now < length rest) (end_is : IsEndOf piece f) (is_inside after : Bool)
+    (inside_is : IsTrue is_inside ↔ IsIn key (section_after piece.held p.section)) where
+  placing_more : (now : Option Insertion)
+      → IsPlaceSoFar key text piece.rest.now (p.contents ++ contents_in piece.held p.section) (section_after piece.held p.section) is_inside after now
+      → Placing key text piece.rest.now is_inside after now f
+  placing_more now place =
+      record {
+        front = p.front ++ piece.bytes.now;
+        contents = p.contents ++ contents_in piece.held p.section;
+        section = section_after piece.held p.section;
+        past = past_more piece p.past is shorter;
+        inside_is = inside_is;
+        closes = closes_more piece p.past is shorter end_is;
+        place = place;
+      }
+
+  pub placing_here : is_inside ≡ true → ((new : code.Section) → piece.held ≡ held.Header new → after ≡ true)
+      → Placing key text piece.rest.now is_inside after (Some (record { rest = piece.rest; end = f })) f
+  placing_here inside_now header =
+      let past = past_more piece p.past is shorter in
+      placing_more (Some (record { rest = piece.rest; end = f })) (record {
+        front = p.front ++ piece.bytes.now;
+        between = [];
+        before = p.contents ++ contents_in piece.held p.section;
+        after = [];
+        there = section_after piece.held p.section;
+        joined = past.joined;
+        cut = refl;
+        comes = past_comes past;
+        apart = elim (piece_apart piece.held piece.blanks.now piece.bytes.now piece.rest.now p.front piece.is_line is.made) [
+          | inl apart ↦ inl apart
+          | inr (new, held_is) ↦ inr (refl, rw (inside_now, header new held_is) refl)
+        ];
+        closes = closes_more piece p.past is shorter end_is;
+        in_section = inside_is.0 inside_now;
+        passed = anywhere (holds_nothing (section_after piece.held p.section));
+        last = spec.none;
+        contents_are = sym (append-nil (p.contents ++ contents_in piece.held p.section));
+      })
+
+  pub placing_kept : ((was && before) ≡ true → NoCommentNext rest) → (is_inside ≡ false) ⊎ (is_item piece.held ≡ false)
+      → Placing key text piece.rest.now is_inside after inside f
+  placing_kept apart either =
+      placing_more inside (place_kept inside p is shorter is_inside after inside_is apart either)
 
 places_at_end : (key : Key) (text : List ℕ) (contents : List Content) (section : Option Section)
     (is_inside after : Bool) (inside : Option Insertion)
@@ -309,14 +256,10 @@ pub placing_ends : {key : Key} {text rest : List ℕ} {contents : List Content} 
     → (rest ≡ []) ⊎ (¬ (IsRead rest)) → ArePlaces key text contents places
 placing_ends {key = key} {text = text} {contents = contents} {is_inside = is_inside} {after = after} places p whole left =
     let (rest_is, text_is, contents_are) = all_passed p.past.joined p.past.passed whole left in
-    let place : IsPlaceSoFar key text [] contents p.section is_inside after places.inside =
-    subst (λ r. IsPlaceSoFar key text r contents p.section is_inside after places.inside) rest_is
-    (subst (λ c. IsPlaceSoFar key text _ c p.section is_inside after places.inside) contents_are p.place) in
     record {
       section = p.section;
-      closes = subst (λ t. Closes None t contents p.section places.end) (sym text_is)
-          (subst (λ c. Closes None p.front c p.section places.end) contents_are p.closes);
-      inside = places_at_end key text contents p.section is_inside after places.inside place;
+      closes = rw (← text_is, contents_are) at p.closes;
+      inside = places_at_end key text contents p.section is_inside after places.inside (rw (rest_is, contents_are) at p.place);
     }
 
 -- the line of a new entry
@@ -333,14 +276,10 @@ line_holds : (name value feed : List ℕ) → is_name name ≡ true → is_spell
 line_holds name value feed is spellable is_feed section =
     let (return, feed_is, return_is) = return_of feed is_feed in
     let (b, more, name_is, letter, key_bytes) = name_parts name is in
-    let git = git_spelled value in
-    let raw = 32 ∷ (git ++ return) in
+    let raw = 32 ∷ (git_spelled value ++ return) in
     let whole : SpellsValue raw value spells.outside =
     spells_between (32 ∷ []) return refl (return_blank return return_is) (git_spelling value spellable).0 in
-    let front = name ++ 32 ∷ 61 ∷ raw in
     let after = 61 ∷ (raw ++ 10 ∷ []) in
-    let front_is : name ++ 32 ∷ after ≡ front ++ 10 ∷ [] =
-    sym (append_assoc name (32 ∷ 61 ∷ raw) (10 ∷ [])) in
     let key_takes : TakesKey (name ++ 32 ∷ after) name after =
     record {
       spaced = 32 ∷ after;
@@ -348,30 +287,15 @@ line_holds name value feed is spellable is_feed section =
       key_run = record { joined = refl; pass = key_bytes; longest = refl };
       space_run = record { joined = refl; pass = refl; longest = refl };
     } in
-    let takes : TakesEntry (front ++ 10 ∷ []) name (Some raw) (line_feeds raw) (10 ∷ []) =
-    subst (λ t. TakesEntry t name (Some raw) (line_feeds raw) (10 ∷ [])) front_is
-    (valued key_takes refl (closed refl whole (inl refl))) in
-    let line_is : new_line name value feed ≡ 9 ∷ (front ++ 10 ∷ []) =
-    ap (λ f. 9 ∷ (name ++ 32 ∷ 61 ∷ 32 ∷ (git ++ f))) feed_is
-    ∙ ap (λ g. 9 ∷ (name ++ 32 ∷ 61 ∷ 32 ∷ g)) (sym (append_assoc git return (10 ∷ [])))
-    ∙ ap (λ t. 9 ∷ t) (sym (append_assoc name (32 ∷ 61 ∷ raw) (10 ∷ []))) in
-    let entry : IsEntry name (Some raw) (line_feeds raw) (10 ∷ []) (9 ∷ [])
-    (new_line name value feed) [] true =
+    let entry : IsEntry name (Some raw) (line_feeds raw) (10 ∷ []) (9 ∷ []) (new_line name value feed) [] true =
     record {
-      front = front;
+      front = name ++ 32 ∷ 61 ∷ raw;
       tail = 10 ∷ [];
-      begins = (b, more ++ 32 ∷ after, sym front_is ∙ ap (λ n. n ++ 32 ∷ after) name_is, letter);
-      takes = takes;
+      begins = (b, more ++ 32 ∷ after, append_assoc name (32 ∷ 61 ∷ raw) (10 ∷ []) ∙ ap (λ n. n ++ 32 ∷ after) name_is, letter);
+      takes = rw (append_assoc name (32 ∷ 61 ∷ raw) (10 ∷ [])) (valued key_takes refl (closed refl whole (inl refl)));
       left = refl;
-      is_tail = record {
-        blanks = [];
-        comment = [];
-        are_blank = refl;
-        is_comment = absent;
-        ends = inl
-            (refl, refl);
-      };
-      joined = line_is;
+      is_tail = record { blanks = []; comment = []; are_blank = refl; is_comment = absent; ends = inl (refl, refl) };
+      joined = ap (λ f. 9 ∷ (name ++ 32 ∷ 61 ∷ 32 ∷ (git_spelled value ++ f))) feed_is ∙ simp append_assoc;
     } in
     (raw, (spells.outside, whole), entry_holds (9 ∷ []) refl entry section)
 
@@ -381,94 +305,84 @@ are_ends end.Line feed = inl refl
 are_ends end.Open feed = inr (inl refl)
 are_ends end.Backslash feed = inr (inr refl)
 
+-- an entry behind a text that is closed, or behind a header that is put there
+added : {key : Key} {value text new : List ℕ} {contents : List Content} {there : Option Section} {s : Section}
+    (front back feed header : List ℕ) (before after : List Content) (e : End)
+    → is_name key.name ≡ true → is_spellable value ≡ true → IsLineEnd feed → Closes None front before there e
+    → Holds there header [] (Some s) → Ends (Some s) back after → IsIn key (Some s) → NoneIn key after
+    → contents ≡ before ++ after → text ≡ front ++ back
+    → new ≡ front ++ (line_ends e feed ++ (header ++ (new_line key.name value feed ++ back)))
+    → ComesBehind text before back → IsApart front back → IsNewHeader key contents back feed header
+    → IsAdded key value text contents new
+added {key = key} {value = value} {s = s} front back feed header before after e is_a_name spellable is_feed closes head later in_section last old_is cut new_is place apart is_header =
+    let ends = line_ends e feed in
+    let line = new_line key.name value feed in
+    let (kept, holds, same) = closes feed is_feed in
+    let (raw, has_value, line_is) = line_holds key.name value feed is_a_name spellable is_feed (Some s) in
+    let behind = holds_end header (line ++ back) head (holds_end line back line_is later) in
+    record {
+      now = kept ++ (Some s, key.name, Some raw) ∷ after;
+      ends = rw (new_is, ← append_assoc front ends (header ++ (line ++ back)))
+          (holds_end (front ++ ends) (header ++ (line ++ back)) holds behind);
+      adds = record {
+        before = before;
+        kept = kept;
+        after = after;
+        section = s;
+        raw = raw;
+        old_is = old_is;
+        same = same;
+        in_section = in_section;
+        has_value = has_value;
+        new_is = refl;
+        last = last;
+      };
+      bytes = record {
+        front = front;
+        back = back;
+        feed = feed;
+        ends = ends;
+        header = header;
+        spelling = git_spelled value;
+        old_is = cut;
+        new_is = new_is;
+        is_feed = is_feed;
+        are_ends = are_ends e feed;
+        place = place;
+        apart = apart;
+        is_header = is_header;
+        spells = (git_spelling value spellable, refl);
+      };
+    }
+
 pub added_inside : {key : Key} (value text new feed front : List ℕ) {contents : List Content}
     {section : Option Section} {place : Insertion}
     → is_name key.name ≡ true → is_spellable value ≡ true
     → IsPlace key text [] contents section true place → IsLineEnd feed → text ≡ front ++ place.rest.now
     → new ≡ front ++ (line_ends place.end feed ++ (new_line key.name value feed ++ place.rest.now))
     → IsAdded key value text contents new
-added_inside {key = key} value text new feed front {contents = contents} {place = place} is_a_name spellable r is_feed cut new_is =
-    let ends = line_ends place.end feed in
-    let line = new_line key.name value feed in
+added_inside {key = key} value text new feed front {place = place} is_a_name spellable r is_feed cut new_is =
     let rest = place.rest.now in
     let front_is : front ≡ r.front = append_cancel_right front r.front rest (sym cut ∙ r.joined) in
-    let (kept, holds, same) = r.closes feed is_feed in
     let (s, there_is, in_there) = in_some key r.there r.in_section in
-    let (raw, has_value, line_is) = line_holds key.name value feed is_a_name spellable is_feed r.there in
-    let x : Content = (r.there, key.name, Some raw) in
     let rest_is : rest ≡ r.between = r.cut ∙ append-nil r.between in
-    let later : Ends r.there rest r.after =
-    subst (λ t. Ends r.there t r.after) (sym rest_is) (passed_ends refl r.passed) in
-    let whole : Ends None ((r.front ++ ends) ++ (line ++ rest)) (kept ++ x ∷ r.after) =
-    holds_end (r.front ++ ends) (line ++ rest) holds (holds_end line rest line_is later) in
-    let text_is : (r.front ++ ends) ++ (line ++ rest) ≡ new = append_assoc r.front ends (line ++ rest)
-    ∙ ap (λ f. f ++ (ends ++ (line ++ rest))) (sym front_is) ∙ sym new_is in
-    record {
-      now = kept ++ x ∷ r.after;
-      ends = subst (λ t. Ends None t (kept ++ x ∷ r.after)) text_is whole;
-      adds = record {
-        before = r.before;
-        kept = kept;
-        after = r.after;
-        section = s;
-        raw = raw;
-        old_is = r.contents_are;
-        same = same;
-        in_section = in_there;
-        has_value = has_value;
-        new_is = ap (λ t. kept ++ (t, key.name, Some raw) ∷ r.after) there_is;
-        last = r.last;
-      };
-      bytes = record {
-        front = front;
-        back = rest;
-        feed = feed;
-        ends = ends;
-        header = [];
-        spelling = git_spelled value;
-        old_is = cut;
-        new_is = new_is;
-        is_feed = is_feed;
-        are_ends = are_ends place.end feed;
-        place = r.comes;
-        apart = subst (λ f. IsApart f rest) (sym front_is) (place_apart r);
-        is_header = inl refl;
-        spells = (git_spelling value spellable, refl);
-      };
-    }
+    let later : Ends r.there rest r.after = rw rest_is (passed_ends refl r.passed) in
+    let later_there : Ends (Some s) rest r.after = subst (λ t. Ends t rest r.after) there_is later in
+    let head : Holds r.there [] [] (Some s) = subst (λ t. Holds r.there [] [] t) there_is (holds_nothing r.there) in
+    added r.front rest feed [] r.before r.after place.end is_a_name spellable is_feed r.closes head later_there in_there r.last
+    r.contents_are r.joined (rw front_is at new_is) r.comes (place_apart r) (inl refl)
 
 -- a new section
-listed_plain : (key : Key) (name : List ℕ) → key.subsection ≡ None → name ≡ key.section
-    → IsListedSection (name, None) (stem key ++ 46 ∷ [])
-listed_plain key name none is =
-    let whole : map to_ascii_lowercase name ++ 46 ∷ [] ≡ stem key ++ 46 ∷ [] =
-    ap (λ n. map to_ascii_lowercase n ++ 46 ∷ []) is
-    ∙ ap (λ s. s ++ 46 ∷ []) (sym (append-nil (map to_ascii_lowercase key.section)) ∙ ap
-    (λ d. map to_ascii_lowercase key.section ++ dotted d) (sym none)) in
-    subst (IsListedSection (name, None)) whole listing.plain
-
-listed_quoted : (key : Key) (name raw text : List ℕ) → key.subsection ≡ Some text → name ≡ key.section
-    → SpellsSubsection raw text → IsListedSection (name, Some raw) (stem key ++ 46 ∷ [])
-listed_quoted key name raw text some is spelled =
-    let lower = map to_ascii_lowercase key.section in
-    let whole : (map to_ascii_lowercase name ++ 46 ∷ []) ++ (text ++ 46 ∷ []) ≡ stem key ++ 46 ∷ [] =
-    ap (λ n. (map to_ascii_lowercase n ++ 46 ∷ []) ++ (text ++ 46 ∷ [])) is
-    ∙ append_assoc lower (46 ∷ []) (text ++ 46 ∷ [])
-    ∙ sym (append_assoc lower (46 ∷ text) (46 ∷ [])) ∙ ap (λ d. (lower ++ dotted d) ++ 46 ∷ []) (sym some) in
-    subst (IsListedSection (name, Some raw)) whole (listing.quoted spelled)
-
-listed_as_stem : (key : Key) (name : List ℕ) (raw text : Option (List ℕ)) → key.subsection ≡ text
-    → name ≡ key.section → SpellsOptional SpellsSubsection raw text
-    → IsListedSection (name, raw) (stem key ++ 46 ∷ [])
-listed_as_stem key name None None same is spells = listed_plain key name same is
-listed_as_stem key name (Some raw) (Some text) same is spells = listed_quoted key name raw text same is spells
-listed_as_stem key name None (Some text) same is spells = absurd spells
-listed_as_stem key name (Some raw) None same is spells = absurd spells
+listed_as_stem : (name : List ℕ) (raw text : Option (List ℕ)) → SpellsOptional SpellsSubsection raw text
+    → IsListedSection (name, raw) ((map to_ascii_lowercase name ++ dotted text) ++ 46 ∷ [])
+listed_as_stem name None None spells = rw append-nil listing.plain
+listed_as_stem name (Some raw) (Some text) spells = simp append_assoc (simp append_assoc at (listing.quoted {name = name} spells))
+listed_as_stem name None (Some text) spells = absurd spells
+listed_as_stem name (Some raw) None spells = absurd spells
 
 names_in : (key : Key) (section : Section) → SpellsSection section key.section key.subsection
     → IsIn key (Some section)
-names_in key section (name_is, spells) =
-    listed_as_stem key section.0 section.1 key.subsection refl name_is spells
+names_in key section (name_is, spells) = rw (← name_is) (listed_as_stem section.0 section.1 key.subsection spells)
 
 pub added_behind : (key : Key) (value text new feed : List ℕ) (contents : List Content)
     (section : Option Section) (e : End)
@@ -478,62 +392,17 @@ pub added_behind : (key : Key) (value text new feed : List ℕ) (contents : List
     → new ≡ text ++ (line_ends e feed ++ ((91 ∷ spelled_section key.section key.subsection) ++ (feed ++ new_line key.name value feed)))
     → IsAdded key value text contents new
 added_behind key value text new feed contents section e is_a_name spellable is_a_section nothing closes is_feed whole_text new_is =
-    let ends = line_ends e feed in
     let line = new_line key.name value feed in
     let header = 91 ∷ spelled_section key.section key.subsection in
     let is_header = header_spelled key.section key.subsection is_a_section in
     let (inner, s, header_is, names, header_at) = is_header in
     let at : IsHeaderAt s [] header = record { inner = inner; joined = header_is; header = header_at } in
-    let (kept, holds, same) = closes feed is_feed in
-    let (raw, has_value, line_is) = line_holds key.name value feed is_a_name spellable is_feed (Some s) in
-    let x : Content = (Some s, key.name, Some raw) in
-    let last : Holds section (header ++ (feed ++ line)) (x ∷ []) (Some s) =
-    holds_join header (feed ++ line) (header_holds refl at section)
-    (holds_join feed line (end_holds (Some s) feed (inr is_feed)) line_is) in
-    let whole : Holds None ((text ++ ends) ++ (header ++ (feed ++ line))) (kept ++ x ∷ []) (Some s) =
-    holds_join (text ++ ends) (header ++ (feed ++ line)) holds last in
-    let text_is : (text ++ ends) ++ (header ++ (feed ++ line)) ≡ new =
-    append_assoc text ends (header ++ (feed ++ line))
-    ∙ sym new_is in
-    let passed : Passed None ((text ++ ends) ++ (header ++ (feed ++ line))) (kept ++ x ∷ []) (Some s) [] =
-    anywhere whole in
-    let bytes_are : new ≡ text ++ (ends ++ ((header ++ feed) ++ (line ++ []))) =
-    new_is
-    ∙ ap (λ l. text ++ (ends ++ l))
-    (sym (append_assoc header feed line) ∙ ap (λ l. (header ++ feed) ++ l) (sym (append-nil line))) in
-    record {
-      now = kept ++ x ∷ [];
-      ends = subst (λ t. Ends None t (kept ++ x ∷ [])) text_is (passed_ends refl passed);
-      adds = record {
-        before = contents;
-        kept = kept;
-        after = [];
-        section = s;
-        raw = raw;
-        old_is = sym (append-nil contents);
-        same = same;
-        in_section = names_in key s names;
-        has_value = has_value;
-        new_is = refl;
-        last = spec.none;
-      };
-      bytes = record {
-        front = text;
-        back = [];
-        feed = feed;
-        ends = ends;
-        header = header ++ feed;
-        spelling = git_spelled value;
-        old_is = sym (append-nil text);
-        new_is = bytes_are;
-        is_feed = is_feed;
-        are_ends = are_ends e feed;
-        place = inr (refl, whole_text);
-        apart = inr (nothing_next [] refl);
-        is_header = inr (header, (is_header, refl), refl, refl, nothing);
-        spells = (git_spelling value spellable, refl);
-      };
-    }
+    let head : Holds section (header ++ feed) [] (Some s) =
+    holds_join header feed (header_holds refl at section) (end_holds (Some s) feed (inr is_feed)) in
+    added text [] feed (header ++ feed) contents [] e is_a_name spellable is_feed closes head
+    (passed_ends refl (anywhere (holds_nothing (Some s)))) (names_in key s names) spec.none (sym (append-nil contents))
+    (sym (append-nil text)) (rw (append-nil line, append_assoc header feed line) new_is) (inr (refl, whole_text))
+    (inr (nothing_next [] refl)) (inr (header, (is_header, refl), refl, refl, nothing))
 
 -- what the code knows of the section after a piece
 pub inside_after_header : (key : Key) (before : Option Section) (is_inside : Bool) (h : Held)
@@ -544,20 +413,15 @@ pub inside_after_header : (key : Key) (before : Option Section) (is_inside : Boo
     → (IsTrue is_inside ↔ IsIn key (section_after h before))
 inside_after_header key before is_inside h blanks bytes rest is_line made section e asks =
     let (listed, spelled) = header_listed h blanks bytes rest is_line made section e in
-    let (there, back) = asks listed spelled in
-    let after : section_after h before ≡ Some (section_of section) = ap (λ x. section_after x before) e in
-    (λ is. subst (IsIn key) (sym after) (there is), λ is. back (subst (IsIn key) after is))
+    rw e (asks listed spelled)
 
 pub inside_after_other : (key : Key) (section : Option Section) (is_inside : Bool) (h : Held)
     → ((new : code.Section) → h ≡ held.Header new → ⊥) → (IsTrue is_inside ↔ IsIn key section)
     → (IsTrue is_inside ↔ IsIn key (section_after h section))
-inside_after_other key section is_inside h other (there, back) =
-    let same = other_after h section other in
-    (λ is. subst (IsIn key) (sym same) (there is), λ is. back (subst (IsIn key) same is))
+inside_after_other key section is_inside h other both = rw (other_after h section other) both
 
-pub place_within : (key : Key) (text rest : List ℕ) (contents : List Content) (section : Option Section)
-    (is_inside after : Bool) (inside : Option Insertion)
-    → IsPlaceSoFar key text rest contents section is_inside after inside
+pub place_within : {key : Key} {text rest : List ℕ} {is_inside after : Bool} (inside : Option Insertion) {e : End}
+    → Placing key text rest is_inside after inside e
     → IfSome inside (λ place. (front : List ℕ) × (text ≡ front ++ place.rest.now))
-place_within key text rest contents section is_inside after None so_far = tt
-place_within key text rest contents section is_inside after (Some place) r = (r.front, r.joined)
+place_within None p = tt
+place_within (Some place) p = (p.place.front, p.place.joined)

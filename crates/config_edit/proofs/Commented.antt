@@ -1,17 +1,16 @@
 -- Entries that get comments.
-use Rattle.std.proofs.Common.{◌≡◌, ◌≢◌, ℕ, ◌+◌, Bool, true, false, not, List, [], ◌∷◌, ◌++◌, Option, Some, None, refl}
-use Rattle.std.proofs.Common.{sym, ap, ◌∙◌, subst, append_assoc, append-nil, arith, inl, inr, ◌⊎◌, true≢false, ◌&&◌}
-use Rattle.std.proofs.Common.{option_copied, eqb-true, ◌==◌, length}
+use Rattle.std.proofs.Common.{◌≡◌, ◌≢◌, ℕ, Bool, true, false, List, [], ◌∷◌, ◌++◌, Option, Some, None, refl}
+use Rattle.std.proofs.Common.{sym, ap, ◌∙◌, subst, append_assoc, append-nil, arith, inl, inr, ◌⊎◌, true≢false}
+use Rattle.std.proofs.Common.{option_copied, ◌==◌, length}
 use Rattle.std.specs.List.{list_all}
 use Rattle.std.specs.Char.{is_ascii_alphabetic}
-use Rattle.std.proofs.lemmas.Bool.{and_parts, cases_Bool}
 use Rattle.std.proofs.lemmas.Bool.Decides.{nat_tests}
 use Rattle.std.proofs.lemmas.List.{append_cancel_left, append_cancel_right}
 use Rattle.std.proofs.lemmas.List.Folds.{list_all-append}
 use Rattle.config_edit.specs.declared.Change.{Change}
 use Rattle.config_edit.specs.declared.piece.Piece.{Piece}
 use Rattle.config_file.specs.declared.entry.EntryParts.{EntryParts}
-use Rattle.config_file.specs.Bytes.{is_blank, is_space, is_comment_byte, is_comment_sign, is_plain, is_plain_in_quotes, BeginsWithLetter}
+use Rattle.config_file.specs.Bytes.{is_blank, is_space, is_comment_byte, is_plain, BeginsWithLetter}
 use Rattle.config_file.specs.Header.{BeginsWithout}
 use Rattle.config_file.specs.Runs.{Run}
 use Rattle.config_file.specs.Value as value
@@ -23,170 +22,89 @@ use Rattle.config_edit.specs.Edit.{WritesComment, IsEndOfLine, FeedsComment, Put
 use Rattle.config_edit.specs.Edit.{present}
 use Rattle.config_edit.specs.Reading.{HasHow, IsOpen, IsNamed, IsCommented, IsChangedIn, IsWritableName, IsWritableComment}
 use Rattle.config_file.specs.Views.{value_of}
-use Rattle.config_edit.proofs.Pieces.{first_blank, other_blanks}
+use Rattle.config_edit.proofs.Pieces.{first_blank, other_blanks, tail_ends}
 use Rattle.config_edit.proofs.Changed.{parts_blank, both_blank, gap_blank, spells_between, spells_before, can_hold, with_value}
 use Rattle.config_edit.proofs.Changed.{inside_is_not_outside, backslash_is_not_outside, tail_cut}
 use Rattle.config_edit.proofs.EachEntry.{entry_named, begins_named}
 use Rattle.config_edit.proofs.Closed.{goes_on_over, more_bytes, some_same}
 use Rattle.config_file.proofs.OneValue.{before_backslash}
+use Rattle.config_file.proofs.Spelled.{after_held, after_plain}
 use Rattle.config_file.proofs.OneRun.{run_same}
-use Rattle.config_file.proofs.LineEnds.{all_more}
+use Rattle.config_file.proofs.LineEnds.{all_more, not_none, rest_none}
 
--- a text that is cut at two places
-cut : (a b c d : List ℕ) → a ++ b ≡ c ++ d
-    → ((m : List ℕ) × (c ≡ a ++ m) × (b ≡ m ++ d)) ⊎ ((m : List ℕ) × (a ≡ c ++ m) × (d ≡ m ++ b))
-cut [] b c d e = inl (c, refl, e)
-cut (x ∷ a) b [] d e = inr (x ∷ a, refl, sym e)
-cut (x ∷ a) b (y ∷ c) d e =
-    let same : x ≡ y = cc in
-    let more : a ++ b ≡ c ++ d = cc in
-    elim (cut a b c d more) [
-      | inl (m, front, back) ↦ inl (m, ap (λ f. y ∷ f) front ∙ ap (λ z. z ∷ (a ++ m)) (sym same), back)
-      | inr (m, front, back) ↦ inr (m, ap (λ f. x ∷ f) front ∙ ap (λ z. z ∷ (c ++ m)) same, back)
-    ]
-
--- blanks do not hold a byte that is none
-last_of_blanks : (more : List ℕ) (x : ℕ) → AreBlank (more ++ x ∷ []) → is_blank x ≡ true
-last_of_blanks more x all = first_blank x [] (parts_blank more (x ∷ []) all).1
-
-nothing_behind : (c m : List ℕ) → [] ≡ c ++ m → m ≡ []
-nothing_behind [] m e = sym e
-nothing_behind (x ∷ c) m e = cc
-
-nothing_there : (b : ℕ) (more : List ℕ) → b ∷ more ≡ [] → ⊥
-nothing_there b more e = cc
-
-no_blank_left : (more : List ℕ) (x : ℕ) (c m : List ℕ) → more ++ x ∷ [] ≡ c ++ m → AreBlank m
-    → is_blank x ≡ false → m ≡ []
-no_blank_left more x [] m e all other =
-    absurd (true≢false (sym (last_of_blanks more x (subst AreBlank (sym e) all)) ∙ other))
-no_blank_left [] x (z ∷ c) m e all other =
-    let left : [] ≡ c ++ m = cc in nothing_behind c m left
-no_blank_left (w ∷ more) x (z ∷ c) m e all other =
-    let left : more ++ x ∷ [] ≡ c ++ m = cc in no_blank_left more x c m left all other
+-- the first bytes and the rests of two texts that are the same
+uncons : {b c : ℕ} {more rest : List ℕ} → b ∷ more ≡ c ∷ rest → (b ≡ c) × (more ≡ rest)
+uncons e = ((cc), (cc))
 
 -- the blanks at the end of a text stay behind a byte that is none
-trail_within : (xs ys core blanks more : List ℕ) (x : ℕ) → xs ≡ more ++ x ∷ [] → is_blank x ≡ false
-    → core ++ blanks ≡ xs ++ ys → AreBlank blanks → (inner : List ℕ) × (ys ≡ inner ++ blanks) × (core ≡ xs ++ inner)
-trail_within xs ys core blanks more x ends other joined all =
-    elim (cut xs ys core blanks (sym joined)) [
-      | inl (m, core_is, ys_is) ↦ (m, ys_is, core_is)
-      | inr (m, xs_is, blanks_is) ↦
-          let none : m ≡ [] =
-          no_blank_left more x core m (sym ends ∙ xs_is) (parts_blank m ys (subst AreBlank blanks_is all)).0 other in (
-            [],
-            sym (blanks_is ∙ ap (λ k. k ++ ys) none),
-            sym (append-nil xs ∙ xs_is ∙ ap (λ k. core ++ k) none ∙ append-nil core),
-          )
-    ]
+trail_within : (front : List ℕ) (x : ℕ) (more core blanks : List ℕ) → is_blank x ≡ false → AreBlank blanks
+    → core ++ blanks ≡ front ++ x ∷ more → (inner : List ℕ) × (more ≡ inner ++ blanks) × (core ≡ front ++ x ∷ inner)
+trail_within front x more [] blanks other all e =
+    absurd (true≢false (sym (first_blank x more (parts_blank front (x ∷ more) (rw e at all)).1) ∙ other))
+trail_within [] x more (c ∷ core) blanks other all e =
+    let (same, left) = uncons e in
+    (core, sym left, ap (λ b. b ∷ core) same)
+trail_within (f ∷ front) x more (c ∷ core) blanks other all e =
+    let (same, left) = uncons e in
+    let (inner, more_is, core_is) = trail_within front x more core blanks other all left in
+    (inner, more_is, cc)
 
 -- a value without the blanks behind it
 no_blank : (b c : ℕ) → is_blank b ≡ true → b ≡ c → is_blank c ≡ false → ⊥
 no_blank b c is same other = true≢false (sym (subst (λ x. is_blank x ≡ true) same is) ∙ other)
 
-no_plain : (b : ℕ) → is_blank b ≡ true → is_plain false b ≡ true → ⊥
-no_plain b is plain =
-    let outer = and_parts (is_plain_in_quotes b) (not (is_blank b) && not (is_comment_sign b)) plain in
-    let inner = and_parts (not (is_blank b)) (not (is_comment_sign b)) outer.1 in
-    true≢false (sym inner.0 ∙ ap not is)
-
 no_escape : (e k : ℕ) → is_blank e ≡ true → escape e ≡ Some k → ⊥
-no_escape e k is letter =
-    elim (cases_Bool (e == 32)) [
-      | inl at ↦ let same : e ≡ 32 = eqb-true e 32 at in
-          let none : escape 32 ≡ Some k = subst (λ x. escape x ≡ Some k) same letter in cc
-      | inr off ↦ elim (cases_Bool (e == 9)) [
-        | inl at ↦ let same : e ≡ 9 = eqb-true e 9 at in
-            let none : escape 9 ≡ Some k = subst (λ x. escape x ≡ Some k) same letter in cc
-        | inr also ↦ let same : e ≡ 13 = grind (arith, nat_tests) in
-            let none : escape 13 ≡ Some k = subst (λ x. escape x ≡ Some k) same letter in cc
-      ]
-    ]
+no_escape e k is letter = grind (arith, nat_tests)
 
-in_quotes : {w : ℕ → ℕ} {so_far held raw text : List ℕ} {ending : Ending} → Spells w true so_far held raw text ending
-    → AreBlank raw → ending ≡ outside → ⊥
-in_quotes value.ends_inside all e = inside_is_not_outside e
-in_quotes (value.quote {b = b} {raw = raw} is s) all e = no_blank b 34 (first_blank b raw all) is refl
-in_quotes (value.escaped {b = b} {e = l} {raw = raw} is letter s) all e = no_blank b 92 (first_blank b (l ∷ raw) all) is refl
-in_quotes (value.continued {b = b} {e = l} {raw = raw} is line s) all e = no_blank b 92 (first_blank b (l ∷ raw) all) is refl
-in_quotes (value.continued_after_return {b = b} {e = l} {f = m} {raw = raw} is return line s) all e =
-    no_blank b 92 (first_blank b (l ∷ m ∷ raw) all) is refl
-in_quotes (value.plain {b = b} {raw = raw} is s) all e = in_quotes s (other_blanks b raw all) e
-
-blanks_alone : {w : ℕ → ℕ} {so_far held raw text : List ℕ} {ending : Ending} → Spells w false so_far held raw text ending
-    → AreBlank raw → ending ≡ outside → text ≡ so_far
-blanks_alone value.ends_outside all e = refl
-blanks_alone (value.ends_at_backslash is) all e = absurd (backslash_is_not_outside e)
-blanks_alone (value.quote {b = b} {raw = raw} is s) all e = absurd (no_blank b 34 (first_blank b raw all) is refl)
-blanks_alone (value.escaped {b = b} {e = l} {raw = raw} is letter s) all e =
-    absurd (no_blank b 92 (first_blank b (l ∷ raw) all) is refl)
-blanks_alone (value.continued {b = b} {e = l} {raw = raw} is line s) all e =
-    absurd (no_blank b 92 (first_blank b (l ∷ raw) all) is refl)
-blanks_alone (value.continued_after_return {b = b} {e = l} {f = m} {raw = raw} is return line s) all e =
-    absurd (no_blank b 92 (first_blank b (l ∷ m ∷ raw) all) is refl)
-blanks_alone (value.blank {b = b} {raw = raw} is s) all e = blanks_alone s (other_blanks b raw all) e
-blanks_alone (value.plain {b = b} {raw = raw} is s) all e = absurd (no_plain b (first_blank b raw all) is)
-
-nothing_left : {w : ℕ → ℕ} (q : Bool) {so_far held raw text : List ℕ} {ending : Ending} → Spells w q so_far held raw text ending
-    → AreBlank raw → ending ≡ outside → Spells w q so_far held [] text outside
-nothing_left true s all e = absurd (in_quotes s all e)
-nothing_left {w = w} false {so_far = so_far} {held = held} s all e =
-    subst (λ t. Spells w false so_far held [] t outside) (sym (blanks_alone s all e)) value.ends_outside
+nothing_spelled : {w : ℕ → ℕ} {q : Bool} {so_far held text : List ℕ} {ending : Ending} (raw : List ℕ)
+    → Spells w q so_far held raw text ending → AreBlank raw → ending ≡ outside → (q ≡ false) × (text ≡ so_far)
+nothing_spelled [] value.ends_outside all e = (refl, refl)
+nothing_spelled [] value.ends_inside all e = absurd (inside_is_not_outside e)
+nothing_spelled {q = false} (b ∷ raw) s all e =
+    nothing_spelled raw (after_held s (first_blank b raw all)) (other_blanks b raw all) e
+nothing_spelled {q = true} (b ∷ raw) s all e =
+    let other = λ (c : ℕ) (no_blank_is : is_blank c ≡ false) (is : b ≡ c). no_blank b c (first_blank b raw all) is no_blank_is in
+    absurd (true≢false (nothing_spelled raw (after_plain s refl (other 34 refl) (other 92 refl)) (other_blanks b raw all) e).0)
 
 trimmed : {w : ℕ → ℕ} {q : Bool} {so_far held raw text : List ℕ} {ending : Ending} (core blanks : List ℕ)
     → AreBlank blanks → ending ≡ outside → raw ≡ core ++ blanks → Spells w q so_far held raw text ending
     → Spells w q so_far held core text outside
-trimmed {q = q} [] blanks all e joined s = nothing_left q s (subst AreBlank (sym joined) all) e
+trimmed [] blanks all e joined s =
+    let (q_is, text_is) = nothing_spelled blanks (rw joined at s) all e in
+    rw (q_is, text_is) value.ends_outside
 trimmed (c ∷ core) blanks all e joined value.ends_outside = cc
 trimmed (c ∷ core) blanks all e joined value.ends_inside = absurd (inside_is_not_outside e)
 trimmed (c ∷ core) blanks all e joined (value.ends_at_backslash is) = absurd (backslash_is_not_outside e)
-trimmed {w = w} {q = q} {so_far = so_far} {held = held} {text = text} (c ∷ core) blanks all e joined (value.quote {b = b} {raw = raw} is s) =
-    let same : b ≡ c = cc in
-    let left : raw ≡ core ++ blanks = cc in
-    subst (λ x. Spells w q so_far held (x ∷ core) text outside) same (value.quote is (trimmed core blanks all e left s))
-trimmed {w = w} {q = q} {so_far = so_far} {held = held} {text = text} (c ∷ core) blanks all e joined (value.blank {b = b} {raw = raw} is s) =
-    let same : b ≡ c = cc in
-    let left : raw ≡ core ++ blanks = cc in
-    subst (λ x. Spells w false so_far held (x ∷ core) text outside) same (value.blank is (trimmed core blanks all e left s))
-trimmed {w = w} {q = q} {so_far = so_far} {held = held} {text = text} (c ∷ core) blanks all e joined (value.plain {b = b} {raw = raw} is s) =
-    let same : b ≡ c = cc in
-    let left : raw ≡ core ++ blanks = cc in
-    subst (λ x. Spells w q so_far held (x ∷ core) text outside) same (value.plain is (trimmed core blanks all e left s))
+trimmed (c ∷ core) blanks all e joined (value.quote is s) =
+    let (same, left) = uncons joined in
+    rw (← same) (value.quote is (trimmed core blanks all e left s))
+trimmed (c ∷ core) blanks all e joined (value.blank is s) =
+    let (same, left) = uncons joined in
+    rw (← same) (value.blank is (trimmed core blanks all e left s))
+trimmed (c ∷ core) blanks all e joined (value.plain is s) =
+    let (same, left) = uncons joined in
+    rw (← same) (value.plain is (trimmed core blanks all e left s))
 trimmed (c ∷ []) blanks all e joined (value.escaped {e = l} {c = k} {raw = raw} is letter s) =
-    let left : l ∷ raw ≡ blanks = cc in
-    absurd (no_escape l k (first_blank l raw (subst AreBlank (sym left) all)) letter)
-trimmed {w = w} {q = q} {so_far = so_far} {held = held} {text = text} (c ∷ d ∷ core) blanks all e joined (value.escaped {b = b} {e = l} {raw = raw} is letter s) =
-    let same : b ≡ c = cc in
-    let also : l ≡ d = cc in
-    let left : raw ≡ core ++ blanks = cc in
-    subst (λ x. Spells w q so_far held (x ∷ d ∷ core) text outside) same
-    (subst (λ y. Spells w q so_far held (b ∷ y ∷ core) text outside) also
-    (value.escaped is letter (trimmed core blanks all e left s)))
+    absurd (no_escape l k (first_blank l raw (rw (← (uncons joined).1) at all)) letter)
+trimmed (c ∷ d ∷ core) blanks all e joined (value.escaped is letter s) =
+    let (same, more) = uncons joined in
+    let (also, left) = uncons more in
+    rw (← same, ← also) (value.escaped is letter (trimmed core blanks all e left s))
 trimmed (c ∷ []) blanks all e joined (value.continued {e = l} {raw = raw} is line s) =
-    let left : l ∷ raw ≡ blanks = cc in
-    absurd (no_blank l 10 (first_blank l raw (subst AreBlank (sym left) all)) line refl)
-trimmed {w = w} {q = q} {so_far = so_far} {held = held} {text = text} (c ∷ d ∷ core) blanks all e joined (value.continued {b = b} {e = l} {raw = raw} is line s) =
-    let same : b ≡ c = cc in
-    let also : l ≡ d = cc in
-    let left : raw ≡ core ++ blanks = cc in
-    subst (λ x. Spells w q so_far held (x ∷ d ∷ core) text outside) same
-    (subst (λ y. Spells w q so_far held (b ∷ y ∷ core) text outside) also
-    (value.continued is line (trimmed core blanks all e left s)))
+    absurd (no_blank l 10 (first_blank l raw (rw (← (uncons joined).1) at all)) line refl)
+trimmed (c ∷ d ∷ core) blanks all e joined (value.continued is line s) =
+    let (same, more) = uncons joined in
+    let (also, left) = uncons more in
+    rw (← same, ← also) (value.continued is line (trimmed core blanks all e left s))
 trimmed (c ∷ []) blanks all e joined (value.continued_after_return {e = l} {f = m} {raw = raw} is return line s) =
-    let left : l ∷ m ∷ raw ≡ blanks = cc in
-    absurd (no_blank m 10 (first_blank m raw (other_blanks l (m ∷ raw) (subst AreBlank (sym left) all))) line refl)
+    absurd (no_blank m 10 (first_blank m raw (other_blanks l (m ∷ raw) (rw (← (uncons joined).1) at all))) line refl)
 trimmed (c ∷ d ∷ []) blanks all e joined (value.continued_after_return {e = l} {f = m} {raw = raw} is return line s) =
-    let left : m ∷ raw ≡ blanks = cc in
-    absurd (no_blank m 10 (first_blank m raw (subst AreBlank (sym left) all)) line refl)
-trimmed {w = w} {q = q} {so_far = so_far} {held = held} {text = text} (c ∷ d ∷ g ∷ core) blanks all e joined (value.continued_after_return {b = b} {e = l} {f = m} {raw = raw} is return line s) =
-    let same : b ≡ c = cc in
-    let also : l ≡ d = cc in
-    let third : m ≡ g = cc in
-    let left : raw ≡ core ++ blanks = cc in
-    subst (λ x. Spells w q so_far held (x ∷ d ∷ g ∷ core) text outside) same
-    (subst (λ y. Spells w q so_far held (b ∷ y ∷ g ∷ core) text outside) also
-    (subst (λ z. Spells w q so_far held (b ∷ l ∷ z ∷ core) text outside) third
-    (value.continued_after_return is return line (trimmed core blanks all e left s))))
+    absurd (no_blank m 10 (first_blank m raw (rw (← (uncons (uncons joined).1).1) at all)) line refl)
+trimmed (c ∷ d ∷ g ∷ core) blanks all e joined (value.continued_after_return is return line s) =
+    let (same, more) = uncons joined in
+    let (also, others) = uncons more in
+    let (third, left) = uncons others in
+    rw (← same, ← also, ← third) (value.continued_after_return is return line (trimmed core blanks all e left s))
 
 -- what is written
 space_is_blank : (b : ℕ) → is_space b ≡ true → is_blank b ≡ true
@@ -194,20 +112,14 @@ space_is_blank b is = grind (arith, nat_tests)
 
 comment_behind : (front more : List ℕ) → list_all is_comment_byte (front ++ 35 ∷ more) ≡ true
     → list_all is_comment_byte more ≡ true
-comment_behind front more all =
-    let parts = and_parts (list_all is_comment_byte front) (list_all is_comment_byte (35 ∷ more))
-    (sym (list_all-append is_comment_byte front (35 ∷ more)) ∙ all) in
-    more_bytes 35 more parts.1
+comment_behind [] more all = more_bytes 35 more all
+comment_behind (b ∷ front) more all = comment_behind front more (more_bytes b (front ++ 35 ∷ more) all)
 
 written_parts : {comment written : List ℕ} → list_all is_comment_byte comment ≡ true → WritesComment comment written
     → (blanks more : List ℕ) × (written ≡ blanks ++ 35 ∷ more) × AreBlank blanks × (list_all is_comment_byte more ≡ true)
-written_parts all (spec.spaced b blanks more spaces) = (
-  b ∷ blanks,
-  more,
-  refl,
-  all_more is_space is_blank space_is_blank (b ∷ blanks) spaces,
-  comment_behind (b ∷ blanks) more all,
-)
+written_parts all (spec.spaced b blanks more spaces) =
+    let are_blank = all_more is_space is_blank space_is_blank (b ∷ blanks) spaces in
+    (b ∷ blanks, more, refl, are_blank, comment_behind (b ∷ blanks) more all)
 written_parts all (spec.signed {more = more}) = (32 ∷ [], more, refl, refl, more_bytes 35 more all)
 written_parts all (spec.plain {comment = comment} other) = (32 ∷ [], 32 ∷ comment, refl, refl, all)
 
@@ -220,52 +132,40 @@ front_of_plain {blanks = blanks} {rest = rest} run without = spec.plain (λ othe
 
 pub front_of_signed : {comment blanks rest after : List ℕ} → Run is_space comment blanks rest → rest ≡ 35 ∷ after → blanks ≡ []
     → WritesComment comment (32 ∷ comment)
-front_of_signed {rest = rest} run sign none =
-    subst (λ c. WritesComment c (32 ∷ c)) (sym (run.joined ∙ ap (λ b. b ++ rest) none ∙ sign)) spec.signed
+front_of_signed run sign none = rw (run.joined, none, sign) spec.signed
 
 pub front_of_spaced : {comment blanks rest after : List ℕ} → Run is_space comment blanks rest → rest ≡ 35 ∷ after → blanks ≢ []
     → WritesComment comment comment
 front_of_spaced {blanks = []} run sign some = absurd (some refl)
-front_of_spaced {blanks = b ∷ blanks} {after = after} run sign some =
-    subst (λ c. WritesComment c c) (sym (run.joined ∙ ap (λ r. (b ∷ blanks) ++ r) sign)) (spec.spaced b blanks after run.pass)
+front_of_spaced {blanks = b ∷ blanks} {after = after} run sign some = rw (run.joined, sign) (spec.spaced b blanks after run.pass)
 
 -- the line end of an entry is that of its piece
 letter_no_feed : (b : ℕ) → is_ascii_alphabetic b ≡ true → b ≡ 10 → ⊥
 letter_no_feed b letter is = grind (arith, nat_tests)
 
-letter_ends : (m bytes rest : List ℕ) → BeginsWithLetter (bytes ++ rest) → bytes ≢ [] → 13 ∷ 10 ∷ [] ≡ m ++ bytes → bytes ≡ 13 ∷ 10 ∷ []
-letter_ends [] bytes rest letter some e = sym e
-letter_ends (x ∷ []) bytes rest (b, more, bytes_is, letter) some e =
-    let left : 10 ∷ [] ≡ bytes = cc in
-    let begins : 10 ∷ rest ≡ b ∷ more = ap (λ t. t ++ rest) left ∙ bytes_is in
-    let same : b ≡ 10 = cc in absurd (letter_no_feed b letter same)
-letter_ends (x ∷ y ∷ m) bytes rest letter some e =
-    let left : [] ≡ m ++ bytes = cc in absurd (some (nothing_behind m bytes left))
+ends_behind : (front blanks gone rest : List ℕ) → BeginsWithLetter (gone ++ rest) → gone ≢ []
+    → front ++ 13 ∷ 10 ∷ [] ≡ blanks ++ gone → IsEndOfLine gone true (13 ∷ 10 ∷ [])
+ends_behind front [] gone rest letter some e = rw (← e) (spec.return_feed front)
+ends_behind (f ∷ front) (b ∷ blanks) gone rest letter some e = ends_behind front blanks gone rest letter some (uncons e).1
+ends_behind [] (b ∷ []) gone rest (l, more, gone_is, letter) some e =
+    let begins : 10 ∷ rest ≡ l ∷ more = ap (λ t. t ++ rest) (uncons e).1 ∙ gone_is in
+    absurd (letter_no_feed l letter (sym (uncons begins).0))
+ends_behind [] (b ∷ c ∷ blanks) gone rest letter some e = absurd (some (rest_none blanks gone (sym (uncons (uncons e).1).1)))
 
 end_without_blanks : {bytes end : List ℕ} {is_line : Bool} (blanks gone rest : List ℕ) → bytes ≡ blanks ++ gone
     → BeginsWithLetter (gone ++ rest) → (is_line ≡ true → gone ≢ [])
     → IsEndOfLine bytes is_line end → IsEndOfLine gone is_line end
 end_without_blanks blanks gone rest joined letter some spec.unended = spec.unended
 end_without_blanks blanks gone rest joined letter some (spec.feed other) =
-    spec.feed (λ front e. other (blanks ++ front)
-    (joined ∙ ap (λ g. blanks ++ g) e ∙ sym (append_assoc blanks front (13 ∷ 10 ∷ []))))
+    spec.feed (λ front e. other (blanks ++ front) (joined ∙ rw e (sym (append_assoc blanks front (13 ∷ 10 ∷ [])))))
 end_without_blanks blanks gone rest joined letter some (spec.return_feed front) =
-    elim (cut front (13 ∷ 10 ∷ []) blanks gone joined) [
-      | inl (m, blanks_is, end_is) ↦
-          subst (λ g. IsEndOfLine g true (13 ∷ 10 ∷ [])) (sym (letter_ends m gone rest letter (some refl) end_is)) (spec.return_feed [])
-      | inr (m, front_is, gone_is) ↦
-          subst (λ g. IsEndOfLine g true (13 ∷ 10 ∷ [])) (sym gone_is) (spec.return_feed m)
-    ]
+    ends_behind front blanks gone rest letter (some refl) joined
 
 line_is_some : {tail rest : List ℕ} {is_line : Bool} (front : List ℕ) → IsTail tail rest is_line → is_line ≡ true → front ++ tail ≢ []
-line_is_some {tail = tail} front t on = λ none.
-    let empty : tail ≡ [] = nothing_behind front tail (sym none) in
-    elim t.ends [
-      | inl line ↦
-          let left = nothing_behind t.blanks (t.comment ++ 10 ∷ []) (sym (sym line.1 ∙ empty)) in
-          nothing_there 10 [] (nothing_behind t.comment (10 ∷ []) (sym left))
-      | inr end ↦ true≢false (sym on ∙ end.0)
-    ]
+line_is_some front t on = λ none. elim t.ends [
+  | inl line ↦ not_none (front ++ (t.blanks ++ t.comment)) [] 10 (simp append_assoc (rw line.1 at none))
+  | inr end ↦ true≢false (sym on ∙ end.0)
+]
 
 comment_tail : {bytes end rest : List ℕ} {is_line : Bool} (more : List ℕ) → list_all is_comment_byte more ≡ true
     → IsEndOfLine bytes is_line end → (is_line ≡ false → rest ≡ []) → IsTail (35 ∷ (more ++ end)) rest is_line
@@ -284,12 +184,6 @@ comment_tail more all (spec.return_feed front) none =
       ends = inl (refl, ap (λ m. 35 ∷ m) (sym (append_assoc more (13 ∷ []) (10 ∷ []))));
     }
 
-end_of_text : {tail rest : List ℕ} {is_line : Bool} → IsTail tail rest is_line → is_line ≡ false → rest ≡ []
-end_of_text t off = elim t.ends [
-  | inl line ↦ absurd (true≢false (sym line.0 ∙ off))
-  | inr end ↦ end.1
-]
-
 -- an entry with another key, or with its own
 pub named_takes : {key at : List ℕ} {was : Option (List ℕ)} {lines : ℕ} (name : Option (List ℕ)) (between raw : List ℕ)
     → IsWritableName name → BeginsWithLetter ((key ++ (between ++ raw)) ++ at)
@@ -302,8 +196,7 @@ named_takes {key = key} {at = at} {was = was} {lines = lines} (Some name) betwee
     let same : more ≡ between ++ raw =
     append_cancel_left key more (between ++ raw)
     (sym (append_cancel_right (key ++ (between ++ raw)) (key ++ more) at text_is)) in
-    let moved = subst (λ m. TakesEntry ((name ++ m) ++ at) name was lines at) same now in
-    (subst BeginsWithLetter (sym (append_assoc name (between ++ raw) at)) (begins_named name ((between ++ raw) ++ at) is), moved)
+    (rw append_assoc (begins_named name ((between ++ raw) ++ at) is), rw same at now)
 
 -- what the value is before a comment
 record Before (value between key : List ℕ) (was : Option (List ℕ)) (blanks core_all front bytes feed written_blanks : List ℕ) : Type 0 where
@@ -323,11 +216,8 @@ data Ends (value raw bytes feed : List ℕ) : Type 0 where
   as_open : SpellsValue bytes value at_backslash → bytes ≡ raw → feed ≡ 10 ∷ [] → Ends value raw bytes feed
 
 feeds_of : {value raw bytes feed : List ℕ} → Ends value raw bytes feed → FeedsComment (Some raw) bytes feed
-feeds_of {raw = raw} {bytes = bytes} (as_closed spells none) = subst (λ f. FeedsComment (Some raw) bytes f) (sym none) (spec.closed spells)
-feeds_of {value = value} {raw = raw} {bytes = bytes} {feed = feed} (as_open spells same one) =
-    subst (λ f. FeedsComment (Some raw) bytes f) (sym one)
-    (subst (λ b. FeedsComment (Some raw) b (10 ∷ [])) (sym same)
-    (spec.open_value (subst (λ b. SpellsValue b value at_backslash) same spells)))
+feeds_of (as_closed spells none) = rw none (spec.closed spells)
+feeds_of (as_open spells same one) = rw (one, same) (spec.open_value (rw same at spells))
 
 spelled_before : {value raw bytes feed : List ℕ} (core blanks written : List ℕ) → Ends value raw bytes feed → bytes ≡ core ++ blanks
     → AreBlank blanks → AreBlank written → SpellsValue (core ++ (feed ++ written)) value outside
@@ -335,89 +225,20 @@ spelled_before {value = value} core blanks written (as_closed spells none) joine
     rw none (spells_before written also (trimmed core blanks all refl joined spells))
 spelled_before {value = value} {bytes = bytes} core blanks written (as_open spells same one) joined all also =
     let (front, ends) = before_backslash spells in
-    let nothing : blanks ≡ [] = no_blank_left front 92 core blanks (sym ends ∙ joined) all refl in
+    let (inner, inner_is, unused) = trail_within front 92 [] core blanks refl all (sym joined ∙ ends) in
+    let nothing : blanks ≡ [] = rest_none inner blanks (sym inner_is) in
     let core_is : bytes ≡ core = joined ∙ ap (λ b. core ++ b) nothing ∙ append-nil core in
     let over : SpellsValue (bytes ++ 10 ∷ []) value outside = goes_on_over (10 ∷ []) [] (inl refl) (inl refl) refl spells in
-    let behind : SpellsValue ((bytes ++ 10 ∷ []) ++ written) value outside = spells_before written also over in
-    let text_is : (bytes ++ 10 ∷ []) ++ written ≡ core ++ 10 ∷ written =
-    append_assoc bytes (10 ∷ []) written ∙ ap (λ c. c ++ 10 ∷ written) core_is in
-    rw one (subst (λ t. SpellsValue t value outside) text_is behind)
-
-before_valued : {value raw at key between core_all blanks front bytes feed : List ℕ} {lines : ℕ} (written : List ℕ)
-    → BeginsWithLetter ((key ++ (between ++ raw)) ++ at) → TakesEntry ((key ++ (between ++ raw)) ++ at) key (Some raw) lines at
-    → core_all ++ blanks ≡ front ++ (key ++ (between ++ bytes)) → AreBlank blanks → AreBlank written
-    → Ends value raw bytes feed
-    → Before value between key (Some raw) blanks core_all front bytes feed written
-before_valued {value = value} {raw = raw} {key = key} {between = between} {core_all = core_all} {blanks = blanks} {front = front} {bytes = bytes} {feed = feed} written begins takes whole all also ends =
-    let h = can_hold (key ++ (between ++ raw)) refl refl begins takes in
-    let start_is : h.start ≡ key ++ between =
-    append_cancel_right h.start (key ++ between) raw (sym h.joined ∙ sym (append_assoc key between raw)) in
-    let xs = front ++ h.start in
-    let xs_ends : xs ≡ (front ++ h.before) ++ 61 ∷ [] =
-    ap (λ s. front ++ s) h.start_is ∙ sym (append_assoc front h.before (61 ∷ [])) in
-    let joined : core_all ++ blanks ≡ xs ++ bytes =
-    whole ∙ ap (λ x. front ++ x) (sym (append_assoc key between bytes) ∙ ap (λ s. s ++ bytes) (sym start_is))
-    ∙ sym (append_assoc front h.start bytes) in
-    let (core, bytes_are, core_is) = trail_within xs bytes core_all blanks (front ++ h.before) 61 xs_ends refl joined all in
-    let raw_now = core ++ (feed ++ written) in
-    let spells = spelled_before core blanks written ends bytes_are all also in
-    let text_is : h.start ++ raw_now ≡ key ++ (between ++ raw_now) =
-    ap (λ s. s ++ raw_now) start_is ∙ append_assoc key between raw_now in
-    record {
-      core = core;
-      bytes_are = bytes_are;
-      core_is = core_is ∙ append_assoc front h.start core
-          ∙ ap (λ x. front ++ x) (ap (λ s. s ++ core) start_is ∙ append_assoc key between core);
-      feeds = feeds_of ends;
-      raw = raw_now;
-      spells = spells;
-      takes = λ at end.
-          let (now, letter) = h.holds raw_now value at spells end in (
-            subst (λ t. TakesEntry (t ++ at) key (Some raw_now) (line_feeds raw_now) at) text_is now,
-            subst (λ t. BeginsWithLetter (t ++ at)) text_is letter,
-          );
-    }
-
-before_alone : {value at key between core_all blanks front bytes feed : List ℕ} {lines : ℕ} (written : List ℕ)
-    → BeginsWithLetter ((key ++ (between ++ [])) ++ at) → TakesEntry ((key ++ (between ++ [])) ++ at) key None lines at
-    → core_all ++ blanks ≡ front ++ (key ++ (between ++ bytes)) → AreBlank blanks → AreBlank written
-    → PutsValue value None bytes → feed ≡ []
-    → Before value between key None blanks core_all front bytes feed written
-before_alone {value = value} {key = key} {between = between} {core_all = core_all} {blanks = blanks} {front = front} {feed = feed} written begins takes whole all also (spec.behind_key {gap = gap} {spelling = spelling} is_gap s) none =
-    let more = front ++ (key ++ (between ++ gap)) in
-    let xs = more ++ 61 ∷ [] in
-    let joined : core_all ++ blanks ≡ xs ++ 32 ∷ spelling = whole ∙ simp append_assoc in
-    let (inner, inner_are, core_is) = trail_within xs (32 ∷ spelling) core_all blanks more 61 refl refl joined all in
-    let spelled : SpellsValue (32 ∷ spelling) value outside =
-    subst (λ t. SpellsValue (32 ∷ t) value outside) (append-nil spelling) (spells_between (32 ∷ []) [] refl refl s.0.0) in
-    let raw_now = inner ++ written in
-    let spells : SpellsValue raw_now value outside = spells_before written also (trimmed inner blanks all refl inner_are spelled) in
-    let text_is : (at : List ℕ) → ((key ++ (between ++ [])) ++ gap) ++ 61 ∷ (raw_now ++ at)
-    ≡ (key ++ (between ++ ((gap ++ 61 ∷ inner) ++ (feed ++ written)))) ++ at =
-    λ at. rw (none, append-nil between) (simp append_assoc) in
-    record {
-      core = gap ++ 61 ∷ inner;
-      bytes_are = ap (λ i. gap ++ 61 ∷ i) inner_are ∙ sym (append_assoc gap (61 ∷ inner) blanks);
-      core_is = core_is ∙ simp append_assoc;
-      feeds = subst (λ f. FeedsComment None (gap ++ 61 ∷ 32 ∷ spelling) f) (sym none) spec.behind_key;
-      raw = raw_now;
-      spells = spells;
-      takes = λ at end.
-          let (now, letter) = with_value (key ++ (between ++ [])) gap raw_now value {rest = at} refl refl begins takes is_gap spells end in (
-            subst (λ t. TakesEntry t key (Some raw_now) (line_feeds raw_now) at) (text_is at) now,
-            subst BeginsWithLetter (text_is at) letter,
-          );
-    }
+    rw (one, ← core_is) (simp append_assoc at (spells_before written also over))
 
 -- the new bytes of a value spell it
 puts_spells : {value raw bytes : List ℕ} → PutsValue value (Some raw) bytes → SpellsValue bytes value outside
 puts_spells (spec.in_place lead trail before core after s) = spells_between lead trail before after s.0.0
 puts_spells {value = value} (spec.in_blanks {gap = gap} {spelling = spelling} {later = later} lead trail all is_gap s also) =
     let (before, after) = parts_blank lead trail all in
-    let whole =
-    spells_between (lead ++ gap) (later ++ trail) (both_blank lead gap before (gap_blank gap is_gap))
-    (both_blank later trail (gap_blank later also) after) s.0.0 in
-    subst (λ t. SpellsValue t value outside) (simp append_assoc) whole
+    simp append_assoc (simp append_assoc at
+    (spells_between (lead ++ gap) (later ++ trail) (both_blank lead gap before (gap_blank gap is_gap))
+    (both_blank later trail (gap_blank later also) after) s.0.0))
 
 -- whether a line end comes before the comment
 abbrev IsFed : EntryParts → List ℕ → List ℕ → Type 0
@@ -427,42 +248,93 @@ IsFed parts value feed = (IsOpen parts × HasValue (value_of parts.value) value 
 ends_of : {value raw bytes feed : List ℕ} (parts : EntryParts) → value_of parts.value ≡ Some raw
     → ChangesValueTo value (Some raw) bytes → (HasValue (Some raw) value → HasHow parts value)
     → IsFed parts value feed → Ends value raw bytes feed
-ends_of {value = value} {raw = raw} {bytes = bytes} parts held (inr (other, puts)) how (inl (opened, has, one)) =
-    absurd (other (subst (λ v. HasValue v value) held has))
-ends_of {value = value} {raw = raw} {bytes = bytes} parts held (inr (other, puts)) how (inr (closed, none)) =
-    as_closed (puts_spells puts) none
-ends_of {value = value} {raw = raw} {bytes = bytes} {feed = feed} parts held (inl (has, same)) how fed =
+ends_of parts held (inr (other, puts)) how (inl (opened, has, one)) = absurd (other (rw held at has))
+ends_of parts held (inr (other, puts)) how (inr (closed, none)) = as_closed (puts_spells puts) none
+ends_of {raw = raw} {bytes = bytes} parts held (inl (has, same)) how fed =
     let (raw_too, held_too, ended) = how has in
     let raw_is : raw_too ≡ bytes = some_same (sym held_too ∙ held) ∙ sym same in
     elim ended [
       | inl (spells, lines_are) ↦ elim fed [
         | inl (opened, also, one) ↦
             absurd (opened.2 (ap line_feeds (some_same (sym opened.1 ∙ held_too)) ∙ sym lines_are))
-        | inr (closed, none) ↦ as_closed (subst (λ r. SpellsValue r value outside) raw_is spells) none
+        | inr (closed, none) ↦ as_closed (rw raw_is at spells) none
       ]
       | inr (spells, lines_are) ↦ elim fed [
-        | inl (opened, also, one) ↦ as_open (subst (λ r. SpellsValue r value at_backslash) raw_is spells) same one
+        | inl (opened, also, one) ↦ as_open (rw raw_is at spells) same one
         | inr (closed, none) ↦
             let differs : line_feeds raw_too ≢ parts.lines = λ e. omega arith in
-            absurd (closed ((raw_too, held_too, differs), subst (λ v. HasValue v value) (sym held) has))
+            absurd (closed ((raw_too, held_too, differs), rw held has))
       ]
     ]
 
-before_of : {value at key between core_all blanks front bytes feed : List ℕ} {lines : ℕ} (parts : EntryParts) (was : Option (List ℕ)) (written : List ℕ)
-    → value_of parts.value ≡ was
-    → BeginsWithLetter ((key ++ (between ++ value_bytes was)) ++ at)
-    → TakesEntry ((key ++ (between ++ value_bytes was)) ++ at) key was lines at
-    → core_all ++ blanks ≡ front ++ (key ++ (between ++ bytes)) → AreBlank blanks → AreBlank written
-    → ChangesValueTo value was bytes → (HasValue was value → HasHow parts value)
-    → IsFed parts value feed → Before value between key was blanks core_all front bytes feed written
-before_of parts None written held begins takes whole all also (inl (has, same)) how feed_is = absurd has
-before_of {value = value} parts None written held begins takes whole all also (inr (other, puts)) how feed_is =
-    before_alone written begins takes whole all also puts (elim feed_is [
-      | inl (opened, has, one) ↦ absurd (other (subst (λ v. HasValue v value) held has))
-      | inr (closed, none) ↦ none
-    ])
-before_of parts (Some raw) written held begins takes whole all also valued how feed_is =
-    before_valued written begins takes whole all also (ends_of parts held valued how feed_is)
+module _ {value at key between core_all blanks front feed : List ℕ} {lines : ℕ} (written : List ℕ)
+    (all : AreBlank blanks) (also : AreBlank written) where
+  before_valued : {raw bytes : List ℕ} → core_all ++ blanks ≡ front ++ (key ++ (between ++ bytes))
+      → BeginsWithLetter ((key ++ (between ++ raw)) ++ at) → TakesEntry ((key ++ (between ++ raw)) ++ at) key (Some raw) lines at
+      → Ends value raw bytes feed → Before value between key (Some raw) blanks core_all front bytes feed written
+  before_valued {raw = raw} {bytes = bytes} whole begins takes ends =
+      let h = can_hold (key ++ (between ++ raw)) refl refl begins takes in
+      let start_is : h.start ≡ key ++ between =
+      append_cancel_right h.start (key ++ between) raw (sym h.joined ∙ sym (append_assoc key between raw)) in
+      let before_is : key ++ between ≡ h.before ++ 61 ∷ [] = sym start_is ∙ h.start_is in
+      let moved : (s : List ℕ) → front ++ (key ++ (between ++ s)) ≡ (front ++ h.before) ++ 61 ∷ s =
+      λ s. ap (λ t. front ++ t) (sym (append_assoc key between s) ∙ ap (λ t. t ++ s) before_is) ∙ simp append_assoc in
+      let (core, bytes_are, core_is) =
+      trail_within (front ++ h.before) 61 bytes core_all blanks refl all (whole ∙ moved bytes) in
+      let raw_now = core ++ (feed ++ written) in
+      let spells = spelled_before core blanks written ends bytes_are all also in
+      let text_is : h.start ++ raw_now ≡ key ++ (between ++ raw_now) = simp (start_is, append_assoc) in
+      record {
+        core = core;
+        bytes_are = bytes_are;
+        core_is = core_is ∙ sym (moved core);
+        feeds = feeds_of ends;
+        raw = raw_now;
+        spells = spells;
+        takes = λ at end.
+            let (now, letter) = h.holds raw_now value at spells end in (rw text_is at now, rw text_is at letter);
+      }
+
+  before_alone : {bytes : List ℕ} → core_all ++ blanks ≡ front ++ (key ++ (between ++ bytes))
+      → BeginsWithLetter ((key ++ (between ++ [])) ++ at) → TakesEntry ((key ++ (between ++ [])) ++ at) key None lines at
+      → PutsValue value None bytes → feed ≡ [] → Before value between key None blanks core_all front bytes feed written
+  before_alone whole begins takes (spec.behind_key {gap = gap} {spelling = spelling} is_gap s) none =
+      let more = front ++ (key ++ (between ++ gap)) in
+      let joined : core_all ++ blanks ≡ more ++ 61 ∷ 32 ∷ spelling = whole ∙ simp append_assoc in
+      let (inner, inner_are, core_is) = trail_within more 61 (32 ∷ spelling) core_all blanks refl all joined in
+      let spelled : SpellsValue (32 ∷ spelling) value outside =
+      rw append-nil at (spells_between (32 ∷ []) [] refl refl s.0.0) in
+      let raw_now = inner ++ written in
+      let spells : SpellsValue raw_now value outside = spells_before written also (trimmed inner blanks all refl inner_are spelled) in
+      let text_is : (at : List ℕ) → ((key ++ (between ++ [])) ++ gap) ++ 61 ∷ (raw_now ++ at)
+      ≡ (key ++ (between ++ ((gap ++ 61 ∷ inner) ++ (feed ++ written)))) ++ at =
+      λ at. rw (none, append-nil between) (simp append_assoc) in
+      record {
+        core = gap ++ 61 ∷ inner;
+        bytes_are = ap (λ i. gap ++ 61 ∷ i) inner_are ∙ sym (append_assoc gap (61 ∷ inner) blanks);
+        core_is = core_is ∙ simp append_assoc;
+        feeds = rw none spec.behind_key;
+        raw = raw_now;
+        spells = spells;
+        takes = λ at end.
+            let (now, letter) = with_value (key ++ (between ++ [])) gap raw_now value {rest = at} refl refl begins takes is_gap spells end in
+            (rw (text_is at) at now, rw (text_is at) at letter);
+      }
+
+  before_of : {bytes : List ℕ} (parts : EntryParts) (was : Option (List ℕ)) → core_all ++ blanks ≡ front ++ (key ++ (between ++ bytes))
+      → value_of parts.value ≡ was
+      → BeginsWithLetter ((key ++ (between ++ value_bytes was)) ++ at)
+      → TakesEntry ((key ++ (between ++ value_bytes was)) ++ at) key was lines at
+      → ChangesValueTo value was bytes → (HasValue was value → HasHow parts value)
+      → IsFed parts value feed → Before value between key was blanks core_all front bytes feed written
+  before_of parts None whole held begins takes (inl (has, same)) how feed_is = absurd has
+  before_of parts None whole held begins takes (inr (other, puts)) how feed_is =
+      before_alone whole begins takes puts (elim feed_is [
+        | inl (opened, has, one) ↦ absurd (other (rw held at has))
+        | inr (closed, none) ↦ none
+      ])
+  before_of parts (Some raw) whole held begins takes valued how feed_is =
+      before_valued whole begins takes (ends_of parts held valued how feed_is)
 
 -- the entry with its comment
 pub changed_commented : {change : Change} {parts : EntryParts} {piece : Piece} {line put : List ℕ} (value comment : List ℕ)
@@ -485,7 +357,7 @@ changed_commented {change = change} {parts = parts} {piece = piece} {line = line
     ∙ sym (append_assoc blanks (key ++ (s.between ++ s.bytes)) s.tail) ∙ ap (λ t. named ++ t) (sym tail_is)) in
     let (spaces, more, written_is, spaces_are, more_are) = written_parts all k.is_written in
     let b : Before value s.between key was k.blanks k.core blanks s.bytes k.feed spaces =
-    before_of parts was spaces refl begins takes whole k.are_blank spaces_are s.is_valued s.how k.feed_is in
+    before_of spaces k.are_blank spaces_are parts was whole refl begins takes s.is_valued s.how k.feed_is in
     let at = 35 ∷ (more ++ (k.end ++ rest)) in
     let (takes_now, begins_now) = b.takes at (inr refl) in
     let front = key ++ (s.between ++ (b.core ++ (k.feed ++ spaces))) in
@@ -502,14 +374,13 @@ changed_commented {change = change} {parts = parts} {piece = piece} {line = line
       begins = begins_now;
       takes = takes_now;
       left = ap (λ m. 35 ∷ m) (sym (append_assoc more k.end rest));
-      is_tail = comment_tail more more_are k.is_end (end_of_text e.is_tail);
+      is_tail = comment_tail more more_are k.is_end (λ off. (tail_ends off e.is_tail None 0).0);
       joined = put_is ∙ ap (λ x. blanks ++ x) after_is;
     } in
     let old = parts.key.now ++ (s.between ++ value_bytes was) in
     let gone = old ++ s.tail in
-    let is_tail : IsTail s.tail rest piece.is_line =
-    subst (λ t. IsTail t rest piece.is_line) (sym (tail_cut e s.tail s.left)) e.is_tail in
-    let letter : BeginsWithLetter (gone ++ rest) = subst BeginsWithLetter (sym (append_assoc old s.tail rest)) s.begins in
+    let is_tail : IsTail s.tail rest piece.is_line = rw (tail_cut e s.tail s.left) e.is_tail in
+    let letter : BeginsWithLetter (gone ++ rest) = rw (append_assoc old s.tail rest) s.begins in
     let puts : PutsComment comment was gone s.bytes s.tail rest after =
     record {
       core = b.core;
@@ -536,7 +407,7 @@ changed_commented {change = change} {parts = parts} {piece = piece} {line = line
       tail = s.tail;
       after = after;
       begins = letter;
-      takes = subst (λ t. TakesEntry t parts.key.now was s.lines (s.tail ++ rest)) (sym (append_assoc old s.tail rest)) s.takes;
+      takes = rw (append_assoc old s.tail rest) s.takes;
       gone_is = refl;
       put_is = refl;
       is_valued = rw value_is s.is_valued;
@@ -559,7 +430,7 @@ changed_commented {change = change} {parts = parts} {piece = piece} {line = line
 pub writable_comment : (given also : Option (List ℕ)) (value comment : List ℕ) → given ≡ Some value → also ≡ Some comment
     → IsWritableComment given also → list_all is_comment_byte comment ≡ true
 writable_comment given also value comment e f is =
-    subst (λ c. IsWritableComment (Some value) c) f (subst (λ v. IsWritableComment v also) e is)
+    rw (e, f) at is
 
 -- a comment without a line end
 pub run_is_all : {comment front rest : List ℕ} {empty : Bool} → Run is_comment_byte comment front rest

@@ -23,15 +23,16 @@ use Rattle.config_edit.specs.Reached.{Leads}
 use Rattle.config_edit.specs.Reached as reached
 use Rattle.config_edit.specs.Reading as edit
 use Rattle.config_edit.specs.Reading.{Holds, Ends, Passed, anywhere, at_end, IsRead, IsMade}
-use Rattle.config_edit.specs.Reading.{IsPiece, IsHeaderAt, IsHeaderHeld, contents_in, section_after}
+use Rattle.config_edit.specs.Reading.{IsPiece, IsHeaderAt, IsHeaderHeld, contents_in, section_after, is_item}
 use Rattle.config_edit.specs.Reading.{IsSplit, Corresponds, Renaming, Comes, ComesBehind}
 use Rattle.config_edit.specs.Edit.{AreBlank}
 use Rattle.config_file.specs.Spelling.{spelled_section}
 use Rattle.config_file.specs.Views.{section_of, value_of}
 use Rattle.config_file.proofs.AddedEntries.{begins_no_mark, begins_unmarked, mark_is}
 use Rattle.config_file.proofs.EachReading.{are_read, not_empty}
-use Rattle.config_file.proofs.OneReading.{reads_once}
+use Rattle.config_file.proofs.OneReading.{reads_once, begins_only}
 use Rattle.config_edit.proofs.Pieces.{compose, onward, made_passed, header_holds, blanks_lead}
+pub use Rattle.config_edit.proofs.Pieces.{joined_more}
 use Rattle.config_edit.proofs.Becomes.{becomes_before, becomes_more, becomes_behind}
 
 -- texts one after the other
@@ -47,13 +48,8 @@ pub holds_join : {section middle next : Option Section} (a b : List ℕ) {xs ys 
     → Holds section (a ++ b) (xs ++ ys) next
 holds_join a b first second = λ line other.
     let (half, entries, leads, same) = first line (b ++ other) in
-    let (end, more, later, also) = second half other in (
-      end,
-      entries ++ more,
-      rw (append_assoc a b other)
-          (onward leads later),
-      two_contents entries more same also,
-    )
+    let (end, more, later, also) = second half other in
+    (end, entries ++ more, rw append_assoc (onward leads later), two_contents entries more same also)
 
 pub holds_end : {section middle : Option Section} (a b : List ℕ) {xs ys : List Content}
     → Holds section a xs middle → Ends middle b ys → Ends section (a ++ b) (xs ++ ys)
@@ -80,11 +76,8 @@ pub passed_ends : {section next : Option Section} {text rest : List ℕ} {conten
     → Passed section text contents next rest
     → Ends section text contents
 passed_ends none (at_end unused ends) = ends
-passed_ends {section = section} {text = text} {contents = contents} none (anywhere holds) =
-    let whole : Ends section (text ++ []) (contents ++ []) =
-    holds_end text [] {ys = []} holds (λ line. ([], file.ends, refl)) in
-    subst (λ t. Ends section t contents) (append-nil text)
-    (subst (λ c. Ends section (text ++ []) c) (append-nil contents) whole)
+passed_ends {text = text} none (anywhere holds) =
+    simp append-nil at (holds_end text [] {ys = []} holds (λ line. ([], file.ends, refl)))
 
 pub ends_once : {section : Option Section} {text : List ℕ} {xs ys : List Content} → Ends section text xs
     → Ends section text ys → xs ≡ ys
@@ -93,31 +86,6 @@ ends_once first second =
     let (others, again, also) = second 0 in
     sym same ∙ ap (λ e. map content e) (reads_once reads again).0 ∙ also
 
--- what follows is read, if the whole text is
-left_read : {section next : Option Section} {text front rest : List ℕ} {xs all : List Content}
-    → text ≡ front ++ rest → Passed section front xs next rest → Ends section text all
-    → IsRead rest
-left_read {rest = rest} joined (at_end none ends) whole = (None, 0, [], rw none file.ends)
-left_read {section = section} {next = next} {front = front} {rest = rest} joined (anywhere holds) whole =
-    let (end, entries, leads, same) = holds 0 rest in
-    let (more, error, reads) = are_read (length rest) next end rest (omega arith) in
-    let (all_entries, again, also) = whole 0 in
-    let here : Reads section 0 (front ++ rest) (entries ++ more) error = compose leads reads in
-    let moved : Reads section 0 (front ++ rest) all_entries None =
-    subst (λ t. Reads section 0 t all_entries None) joined again in
-    let none : None ≡ error = (reads_once moved here).1 in
-    (next, end, more, subst (λ e. Reads next end rest more e) (sym none) reads)
-
--- where no piece is left, all of the text has been passed
-pub all_passed : {section next : Option Section} {text front rest : List ℕ} {xs all : List Content}
-    → text ≡ front ++ rest → Passed section front xs next rest
-    → Ends section text all → (rest ≡ []) ⊎ (¬ (IsRead rest)) → (rest ≡ []) × (text ≡ front) × (xs ≡ all)
-all_passed {section = section} {front = front} {all = all} joined passed whole (inl none) =
-    let same = joined ∙ ap (λ r. front ++ r) none ∙ append-nil front in
-    let moved : Ends section front all = subst (λ t. Ends section t all) same whole in
-    (none, same, ends_once (passed_ends none passed) moved)
-all_passed joined passed whole (inr not_read) = absurd (not_read (left_read joined passed whole))
-
 pub is_none_left : (rest : List ℕ) → true ≡ (length rest == 0) → rest ≡ []
 is_none_left [] none = refl
 is_none_left (b ∷ rest) none = grind (arith, nat_tests)
@@ -125,22 +93,36 @@ is_none_left (b ∷ rest) none = grind (arith, nat_tests)
 pub is_some_left : (rest : List ℕ) → false ≡ (length rest == 0) → rest ≢ []
 is_some_left rest some none = absurd (true≢false (sym (some ∙ ap (λ r. length r == 0) none)))
 
--- where a piece cannot be read, the text is no file
-pub not_read : {section next : Option Section} {text front rest : List ℕ} {xs all : List Content}
-    → text ≡ front ++ rest → Passed section front xs next rest
-    → rest ≢ [] → (rest ≡ []) ⊎ (¬ (IsRead rest)) → ¬ (Ends section text all)
-not_read joined passed some (inl none) = λ whole. some none
-not_read joined passed some (inr not) = λ whole. not (left_read joined passed whole)
+module _ {section next : Option Section} {text front rest : List ℕ} {xs all : List Content} (joined : text ≡ front ++ rest)
+    (passed : Passed section front xs next rest) where
+  -- what follows is read, if the whole text is
+  left_read : Ends section text all → IsRead rest
+  left_read whole = elim passed [
+    | at_end none ends ↦ (None, 0, [], rw none file.ends)
+    | anywhere holds ↦
+        let (end, entries, leads, same) = holds 0 rest in
+        let (more, error, reads) = are_read (length rest) next end rest (omega arith) in
+        let (all_entries, again, also) = whole 0 in
+        let none : error ≡ None = sym (reads_once (rw joined at again) (compose leads reads)).1 in
+        (next, end, more, rw none at reads)
+  ]
+
+  -- where no piece is left, all of the text has been passed
+  pub all_passed : Ends section text all → (rest ≡ []) ⊎ (¬ (IsRead rest)) → (rest ≡ []) × (text ≡ front) × (xs ≡ all)
+  all_passed whole (inl none) =
+      let same = joined ∙ ap (λ r. front ++ r) none ∙ append-nil front in
+      (none, same, ends_once (passed_ends none passed) (rw same at whole))
+  all_passed whole (inr not_read) = absurd (not_read (left_read whole))
+
+  -- where a piece cannot be read, the text is no file
+  pub not_read : rest ≢ [] → (rest ≡ []) ⊎ (¬ (IsRead rest)) → ¬ (Ends section text all)
+  not_read some (inl none) = λ whole. some none
+  not_read some (inr not) = λ whole. not (left_read whole)
 
 -- a piece of a text
 pub some_left : (text rest : List ℕ) → length rest < length text → text ≢ []
 some_left [] rest shorter e = absurd (omega arith)
 some_left (b ∷ text) rest shorter e = not_empty b text e
-
-pub joined_more : (text front rest bytes more : List ℕ) → text ≡ front ++ rest → rest ≡ bytes ++ more
-    → text ≡ (front ++ bytes) ++ more
-joined_more text front rest bytes more joined cut =
-    joined ∙ ap (λ r. front ++ r) cut ∙ sym (append_assoc front bytes more)
 
 pub section_listed : {text rest : List ℕ} {section : Section} → Header text section rest
     → (listed : List ℕ) × IsListedSection section listed
@@ -151,47 +133,35 @@ pub header_listed : (h : Held) (blanks bytes rest : List ℕ) (is_line : Bool)
     → IsMade h blanks bytes rest is_line → (section : code.Section) → h ≡ held.Header section
     → (listed : List ℕ) × IsListedSection (section_of section) listed
 header_listed (held.Header new) blanks bytes rest is_line made section e =
-    let same : new ≡ section =
-    cc in subst (λ s. (listed : List ℕ) × IsListedSection (section_of s) listed) same
-    (section_listed (made.header []))
-header_listed (held.Entry parts) blanks bytes rest is_line made section e = cc
-header_listed held.Nothing blanks bytes rest is_line made section e = cc
-header_listed held.Comment blanks bytes rest is_line made section e = cc
+    let same : new ≡ section = cc in
+    rw same at (section_listed (made.header []))
+header_listed h blanks bytes rest is_line made section e = cc
 
 -- contents without those in the section of a key
 pub without_in_both : {key : Key} (a b : List Content) {c d : List Content} → WithoutIn key a b
     → WithoutIn key c d → WithoutIn key (a ++ c) (b ++ d)
-without_in_both {key = key} a b before spec.none =
-    subst (λ x. WithoutIn key x (b ++ [])) (sym (append-nil a))
-    (subst (λ y. WithoutIn key a y) (sym (append-nil b)) before)
-without_in_both {key = key} a b before (spec.lost x {old = old} {new = new} later is) =
-    subst (λ o. WithoutIn key o (b ++ new)) (append_assoc a old (x ∷ []))
-    (spec.lost x (without_in_both a b before later) is)
-without_in_both {key = key} a b before (spec.kept x {old = old} {new = new} later other) =
-    subst (λ o. WithoutIn key o (b ++ (new ++ x ∷ []))) (append_assoc a old (x ∷ []))
-    (subst (λ n. WithoutIn key ((a ++ old) ++ x ∷ []) n) (append_assoc b new (x ∷ []))
-    (spec.kept x (without_in_both a b before later) other))
+without_in_both a b before spec.none = simp append-nil before
+without_in_both a b before (spec.lost x later is) = simp (← append_assoc) (spec.lost x (without_in_both a b before later) is)
+without_in_both a b before (spec.kept x later other) =
+    simp (← append_assoc) (spec.kept x (without_in_both a b before later) other)
 
-none_in_section : (key : Key) (h : Held) (section : Option Section) → ¬ (IsIn key section)
-    → NoneIn key (contents_in h section)
-none_in_section key (held.Entry parts) section other = spec.kept _ spec.none other
-none_in_section key (held.Header new) section other = spec.none
-none_in_section key held.Nothing section other = spec.none
-none_in_section key held.Comment section other = spec.none
+-- what a piece has in the section of a key
+pub none_in_piece : (key : Key) (h : Held) (section : Option Section)
+    → (¬ (IsIn key (section_after h section))) ⊎ (is_item h ≡ false) → NoneIn key (contents_in h section)
+none_in_piece key (held.Entry parts) section (inl other) = spec.kept _ spec.none other
+none_in_piece key (held.Entry parts) section (inr no_item) = absurd (true≢false no_item)
+none_in_piece key h section either = spec.none
 
 still_outside : (key : Key) (h : Held) (section : Option Section) → ¬ (IsHeaderHeld key h)
     → ¬ (IsIn key section) → ¬ (IsIn key (section_after h section))
 still_outside key (held.Header new) section other outside = other
-still_outside key (held.Entry parts) section other outside = outside
-still_outside key held.Nothing section other outside = outside
-still_outside key held.Comment section other outside = outside
+still_outside key h section other outside = outside
 
 -- blanks before an entry
 pub holds_blanks : {section next : Option Section} {contents : List Content} (front blanks : List ℕ) → AreBlank blanks
     → Holds section front contents next → Holds section (front ++ blanks) contents next
-holds_blanks {section = section} {next = next} {contents = contents} front blanks all holds =
-    subst (λ c. Holds section (front ++ blanks) c next) (append-nil contents)
-    (holds_join front blanks holds (λ line other. (line, [], blanks_lead blanks all reached.here, refl)))
+holds_blanks front blanks all holds =
+    simp append-nil at (holds_join front blanks holds (λ line other. (line, [], blanks_lead blanks all reached.here, refl)))
 
 -- where the reading of a text comes, behind blanks
 pub comes_blanks : {text rest : List ℕ} {before : List Content} {section : Option Section} (front blanks inner : List ℕ)
@@ -227,202 +197,140 @@ contents_renamed {section = section} (held.Entry parts) other (edit.renamed {new
     (spec.renamed (section, parts.key.now, value_of parts.value) new renames is names, edit.renamed is names)
 contents_renamed {section = section} (held.Entry parts) other (edit.same outside) renames =
     (spec.kept (section, parts.key.now, value_of parts.value) renames outside, edit.same outside)
-contents_renamed {from = from} {to = to} {xs = xs} {ys = ys} (held.Header new) other corresponds renames = (
-  subst (λ x. Renames from to x (ys ++ [])) (sym (append-nil xs))
-      (subst (λ y. Renames from to xs y) (sym (append-nil ys)) renames),
-  edit.same other,
-)
-contents_renamed {from = from} {to = to} {xs = xs} {ys = ys} held.Nothing other corresponds renames = (
-  subst (λ x. Renames from to x (ys ++ [])) (sym (append-nil xs))
-      (subst (λ y. Renames from to xs y) (sym (append-nil ys)) renames),
-  corresponds,
-)
-contents_renamed {from = from} {to = to} {xs = xs} {ys = ys} held.Comment other corresponds renames = (
-  subst (λ x. Renames from to x (ys ++ [])) (sym (append-nil xs))
-      (subst (λ y. Renames from to xs y) (sym (append-nil ys)) renames),
-  corresponds,
-)
-
-pub renaming_keeps : {from to : Key} {text rest new : List ℕ} {is_found : Bool} (piece : Piece)
-    → Renaming from to text rest new is_found → IsPiece rest piece → length piece.rest.now < length rest
-    → ¬ (IsHeaderHeld from piece.held)
-    → Renaming from to text piece.rest.now (new ++ piece.bytes.now) is_found
-renaming_keeps {from = from} {text = text} {rest = rest} {new = new} piece r is shorter other =
-    let some = some_left rest piece.rest.now shorter in
-    let (renames, corresponds) = contents_renamed piece.held other r.corresponds r.renames in
-    record {
-      front = r.front ++ piece.bytes.now;
-      old_contents = r.old_contents ++ contents_in piece.held r.section;
-      new_contents = r.new_contents ++ contents_in piece.held r.next;
-      section = section_after piece.held r.section;
-      next = section_after piece.held r.next;
-      joined = joined_more text r.front rest piece.bytes.now piece.rest.now r.joined is.joined;
-      passed = passed_join some r.passed
-          (made_passed piece.held piece.blanks.now piece.is_line is.blank is.made r.section);
-      passed_now = passed_join some r.passed_now
-          (made_passed piece.held piece.blanks.now piece.is_line is.blank is.made r.next);
-      renames = renames;
-      corresponds = corresponds;
-      changes = spec.kept piece.bytes.now (becomes_before r.changes is.joined);
-      unfound = λ none.
-          let (nothing, outside) = r.unfound none in
-          let still = still_outside from piece.held r.section other outside in (
-            without_in_both r.old_contents r.old_contents nothing
-                (none_in_section from piece.held r.section outside),
-            still,
-          );
-    }
+contents_renamed (held.Header new) other corresponds renames = (simp append-nil renames, edit.same other)
+contents_renamed h other corresponds renames = (simp append-nil renames, corresponds)
 
 header_at : (h : Held) (from : Key) (blanks bytes rest : List ℕ) (is_line : Bool) → IsHeaderHeld from h
     → IsMade h blanks bytes rest is_line
-    → (section : Section) × IsHeaderAt section blanks bytes × IsIn from (Some section) × ((before : Option Section) → section_after h before ≡ Some section)
-    × ((before : Option Section) → contents_in h before ≡ [])
-header_at (held.Header section) from blanks bytes rest is_line is made =
-    (section_of section, made, is, λ before. refl, λ before. refl)
-header_at (held.Entry parts) from blanks bytes rest is_line is made = absurd is
-header_at held.Nothing from blanks bytes rest is_line is made = absurd is
-header_at held.Comment from blanks bytes rest is_line is made = absurd is
+    → (section : Section) × IsHeaderAt section blanks bytes × IsIn from (Some section)
+header_at (held.Header section) from blanks bytes rest is_line is made = (section_of section, made, is)
+header_at h from blanks bytes rest is_line is made = absurd is
 
-pub renaming_changes : {from to : Key} {text rest new : List ℕ} {is_found : Bool} (piece : Piece)
-    (put : List ℕ)
-    → Renaming from to text rest new is_found → IsPiece rest piece
-    → length piece.rest.now < length rest → IsHeaderHeld from piece.held
-    → IsHeader put to.section to.subsection → put ≡ 91 ∷ spelled_section to.section to.subsection
-    → Renaming from to text piece.rest.now ((new ++ piece.blanks.now) ++ put) true
-renaming_changes {from = from} {to = to} {text = text} {rest = rest} {new = new} piece put r is shorter held_header (inner, section_now, put_is, names, header_now) spelled =
-    let some = some_left rest piece.rest.now shorter in
-    let (section, at, is_in, unused, also) =
-    header_at piece.held from piece.blanks.now piece.bytes.now piece.rest.now piece.is_line held_header is.made in
-    let now : IsHeaderAt section_now piece.blanks.now (piece.blanks.now ++ put) =
-    record { inner = inner; joined = ap (λ x. piece.blanks.now ++ x) put_is; header = header_now } in
-    let old_contents_are : r.old_contents ++ [] ≡ r.old_contents = append-nil r.old_contents in
-    let new_contents_are : r.new_contents ++ [] ≡ r.new_contents = append-nil r.new_contents in
-    let here : Passed r.section piece.bytes.now [] (Some section) piece.rest.now =
-    anywhere (header_holds is.blank at r.section) in
-    let here_now : Passed r.next (piece.blanks.now ++ put) [] (Some section_now) piece.rest.now =
-    anywhere (header_holds is.blank now r.next) in
-    let whole = passed_join some r.passed here in
-    let whole_now = passed_join some r.passed_now here_now in
-    let cut : rest ≡ piece.blanks.now ++ ((91 ∷ at.inner) ++ piece.rest.now) =
-    is.joined ∙ ap (λ b. b ++ piece.rest.now) at.joined ∙ append_assoc piece.blanks.now (91 ∷ at.inner) piece.rest.now in
-    let place : Comes text r.old_contents r.section ((91 ∷ at.inner) ++ piece.rest.now) =
-    comes_blanks r.front piece.blanks.now ((91 ∷ at.inner) ++ piece.rest.now) r.joined cut is.blank (passed_holds some r.passed) in
-    let gone : RenamesHeader from to r.old_contents r.section (91 ∷ at.inner) put piece.rest.now =
-    ((at.inner, section, refl, at.header, is_in), ((inner, section_now, put_is, names, header_now), spelled)) in
-    let front_is : (r.front ++ piece.blanks.now) ++ 91 ∷ at.inner ≡ r.front ++ piece.bytes.now =
-    append_assoc r.front piece.blanks.now (91 ∷ at.inner) ∙ ap (λ x. r.front ++ x) (sym at.joined) in
-    let new_is : new ++ (piece.blanks.now ++ put) ≡ (new ++ piece.blanks.now) ++ put =
-    sym (append_assoc new piece.blanks.now put) in
-    record {
-      front = r.front ++ piece.bytes.now;
-      old_contents = r.old_contents;
-      new_contents = r.new_contents;
-      section = Some section;
-      next = Some section_now;
-      joined = joined_more text r.front rest piece.bytes.now piece.rest.now r.joined is.joined;
-      passed = subst (λ c. Passed None (r.front ++ piece.bytes.now) c
-          (Some section) piece.rest.now) old_contents_are whole;
-      passed_now = subst (λ n. Passed None n r.new_contents (Some section_now) piece.rest.now) new_is
-          (subst (λ c. Passed None (new ++ (piece.blanks.now ++ put)) c
-          (Some section_now) piece.rest.now) new_contents_are whole_now);
-      renames = r.renames;
-      corresponds = edit.renamed is_in names;
-      changes = subst (λ f. Becomes (Comes text) (RenamesHeader from to) f piece.rest.now ((new ++ piece.blanks.now) ++ put)) front_is
-          (spec.changed (spec.kept piece.blanks.now (becomes_before r.changes cut)) place gone);
-      unfound = λ none. absurd (true≢false none);
-    }
+module _ {from to : Key} {text rest new : List ℕ} {is_found : Bool} (r : Renaming from to text rest new is_found) where
+  pub renaming_keeps : (piece : Piece) → IsPiece rest piece → length piece.rest.now < length rest → ¬ (IsHeaderHeld from piece.held)
+      → Renaming from to text piece.rest.now (new ++ piece.bytes.now) is_found
+  renaming_keeps piece is shorter other =
+      let some = some_left rest piece.rest.now shorter in
+      let (renames, corresponds) = contents_renamed piece.held other r.corresponds r.renames in
+      record {
+        front = r.front ++ piece.bytes.now;
+        old_contents = r.old_contents ++ contents_in piece.held r.section;
+        new_contents = r.new_contents ++ contents_in piece.held r.next;
+        section = section_after piece.held r.section;
+        next = section_after piece.held r.next;
+        joined = joined_more text r.front rest piece.bytes.now piece.rest.now r.joined is.joined;
+        passed = passed_join some r.passed
+            (made_passed piece.held piece.blanks.now piece.is_line is.blank is.made r.section);
+        passed_now = passed_join some r.passed_now
+            (made_passed piece.held piece.blanks.now piece.is_line is.blank is.made r.next);
+        renames = renames;
+        corresponds = corresponds;
+        changes = spec.kept piece.bytes.now (becomes_before r.changes is.joined);
+        unfound = λ none.
+            let (nothing, outside) = r.unfound none in
+            let still = still_outside from piece.held r.section other outside in
+            let none = none_in_piece from piece.held r.section (inl still) in
+            (without_in_both r.old_contents r.old_contents nothing none, still);
+      }
 
-pub renaming_ends : {from to : Key} {text rest new : List ℕ} {contents : List Content} {is_found : Bool}
-    → Renaming from to text rest new is_found → Ends None text contents → (rest ≡ []) ⊎ (¬ (IsRead rest))
-    → (now : List Content) × Ends None new now × Renames from to contents now × Becomes (Comes text) (RenamesHeader from to) text [] new
-renaming_ends {from = from} {to = to} {text = text} {new = new} r whole left =
-    let (none, text_is, contents_are) = all_passed r.joined r.passed whole left in (
-      r.new_contents,
-      passed_ends none r.passed_now,
-      subst (λ c. Renames from to c r.new_contents) contents_are r.renames,
-      subst (λ t. Becomes (Comes text) (RenamesHeader from to) t [] new) (sym text_is) (becomes_before r.changes none),
-    )
+  pub renaming_changes : (piece : Piece) (put : List ℕ) → IsPiece rest piece → length piece.rest.now < length rest
+      → IsHeaderHeld from piece.held
+      → IsHeader put to.section to.subsection → put ≡ 91 ∷ spelled_section to.section to.subsection
+      → Renaming from to text piece.rest.now ((new ++ piece.blanks.now) ++ put) true
+  renaming_changes piece put is shorter held_header (inner, section_now, put_is, names, header_now) spelled =
+      let some = some_left rest piece.rest.now shorter in
+      let blanks = piece.blanks.now in
+      let left = piece.rest.now in
+      let (section, at, is_in) = header_at piece.held from blanks piece.bytes.now left piece.is_line held_header is.made in
+      let at_now : IsHeaderAt section_now blanks (blanks ++ put) =
+      record { inner = inner; joined = ap (λ x. blanks ++ x) put_is; header = header_now } in
+      let cut : rest ≡ blanks ++ ((91 ∷ at.inner) ++ left) =
+      is.joined ∙ ap (λ b. b ++ left) at.joined ∙ append_assoc blanks (91 ∷ at.inner) left in
+      let place : Comes text r.old_contents r.section ((91 ∷ at.inner) ++ left) =
+      comes_blanks r.front blanks ((91 ∷ at.inner) ++ left) r.joined cut is.blank (passed_holds some r.passed) in
+      let gone : RenamesHeader from to r.old_contents r.section (91 ∷ at.inner) put left =
+      ((at.inner, section, refl, at.header, is_in), ((inner, section_now, put_is, names, header_now), spelled)) in
+      record {
+        front = r.front ++ piece.bytes.now;
+        old_contents = r.old_contents;
+        new_contents = r.new_contents;
+        section = Some section;
+        next = Some section_now;
+        joined = joined_more text r.front rest piece.bytes.now left r.joined is.joined;
+        passed = simp append-nil at (passed_join {more = left} some r.passed (anywhere (header_holds is.blank at r.section)));
+        passed_now = rw (append_assoc new blanks put)
+            (simp append-nil at (passed_join {more = left} some r.passed_now (anywhere (header_holds is.blank at_now r.next))));
+        renames = r.renames;
+        corresponds = edit.renamed is_in names;
+        changes = rw (at.joined, ← append_assoc r.front blanks (91 ∷ at.inner))
+            (spec.changed (spec.kept blanks (becomes_before r.changes cut)) place gone);
+        unfound = λ none. absurd (true≢false none);
+      }
 
-pub none_renamed : {from to : Key} {text rest new : List ℕ} {contents : List Content} {is_found : Bool}
-    → Renaming from to text rest new is_found → is_found ≡ false → Ends None text contents
-    → (rest ≡ []) ⊎ (¬ (IsRead rest)) → NoneIn from contents
-none_renamed {from = from} r none whole left =
-    let (rest_is, text_is, contents_are) =
-    all_passed r.joined r.passed whole left in subst (λ c. NoneIn from c) contents_are (r.unfound none).0
+  pub renaming_ends : {contents : List Content} → Ends None text contents → (rest ≡ []) ⊎ (¬ (IsRead rest))
+      → (now : List Content) × Ends None new now × Renames from to contents now × Becomes (Comes text) (RenamesHeader from to) text [] new
+  renaming_ends whole left =
+      let (none, text_is, contents_are) = all_passed r.joined r.passed whole left in (
+        r.new_contents,
+        passed_ends none r.passed_now,
+        rw contents_are at r.renames,
+        subst (λ t. Becomes (Comes text) (RenamesHeader from to) t [] new) (sym text_is) (becomes_before r.changes none),
+      )
+
+  pub none_renamed : {contents : List Content} → is_found ≡ false → Ends None text contents
+      → (rest ≡ []) ⊎ (¬ (IsRead rest)) → NoneIn from contents
+  none_renamed none whole left =
+      let (rest_is, text_is, contents_are) = all_passed r.joined r.passed whole left in
+      rw contents_are at (r.unfound none).0
 
 -- the same text read from another line on has the same entries, on other lines
-pub relined : {section : Option Section} {line : ℕ} {text : List ℕ} {entries : List Entry}
+relined : {section : Option Section} {line : ℕ} {text : List ℕ} {entries : List Entry}
     → Reads section line text entries None → (other : ℕ)
-    → (later : List Entry) × Reads section other text later None × (map content later ≡ map content entries)
-relined file.ends other = ([], file.ends, refl)
+    → (later : List Entry) × (next : Option Section) × (end : ℕ) × Leads section other text later next end []
+    × (map content later ≡ map content entries)
+relined {section = section} file.ends other = ([], section, other, reached.here, refl)
 relined (file.blank is h) other =
-    let (later, reads, same) = relined h other in (later, file.blank is reads, same)
+    let (later, next, end, leads, same) = relined h other in (later, next, end, reached.blank is leads, same)
 relined (file.line_end is h) other =
-    let (later, reads, same) = relined h (other + 1) in (later, file.line_end is reads, same)
+    let (later, next, end, leads, same) = relined h (other + 1) in (later, next, end, reached.line_end is leads, same)
 relined (file.comment is run h) other =
-    let (later, reads, same) = relined h other in (later, file.comment is run reads, same)
+    let (later, next, end, leads, same) = relined h other in (later, next, end, reached.comment is run leads, same)
 relined (file.header is header h) other =
-    let (later, reads, same) = relined h other in (later, file.header is header reads, same)
+    let (later, next, end, leads, same) = relined h other in (later, next, end, reached.header is header leads, same)
 relined (file.entry {section = section} {lines = lines} {key = key} {value = value} letter takes h) other =
-    let (later, reads, same) = relined h (other + lines) in (
-      file.entry_at section key value (other + lines) ∷ later,
-      file.entry letter takes reads,
-      ap
-          (λ l. (section, key, value) ∷ l) same,
-    )
+    let (later, next, end, leads, same) = relined h (other + lines) in
+    (_, next, end, reached.entry letter takes leads, ap (λ l. (section, key, value) ∷ l) same)
 
 pub reads_end : {text : List ℕ} {entries : List Entry} {line : ℕ} → Reads None line text entries None
     → Ends None text (map content entries)
-reads_end reads = λ other. relined reads other
-
-some_is_same : {a b : List ℕ} → Some a ≡ Some b → a ≡ b
-some_is_same e = cc
-
-no_some : {a : List ℕ} → None ≡ Some a → ⊥
-no_some e = cc
-
-begun_ends : {text rest mark body : List ℕ} {line : ℕ} {entries : List Entry} → file.Begins text line rest
-    → Reads None line rest entries None → IsSplit text mark body
-    → Ends None body (map content entries)
-begun_ends {entries = entries} (file.marked e) reads (edit.marked f) =
-    subst (λ b. Ends None b (map content entries)) (some_is_same (sym e ∙ f)) (reads_end reads)
-begun_ends (file.marked e) reads (edit.unmarked f) = absurd (no_some (sym f ∙ e))
-begun_ends (file.part_of_mark {text = []} part) reads split = absurd part
-begun_ends (file.part_of_mark {text = b ∷ []} part) reads split = absurd (begins_no_mark reads part)
-begun_ends (file.part_of_mark {text = b ∷ c ∷ text} part) reads split = absurd (begins_no_mark reads part.0)
-begun_ends (file.unmarked none other) reads (edit.unmarked f) = reads_end reads
-begun_ends (file.unmarked none other) reads (edit.marked f) = absurd (no_some (sym none ∙ f))
+reads_end reads = λ other.
+    let (later, next, end, leads, same) = relined reads other in
+    (later, rw append-nil at (compose leads file.ends), same)
 
 -- a file without its mark
+begun_is : {text rest mark body : List ℕ} {line : ℕ} → file.Begins text line rest → IsSplit text mark body → rest ≡ body
+begun_is begins (edit.marked f) = (begins_only begins (file.marked f)).1
+begun_is (file.marked e) (edit.unmarked f) = cc
+begun_is (file.part_of_mark part) (edit.unmarked f) = refl
+begun_is (file.unmarked none other) (edit.unmarked f) = refl
+
 pub body_ends : {text mark body : List ℕ} {entries : List Entry} → IsFile text entries None
     → IsSplit text mark body → Ends None body (map content entries)
-body_ends is_file split = begun_ends is_file.begins is_file.reads split
+body_ends is_file split = rw (begun_is is_file.begins split) at (reads_end is_file.reads)
 
 -- a text with the mark of another
-unmarked_file : (text : List ℕ) (entries : List Entry) → Reads None 1 text entries None
-    → IsFile text entries None
-unmarked_file [] entries reads =
-    record { line = 1; rest = []; begins = file.unmarked refl (λ part. part); reads = reads }
-unmarked_file (b ∷ text) entries reads =
-    record {
-      line = 1;
-      rest = b ∷ text;
-      begins = begins_unmarked b text
-          (begins_no_mark reads);
-      reads = reads;
-    }
+begins_one : (text : List ℕ) (entries : List Entry) → Reads None 1 text entries None → file.Begins text 1 text
+begins_one [] entries reads = file.unmarked refl (λ part. part)
+begins_one (b ∷ text) entries reads = begins_unmarked b text (begins_no_mark reads)
 
 pub file_of : {text mark body new : List ℕ} {contents : List Content} → IsSplit text mark body
     → Ends None new contents → HasContents (mark ++ new) contents
 file_of {new = new} (edit.unmarked none) ends =
-    let (entries, reads, same) = ends 1 in (entries, unmarked_file new entries reads, same)
+    let (entries, reads, same) = ends 1 in
+    (entries, record { line = 1; rest = new; begins = begins_one new entries reads; reads = reads }, same)
 file_of {new = new} (edit.marked is) ends =
     let (entries, reads, same) = ends 1 in
     (entries, record { line = 1; rest = new; begins = file.marked refl; reads = reads }, same)
-
-begins_one : (text : List ℕ) (entries : List Entry) → Reads None 1 text entries None → file.Begins text 1 text
-begins_one [] entries reads = file.unmarked refl (λ part. part)
-begins_one (b ∷ text) entries reads = begins_unmarked b text (begins_no_mark reads)
 
 pub split_begins : {text mark body : List ℕ} {contents : List Content} → IsSplit text mark body → Ends None body contents
     → (line : ℕ) × file.Begins text line body
@@ -431,37 +339,23 @@ split_begins {body = body} (edit.unmarked none) ends =
 split_begins (edit.marked is) ends = (1, file.marked is)
 
 -- where a body is read up to, its text is
+reached_from : {text body rest : List ℕ} {before : List Content} {section : Option Section} {line end : ℕ} {entries : List Entry}
+    → file.Begins text line body → Leads None line body entries section end rest → map content entries ≡ before
+    → Reaches text before section rest
+reached_from {body = body} {line = line} {end = end} {entries = entries} begins leads same =
+    record { line = line; body = body; end = end; entries = entries; begins = begins; leads = leads; contents_are = same }
+
 pub reaches : {text mark body rest : List ℕ} (front : List ℕ) {contents before : List Content} {section : Option Section}
     → IsSplit text mark body → Ends None body contents → body ≡ front ++ rest → Holds None front before section
     → Reaches text before section rest
-reaches {body = body} {rest = rest} front {section = section} split ends joined holds =
+reaches {rest = rest} front split ends joined holds =
     let (line, begins) = split_begins split ends in
     let (end, entries, leads, same) = holds line rest in
-    record {
-      line = line;
-      body = body;
-      end = end;
-      entries = entries;
-      begins = begins;
-      leads = subst (λ b. Leads None line b entries section end rest) (sym joined) leads;
-      contents_are = same;
-    }
+    reached_from begins (rw (← joined) at leads) same
 
 pub split_joined : {text mark body : List ℕ} → IsSplit text mark body → text ≡ mark ++ body
 split_joined (edit.unmarked none) = refl
 split_joined (edit.marked {text = text} {body = body} is) = mark_is text body is
-
-reads_lead : {section : Option Section} {line : ℕ} {text : List ℕ} {entries : List Entry}
-    → Reads section line text entries None
-    → (next : Option Section) × (end : ℕ) × Leads section line text entries next end []
-reads_lead {section = section} {line = line} file.ends = (section, line, reached.here)
-reads_lead (file.blank is h) = let (next, end, leads) = reads_lead h in (next, end, reached.blank is leads)
-reads_lead (file.line_end is h) = let (next, end, leads) = reads_lead h in (next, end, reached.line_end is leads)
-reads_lead (file.comment is run h) = let (next, end, leads) = reads_lead h in (next, end, reached.comment is run leads)
-reads_lead (file.header is header h) =
-    let (next, end, leads) = reads_lead h in (next, end, reached.header is header leads)
-reads_lead (file.entry letter takes h) =
-    let (next, end, leads) = reads_lead h in (next, end, reached.entry letter takes leads)
 
 pub reaches_behind : {text mark body rest : List ℕ} {contents before : List Content}
     → IsSplit text mark body → Ends None body contents → ComesBehind body before rest → ReachesBehind text before rest
@@ -469,18 +363,8 @@ reaches_behind split ends (inl (section, (front, joined, holds))) = (section, re
 reaches_behind {body = body} split ends (inr (none, whole)) =
     let (line, begins) = split_begins split ends in
     let (entries, reads, same) = whole line in
-    let (section, end, leads) = reads_lead reads in (
-      section,
-      record {
-        line = line;
-        body = body;
-        end = end;
-        entries = entries;
-        begins = begins;
-        leads = subst (λ r. Leads None line body entries section end r) (sym none) leads;
-        contents_are = same;
-      },
-    )
+    let (later, section, end, leads, also) = relined reads line in
+    (section, reached_from begins (rw (← none) at leads) (also ∙ same))
 
 -- a text with its mark, of whose body stretches change
 pub becomes_marked : {M : List Content → Option Section → List ℕ → List ℕ → List ℕ → Type 0} {text mark body new : List ℕ}
@@ -504,14 +388,12 @@ section_renamed {text = text} {mark = mark} {body = body} {new = new} entries fr
     rw edited_is (
       map content entries,
       (entries, is_file, refl),
-      inr
-          (from, to, names, names_now, now, file_of split ends, renames, whole),
+      inr (from, to, names, names_now, now, file_of split ends, renames, whole),
     )
 
 pub text_of : {text mark body : List ℕ} {contents : List Content} → IsSplit text mark body
     → Ends None body contents → HasContents text contents
-text_of {contents = contents} split ends =
-    subst (λ t. HasContents t contents) (sym (split_joined split)) (file_of split ends)
+text_of split ends = rw (split_joined split) (file_of split ends)
 
 pub no_file : {text mark body : List ℕ} → IsSplit text mark body
     → ((contents : List Content) → ¬ (Ends None body contents)) → (entries : List Entry) → ¬ (IsFile text entries None)

@@ -1,14 +1,13 @@
 -- Pieces of a text.
-use Rattle.std.proofs.Common.{◌≡◌, ◌≢◌, ℕ, ◌+◌, ◌<◌, Bool, true, false, List, [], ◌∷◌, ◌++◌, Option, Some}
-use Rattle.std.proofs.Common.{None, length, refl, sym, ap, ◌∙◌, subst, append_assoc, append-nil, arith, inl}
+use Rattle.std.proofs.Common.{◌≡◌, ◌≢◌, ℕ, ◌+◌, Bool, true, false, List, [], ◌∷◌, ◌++◌, Option, Some}
+use Rattle.std.proofs.Common.{None, refl, sym, ap, ◌∙◌, subst, append_assoc, append-nil, arith, inl}
 use Rattle.std.proofs.Common.{inr, ◌⊎◌, true≢false}
-use Rattle.std.specs.Char.{is_ascii_alphabetic}
 use Rattle.std.proofs.lemmas.List.{append_cancel_right}
 use Rattle.std.proofs.lemmas.Bool.Decides.{nat_tests}
 use Rattle.config_file.specs.declared.errors.FileError.{FileError}
 use Rattle.config_edit.specs.declared.piece.Held.{Held}
 use Rattle.config_edit.specs.declared.piece.Held.TheVariants as held
-use Rattle.config_file.specs.Bytes.{is_key_byte, is_name_byte, is_blank, is_comment_sign, is_comment_byte}
+use Rattle.config_file.specs.Bytes.{is_space, is_key_byte, is_name_byte, is_blank, is_comment_sign, is_comment_byte}
 use Rattle.config_file.specs.Bytes.{IsAtLineEnd}
 use Rattle.config_file.specs.Runs.{Run, StopsRun}
 use Rattle.config_file.specs.declared.errors.FileFault.{FileFault}
@@ -18,14 +17,13 @@ use Rattle.config_file.specs.File as file
 use Rattle.config_file.specs.File.{Entry, entry_at, TakesKey, TakesEntry, EntryStops, alone, valued, Reads}
 use Rattle.config_edit.specs.Reached.{Leads}
 use Rattle.config_edit.specs.Reached as reached
-use Rattle.config_edit.specs.Reading as edit
 use Rattle.config_edit.specs.Reading.{Holds, Ends, Passed, anywhere, at_end, IsHeaderAt, IsMade}
-use Rattle.config_edit.specs.Reading.{IsRead, GoesOn, StartsLine, IsPiece, contents_in, section_after}
+use Rattle.config_edit.specs.Reading.{IsRead, GoesOn, StartsLine, contents_in, section_after}
 use Rattle.config_edit.specs.Edit.{AreBlank, IsComment, absent, present, IsTail, IsEntry}
 use Rattle.config_file.proofs.LineEnds.{not_none}
 use Rattle.config_file.specs.Bytes.{BeginsWithLetter}
-use Rattle.config_file.proofs.Bounds.{entry_shortens}
 use Rattle.config_file.proofs.OneReading.{reads_once}
+use Rattle.config_file.proofs.OneRun.{run_same}
 use Rattle.config_file.proofs.Readings.{at_entry, begins_none}
 
 -- the reading goes on where the bytes before lead
@@ -58,13 +56,14 @@ pub record Follows (rest other : List ℕ) : Type 0 where
   ends_value : EndsValue rest → EndsValue other
   line_end : IsAtLineEnd rest → IsAtLineEnd other
 
-same_line_end : (b : ℕ) (rest other : List ℕ) → b ≢ 13 → IsAtLineEnd (b ∷ rest) → IsAtLineEnd (b ∷ other)
-same_line_end b [] [] other_byte h = h
-same_line_end b [] (d ∷ other) other_byte h = inl h
-same_line_end b (c ∷ rest) [] other_byte (inl is) = is
-same_line_end b (c ∷ rest) [] other_byte (inr p) = absurd (other_byte p.0)
-same_line_end b (c ∷ rest) (d ∷ other) other_byte (inl is) = inl is
-same_line_end b (c ∷ rest) (d ∷ other) other_byte (inr p) = absurd (other_byte p.0)
+feed_at : (b : ℕ) (rest : List ℕ) → b ≢ 13 → IsAtLineEnd (b ∷ rest) → b ≡ 10
+feed_at b [] no_return h = h
+feed_at b (c ∷ rest) no_return (inl is) = is
+feed_at b (c ∷ rest) no_return (inr p) = absurd (no_return p.0)
+
+at_feed : (b : ℕ) (rest : List ℕ) → b ≡ 10 → IsAtLineEnd (b ∷ rest)
+at_feed b [] is = is
+at_feed b (c ∷ rest) is = inl is
 
 line_end_before : (x : ℕ) (front : List ℕ) (b : ℕ) (rest other : List ℕ)
     → IsAtLineEnd (x ∷ (front ++ b ∷ rest)) → IsAtLineEnd (x ∷ (front ++ b ∷ other))
@@ -73,9 +72,9 @@ line_end_before x (y ∷ front) b rest other h = h
 
 follows : (front : List ℕ) (b : ℕ) (rest other : List ℕ) → b ≢ 13
     → Follows (front ++ b ∷ rest) (front ++ b ∷ other)
-follows [] b rest other other_byte =
-    record { stops = λ test none s. s; ends_value = λ e. e; line_end = same_line_end b rest other other_byte }
-follows (x ∷ front) b rest other other_byte =
+follows [] b rest other no_return =
+    record { stops = λ test none s. s; ends_value = λ e. e; line_end = λ h. at_feed b other (feed_at b rest no_return h) }
+follows (x ∷ front) b rest other no_return =
     record { stops = λ test none s. s; ends_value = λ e. e; line_end = line_end_before x front b rest other }
 
 stops_moved : (test : ℕ → Bool) (front rest other : List ℕ) → Follows rest other → test 10 ≡ false
@@ -83,66 +82,44 @@ stops_moved : (test : ℕ → Bool) (front rest other : List ℕ) → Follows re
 stops_moved test [] rest other f none h = f.stops test none h
 stops_moved test (x ∷ front) rest other f none h = h
 
-pub run_moved : {test : ℕ → Bool} {text run : List ℕ} (rest other : List ℕ) → Follows rest other
-    → test 10 ≡ false → Run test text run rest → Run test (run ++ other) run other
-run_moved {test = test} rest other f none h =
-    record { joined = refl; pass = h.pass; longest = f.stops test none h.longest }
-
-name_stops : (blanks : List ℕ) (quote : ℕ) (inner other : List ℕ)
-    → StopsRun is_name_byte (blanks ++ quote ∷ inner) → StopsRun is_name_byte (blanks ++ quote ∷ other)
-name_stops [] quote inner other h = h
-name_stops (x ∷ blanks) quote inner other h = h
-
 -- a header is the same before any rest
 pub header_moved : {text rest : List ℕ} {section : Section} → Header text section rest
     → (front : List ℕ) × (text ≡ front ++ rest) × ((other : List ℕ) → Header (front ++ other) section other)
-header_moved (plain {b = b} {name = name} {rest = rest} run some e) = (
+header_moved (plain {b = b} {name = name} run some e) = (
   name ++ b ∷ [],
-  run.joined ∙ sym (append_assoc name (b ∷ []) rest),
-  λ other. rw (append_assoc name (b ∷ []) other)
-      (plain (record { joined = refl; pass = run.pass; longest = run.longest }) some e),
+  run.joined ∙ simp append_assoc,
+  λ other. rw append_assoc (plain (record { joined = refl; pass = run.pass; longest = run.longest }) some e),
 )
-header_moved (quoted {name = name} {inner = inner} opens (closes {b = b} {raw = raw} {rest = rest} takes e)) =
-    let within = raw ++ 34 ∷ b ∷ [] in
-    let inner_is : inner ≡ within ++ rest = takes.joined ∙ sym (append_assoc raw (34 ∷ b ∷ []) rest) in (
-      name ++ (opens.blanks ++ opens.quote ∷ within),
-      opens.name_run.joined
-          ∙ rw (
-            opens.blank_run.joined,
-            inner_is,
-            append_assoc name
-                (opens.blanks ++ opens.quote ∷ within) rest,
-            append_assoc opens.blanks
-                (opens.quote ∷ within) rest,
-          ) refl,
-      λ other. rw (
-        append_assoc name (opens.blanks ++ opens.quote ∷ within) other,
-        append_assoc opens.blanks
-            (opens.quote ∷ within) other,
-      ) (quoted
+header_moved (quoted {name = name} {inner = inner} opens (closes {b = b} {raw = raw} takes e)) =
+    let no_return : opens.quote ≢ 13 = omega (arith, opens.is_quote) in (
+      name ++ (opens.blanks ++ opens.quote ∷ (raw ++ 34 ∷ b ∷ [])),
+      opens.name_run.joined ∙ rw (opens.blank_run.joined, takes.joined) (simp append_assoc),
+      λ other.
+          let after = raw ++ 34 ∷ b ∷ other in
+          simp append_assoc (quoted
           (record {
             blanks = opens.blanks;
-            blanked = opens.blanks ++ opens.quote ∷ (within ++ other);
+            blanked = opens.blanks ++ opens.quote ∷ after;
             quote = opens.quote;
-            name_run = record { joined = refl; pass = opens.name_run.pass; longest = name_stops opens.blanks opens.quote inner (within ++ other) (subst (StopsRun is_name_byte) opens.blank_run.joined opens.name_run.longest) };
+            name_run = record { joined = refl; pass = opens.name_run.pass; longest = (follows opens.blanks opens.quote inner after no_return).stops is_name_byte refl (rw opens.blank_run.joined at opens.name_run.longest) };
             blank_run = record { joined = refl; pass = opens.blank_run.pass; longest = opens.blank_run.longest };
             some_blank = opens.some_blank;
             is_quote = opens.is_quote;
           })
-          (closes (record { is_subsection = takes.is_subsection; joined = append_assoc raw (34 ∷ b ∷ []) other }) e)),
+          (closes (record { is_subsection = takes.is_subsection; joined = refl }) e)),
     )
 
 -- keys, values and entries are the same before a text that can stand for their rest
 key_moved : {text key : List ℕ} (rest other : List ℕ) → Follows rest other → (takes : TakesKey text key rest)
     → TakesKey ((key ++ takes.spaces) ++ other) key other
 key_moved {key = key} rest other f takes =
-    let spaced : StopsRun is_key_byte (takes.spaces ++ rest) =
-    subst (StopsRun is_key_byte) takes.space_run.joined takes.key_run.longest in
+    let longest =
+    stops_moved is_key_byte takes.spaces rest other f refl (rw takes.space_run.joined at takes.key_run.longest) in
     record {
       spaced = takes.spaces ++ other;
       spaces = takes.spaces;
-      key_run = record { joined = append_assoc key takes.spaces other; pass = takes.key_run.pass; longest = stops_moved is_key_byte takes.spaces rest other f refl spaced };
-      space_run = run_moved rest other f refl takes.space_run;
+      key_run = record { joined = append_assoc key takes.spaces other; pass = takes.key_run.pass; longest = longest };
+      space_run = record { joined = refl; pass = takes.space_run.pass; longest = f.stops is_space refl takes.space_run.longest };
     }
 
 pub key_joined : {text key : List ℕ} (rest : List ℕ) → (takes : TakesKey text key rest)
@@ -157,46 +134,41 @@ key_before_value {key = key} {after = after} {b = b} takes is =
     let no_return : b ≢ 13 = omega arith in (
       front,
       key_joined (b ∷ after) takes ∙ ap (λ c. front ++ c ∷ after) is,
-      λ other. subst (λ c. TakesKey (front ++ c ∷ other) key (c ∷ other)) is
-          (key_moved (b ∷ after) (b ∷ other) (follows [] b after other no_return) takes),
+      λ other. rw is at (key_moved (b ∷ after) (b ∷ other) (follows [] b after other no_return) takes),
     )
 
-value_moved : {after raw rest : List ℕ} {lines : ℕ} (other : List ℕ) → Follows rest other → rest ≢ []
-    → TakesValue after raw lines rest
-    → (after ≡ raw ++ rest) × TakesValue (raw ++ other) raw lines other
-value_moved other f some (closed joined spells ends) = (joined, closed refl spells (f.ends_value ends))
-value_moved other f some (open_end spells) = absurd (some refl)
-
-entry_moved : {text key rest : List ℕ} {value : Option (List ℕ)} {lines : ℕ} (other : List ℕ)
-    → Follows rest other → rest ≢ [] → TakesEntry text key value lines rest
-    → (front : List ℕ) × (text ≡ front ++ rest) × TakesEntry (front ++ other) key value lines other
-entry_moved other f some (alone {key = key} {rest = rest} takes end) =
-    (key ++ takes.spaces, key_joined rest takes, alone (key_moved rest other f takes) (f.line_end end))
-entry_moved other f some (valued {b = b} {lines = lines} {key = key} {after = after} {raw = raw} {rest = rest} takes is taken) =
-    let (joined, moved) = value_moved other f some taken in
+-- an entry is bytes before a rest, and the same bytes are it before any text that can stand for that rest
+entry_moved : {text key rest : List ℕ} {value : Option (List ℕ)} {lines : ℕ} → TakesEntry text key value lines rest
+    → (front : List ℕ) × (text ≡ front ++ rest)
+    × ((other : List ℕ) → Follows rest other → rest ≢ [] → TakesEntry (front ++ other) key value lines other)
+entry_moved (alone {key = key} {rest = rest} takes end) = (
+  key ++ takes.spaces,
+  key_joined rest takes,
+  λ other f some. alone (key_moved rest other f takes) (f.line_end end),
+)
+entry_moved (valued {b = b} {key = key} {after = after} takes is (closed {raw = raw} {rest = rest} joined spells ends)) =
     let front = key ++ takes.spaces in
-    let no_return : b ≢ 13 = omega arith in
-    let key_before : TakesKey (front ++ b ∷ (raw ++ other)) key (b ∷ (raw ++ other)) =
-    key_moved (b ∷ after) (b ∷ (raw ++ other)) (follows [] b after (raw ++ other) no_return) takes in
-    let same : (front ++ b ∷ raw) ++ other ≡ front ++ b ∷ (raw ++ other) =
-    append_assoc front (b ∷ raw) other in (
+    let no_return : b ≢ 13 = omega arith in (
       front ++ b ∷ raw,
-      key_joined (b ∷ after) takes ∙ ap (λ t. front ++ b ∷ t) joined
-          ∙ sym (append_assoc front (b ∷ raw) rest),
-      rw same (valued key_before is moved),
+      key_joined (b ∷ after) takes ∙ ap (λ t. front ++ b ∷ t) joined ∙ sym (append_assoc front (b ∷ raw) rest),
+      λ other f some.
+          let moves = follows [] b after (raw ++ other) no_return in
+          let key_now = key_moved (b ∷ after) (b ∷ (raw ++ other)) moves takes in
+          rw (append_assoc front (b ∷ raw) other) (valued key_now is (closed refl spells (f.ends_value ends))),
     )
+entry_moved (valued {b = b} {key = key} {after = after} takes is (open_end spells)) = (
+  (key ++ takes.spaces) ++ b ∷ after,
+  key_joined (b ∷ after) takes ∙ sym (append-nil ((key ++ takes.spaces) ++ b ∷ after)),
+  λ other f some. absurd (some refl),
+)
 
-cons_front : (b : ℕ) (text front rest : List ℕ) → b ∷ text ≡ front ++ rest → length rest < length (b ∷ text)
-    → (inner : List ℕ) × (front ≡ b ∷ inner) × (text ≡ inner ++ rest)
-cons_front b text [] rest joined shorter =
-    let same : length (b ∷ text) ≡ length rest = ap length joined in absurd (omega arith)
-cons_front b text (x ∷ front) rest joined shorter =
-    let first : x ≡ b = cc in
-    let more : text ≡ front ++ rest = cc in
-    (front, ap (λ c. c ∷ front) first, more)
-
-same_front : (a b rest : List ℕ) → a ++ rest ≡ b ++ rest → a ≡ b
-same_front a b rest e = append_cancel_right a b rest e
+-- the same letter begins a text before any other rest
+pub letter_before : (front : List ℕ) (b : ℕ) (after other : List ℕ) → BeginsWithLetter (front ++ b ∷ after)
+    → BeginsWithLetter (front ++ b ∷ other)
+letter_before [] b after other (c, more, e, letter) =
+    let same : b ≡ c = cc in (b, other, refl, rw same letter)
+letter_before (x ∷ front) b after other (c, more, e, letter) =
+    let same : x ≡ c = cc in (x, front ++ b ∷ other, refl, rw same letter)
 
 -- blanks before a text change nothing
 pub first_blank : (b : ℕ) (blanks : List ℕ) → AreBlank (b ∷ blanks) → is_blank b ≡ true
@@ -218,9 +190,7 @@ pub blanks_read : {section : Option Section} {line : ℕ} {text : List ℕ} {ent
     {error : Option FileError} (blanks : List ℕ)
     → AreBlank blanks
     → Reads section line text entries error → Reads section line (blanks ++ text) entries error
-blanks_read [] all reads = reads
-blanks_read (b ∷ blanks) all reads =
-    file.blank (first_blank b blanks all) (blanks_read blanks (other_blanks b blanks all) reads)
+blanks_read blanks all reads = compose (blanks_lead blanks all reached.here) reads
 
 -- what is left of a line leads over its line end, or ends the text
 comment_leads : {comment : List ℕ} → IsComment comment
@@ -241,11 +211,8 @@ pub tail_leads : {tail rest : List ℕ} {is_line : Bool} → is_line ≡ true �
     → Leads section line (tail ++ other) [] section (line + 1) other
 tail_leads {tail = tail} is t section line other =
     elim t.ends [
-      | inl line_is ↦
-          let whole : tail ++ other ≡ t.blanks ++ (t.comment ++ 10 ∷ other) =
-          ap (λ x. x ++ other) line_is.1 ∙ append_assoc t.blanks (t.comment ++ 10 ∷ []) other
-          ∙ ap (λ x. t.blanks ++ x) (append_assoc t.comment (10 ∷ []) other) in
-          rw whole (blanks_lead t.blanks t.are_blank (comment_leads t.is_comment section line other))
+      | inl line_is ↦ rw line_is.1
+          (simp append_assoc (blanks_lead t.blanks t.are_blank (comment_leads t.is_comment section line other)))
       | inr end_is ↦ absurd (true≢false (sym is ∙ end_is.0))
     ]
 
@@ -255,58 +222,24 @@ pub tail_ends : {tail rest : List ℕ} {is_line : Bool} → is_line ≡ false �
 tail_ends {tail = tail} is t section line =
     elim t.ends [
       | inl line_is ↦ absurd (true≢false (sym line_is.0 ∙ is))
-      | inr end_is ↦ (
-        end_is.1,
-        rw end_is.2
-            (blanks_read t.blanks t.are_blank (comment_ends t.is_comment section line)),
-      )
+      | inr end_is ↦
+          (end_is.1, rw end_is.2 (blanks_read t.blanks t.are_blank (comment_ends t.is_comment section line)))
     ]
 
 line_passed : {tail rest bytes : List ℕ} (blanks : List ℕ) (is_line : Bool) → AreBlank blanks
     → bytes ≡ blanks ++ tail → IsTail tail rest is_line → (section : Option Section)
     → Passed section bytes [] section rest
-line_passed {tail = tail} {bytes = bytes} blanks true all joined t section =
-    anywhere (λ line other.
-    let whole : bytes ++ other ≡ blanks ++ (tail ++ other) = ap (λ x. x ++ other) joined
-    ∙ append_assoc blanks tail other in
-    (line + 1, [], rw whole (blanks_lead blanks all (tail_leads refl t section line other)), refl))
-line_passed {bytes = bytes} blanks false all joined t section =
+line_passed blanks true all joined t section = anywhere (λ line other.
+    (line + 1, [], rw (joined, append_assoc) (blanks_lead blanks all (tail_leads refl t section line other)), refl))
+line_passed blanks false all joined t section =
     at_end (tail_ends refl t section 0).0
     (λ line. ([], rw joined (blanks_read blanks all (tail_ends refl t section line).1), refl))
 
 -- a header leads to its section
 pub header_holds : {new : Section} {blanks bytes : List ℕ} → AreBlank blanks → IsHeaderAt new blanks bytes
     → (section : Option Section) → Holds section bytes [] (Some new)
-header_holds {new = new} {blanks = blanks} {bytes = bytes} all h section = λ line other.
-    let whole : bytes ++ other ≡ blanks ++ 91 ∷ (h.inner ++ other) = ap (λ x. x ++ other) h.joined
-    ∙ append_assoc blanks (91 ∷ h.inner) other in
-    (line, [], rw whole (blanks_lead blanks all (reached.header refl (h.header other) reached.here)), refl)
-
--- an entry with what is left of its line
-with_rest : (tail rest prest : List ℕ) → prest ≡ tail ++ rest → (lead : List ℕ) → tail ≡ lead ++ 10 ∷ []
-    → prest ≡ lead ++ 10 ∷ rest
-with_rest tail rest prest left lead is = left ∙ ap (λ x. x ++ rest) is ∙ append_assoc lead (10 ∷ []) rest
-
-entry_leads : {key front prest : List ℕ} (lead rest : List ℕ) {value : Option (List ℕ)} {lines b : ℕ}
-    {more : List ℕ}
-    → front ++ prest ≡ b ∷ more → is_ascii_alphabetic b ≡ true
-    → TakesEntry (front ++ prest) key value lines prest → prest ≡ lead ++ 10 ∷ rest → (other : List ℕ)
-    → (inner : List ℕ) × (front ≡ b ∷ inner) × TakesEntry (front ++ (lead ++ 10 ∷ other)) key value lines (lead ++ 10 ∷ other)
-entry_leads {key = key} {front = front} {prest = prest} lead rest {value = value} {lines = lines} {b = b} {more = more} begins letter takes left other =
-    let shorter = entry_shortens (front ++ prest) begins letter takes in
-    let no_return : 10 ≢ 13 = omega arith in
-    let f : Follows prest (lead ++ 10 ∷ other) =
-    subst (λ x. Follows x (lead ++ 10 ∷ other)) (sym left) (follows lead 10 rest other no_return) in
-    let some : prest ≢ [] = λ none. not_none lead rest 10 (sym left ∙ none) in
-    let (again, again_joined, taken) = entry_moved (lead ++ 10 ∷ other) f some takes in
-    let same : front ≡ again = same_front front again prest again_joined in
-    let room : length prest < length (b ∷ more) = subst (λ x. length prest < length x) begins shorter in
-    let (inner, front_is, unused) = cons_front b more front prest (sym begins) room in (
-      inner,
-      front_is,
-      subst (λ x. TakesEntry (x ++ (lead ++ 10 ∷ other)) key value lines (lead ++ 10 ∷ other))
-          (sym same) taken,
-    )
+header_holds all h section = λ line other.
+    (line, [], rw h.joined (simp append_assoc (blanks_lead _ all (reached.header refl (h.header other) reached.here))), refl)
 
 -- what the code cuts off a line
 pub comment_cut : {text after bytes rest : List ℕ} {sign : ℕ} → text ≡ sign ∷ after
@@ -318,91 +251,72 @@ comment_cut {bytes = bytes} {sign = sign} e is run =
 pub no_comment : (text : List ℕ) → (comment : List ℕ) × (text ≡ comment ++ text) × IsComment comment
 no_comment text = ([], refl, absent)
 
-pub tail_of_line : {text blanks at comment end rest : List ℕ} → Run is_blank text blanks at
-    → at ≡ comment ++ end → IsComment comment → end ≡ 10 ∷ rest
-    → (tail : List ℕ) × (text ≡ tail ++ rest) × (t : IsTail tail rest true) × (t.comment ≡ comment)
-tail_of_line {blanks = blanks} {comment = comment} {rest = rest} run at_is is end_is = (
-  blanks ++ (comment ++ 10 ∷ []),
-  run.joined
-      ∙ rw (
-        at_is,
-        end_is,
-        append_assoc blanks (comment ++ 10 ∷ []) rest,
-        append_assoc comment
-            (10 ∷ []) rest,
-      ) refl,
+pub tail_of : {text blanks at comment end rest : List ℕ} {is_line : Bool} (last : List ℕ) → Run is_blank text blanks at
+    → at ≡ comment ++ end → IsComment comment → end ≡ last ++ rest
+    → ((is_line ≡ true) × (last ≡ 10 ∷ [])) ⊎ ((is_line ≡ false) × (rest ≡ []) × (last ≡ []))
+    → (tail : List ℕ) × (text ≡ tail ++ rest) × (t : IsTail tail rest is_line) × (t.comment ≡ comment)
+tail_of {blanks = blanks} {comment = comment} last run at_is is end_is ends = (
+  blanks ++ (comment ++ last),
+  run.joined ∙ rw (at_is, end_is) (simp append_assoc),
   record {
     blanks = blanks;
     comment = comment;
     are_blank = run.pass;
     is_comment = is;
-    ends = inl
-        (refl, refl);
+    ends = elim ends [
+      | inl (line, e) ↦ inl (line, rw e refl)
+      | inr (off, none, e) ↦ inr (off, none, rw (e, append-nil comment) refl)
+    ];
   },
   refl,
 )
 
-pub tail_of_end : {text blanks at comment end : List ℕ} → Run is_blank text blanks at → at ≡ comment ++ end
-    → IsComment comment → end ≡ []
-    → (tail : List ℕ) × (text ≡ tail ++ end) × (t : IsTail tail end false) × (t.comment ≡ comment)
-tail_of_end {blanks = blanks} {comment = comment} {end = end} run at_is is end_is = (
-  blanks ++ comment,
-  run.joined ∙ rw (at_is, append_assoc blanks comment end) refl,
-  record {
-    blanks = blanks;
-    comment = comment;
-    are_blank = run.pass;
-    is_comment = is;
-    ends = inr
-        (refl, end_is, refl);
-  },
-  refl,
-)
-
+-- an entry with what is left of its line
 pub entry_holds : {key at bytes rest : List ℕ} {value : Option (List ℕ)} {lines : ℕ} (blanks : List ℕ)
     → AreBlank blanks
     → IsEntry key value lines at blanks bytes rest true → (section : Option Section)
     → Holds section bytes ((section, key, value) ∷ []) section
-entry_holds {key = key} {at = at} {bytes = bytes} {rest = rest} {value = value} {lines = lines} blanks all e section =
-    let (b, more, begins, letter) = e.begins in
+entry_holds {key = key} {at = at} {rest = rest} {value = value} {lines = lines} blanks all e section = λ line other.
     let t = e.is_tail in
     let lead = t.blanks ++ t.comment in
     let tail_is : e.tail ≡ lead ++ 10 ∷ [] = elim t.ends [
       | inl line_is ↦ line_is.1 ∙ sym (append_assoc t.blanks t.comment (10 ∷ []))
       | inr end_is ↦ absurd (true≢false end_is.0)
     ] in
-    let left = with_rest e.tail rest at e.left lead tail_is in
-    λ line other.
-    let (inner, front_is, taken) = entry_leads lead rest begins letter e.takes left other in
-    let same : lead ++ 10 ∷ other ≡ e.tail ++ other =
-    sym (ap (λ x. x ++ other) tail_is ∙ append_assoc lead (10 ∷ []) other) in
-    let moved : TakesEntry (e.front ++ (e.tail ++ other)) key value lines (e.tail ++ other) =
-    subst (λ x. TakesEntry (e.front ++ x) key value lines x) same taken in
-    let here : TakesEntry (b ∷ (inner ++ (e.tail ++ other))) key value lines (e.tail ++ other) =
-    subst (λ x. TakesEntry (x ++ (e.tail ++ other)) key value lines (e.tail ++ other)) front_is moved in
+    let before = λ (more : List ℕ). ap (λ x. x ++ more) tail_is ∙ append_assoc lead (10 ∷ []) more in
+    let left : at ≡ lead ++ 10 ∷ rest = e.left ∙ before rest in
+    let no_return : 10 ≢ 13 = omega arith in
+    let moves : Follows at (e.tail ++ other) = rw (left, before other) (follows lead 10 rest other no_return) in
+    let (front, joined, moved) = entry_moved e.takes in
+    let taken : TakesEntry (e.front ++ (e.tail ++ other)) key value lines (e.tail ++ other) =
+    rw (append_cancel_right e.front front at joined)
+    (moved (e.tail ++ other) moves (λ none. not_none lead rest 10 (sym left ∙ none))) in
+    let begins_before : BeginsWithLetter ((e.front ++ lead) ++ 10 ∷ rest) =
+    rw (append_assoc e.front lead (10 ∷ rest), ← left) e.begins in
+    let (b, more, begins, letter) = letter_before (e.front ++ lead) 10 rest other begins_before in
+    let same : e.front ++ (e.tail ++ other) ≡ b ∷ more =
+    ap (λ x. e.front ++ x) (before other) ∙ sym (append_assoc e.front lead (10 ∷ other)) ∙ begins in
     let line_then = line + lines in
     let leads =
-    reached.entry {section = section} {line = line} letter here (tail_leads refl t section line_then other) in
-    let whole : bytes ++ other ≡ blanks ++ (b ∷ (inner ++ (e.tail ++ other))) =
-    ap (λ x. x ++ other) e.joined ∙ append_assoc blanks (e.front ++ e.tail) other
-    ∙ ap (λ x. blanks ++ x) (append_assoc e.front e.tail other ∙ ap (λ x. x ++ (e.tail ++ other)) front_is) in
-    (line_then + 1, entry_at section key value line_then ∷ [], rw whole (blanks_lead blanks all leads), refl)
+    reached.entry {section = section} {line = line} letter (rw same at taken) (tail_leads refl t section line_then other) in (
+      line_then + 1,
+      entry_at section key value line_then ∷ [],
+      rw e.joined (simp append_assoc (blanks_lead blanks all (rw (← same) at leads))),
+      refl,
+    )
 
 entry_ends : {key at bytes rest : List ℕ} {value : Option (List ℕ)} {lines : ℕ} (blanks : List ℕ)
     → AreBlank blanks
     → IsEntry key value lines at blanks bytes rest false → (section : Option Section)
     → (rest ≡ []) × Ends section bytes ((section, key, value) ∷ [])
-entry_ends {key = key} {at = at} {bytes = bytes} {rest = rest} {value = value} {lines = lines} blanks all e section =
+entry_ends {key = key} {at = at} {value = value} {lines = lines} blanks all e section =
     let (b, more, begins, letter) = e.begins in
     let (none, unused) = tail_ends refl e.is_tail section 0 in
-    let left : at ≡ e.tail = e.left ∙ ap (λ x. e.tail ++ x) none ∙ append-nil e.tail in
-    let start : e.front ++ e.tail ≡ b ∷ more = subst (λ x. e.front ++ x ≡ b ∷ more) left begins in
-    let taken : TakesEntry (e.front ++ e.tail) key value lines e.tail =
-    subst (λ x. TakesEntry (e.front ++ x) key value lines x) left e.takes in (
+    let left : at ≡ e.tail = e.left ∙ ap (λ x. e.tail ++ x) none ∙ append-nil e.tail in (
       none,
       λ line.
           let reads =
-          at_entry {section = section} {line = line} [] None (e.front ++ e.tail) start letter taken
+          at_entry {section = section} {line = line} [] None (e.front ++ e.tail) (rw left at begins) letter (rw left at e.takes)
           (tail_ends refl e.is_tail section (line + lines)).1 in
           (entry_at section key value (line + lines) ∷ [], rw e.joined (blanks_read blanks all reads), refl),
     )
@@ -422,59 +336,36 @@ pub made_passed : (h : Held) {bytes rest : List ℕ} (blanks : List ℕ) (is_lin
     → Passed section bytes (contents_in h section) (section_after h section) rest
 made_passed (held.Entry parts) blanks is_line all made section = entry_passed blanks is_line all made section
 made_passed (held.Header new) blanks is_line all made section = anywhere (header_holds all made section)
-made_passed held.Nothing blanks is_line all (tail, joined, t, none) section =
-    line_passed blanks is_line all joined t section
-made_passed held.Comment blanks is_line all (tail, joined, t) section =
-    line_passed blanks is_line all joined t section
+made_passed h blanks is_line all made section = line_passed blanks is_line all made.1 made.2 section
 
 -- where no piece is, no file is read
-none_is_some : {error : FileError} → None ≡ Some error → ⊥
-none_is_some e = cc
-
 pub refused : {text at : List ℕ} (blanks : List ℕ) → text ≡ blanks ++ at → AreBlank blanks
     → ((section : Option Section) (line : ℕ) → (error : FileError) × Reads section line at [] (Some error))
     → ¬ (IsRead text)
-refused {text = text} {at = at} blanks joined all stops (section, line, entries, reads) =
+refused blanks joined all stops (section, line, entries, reads) =
     let (error, stop) = stops section line in
-    let again : Reads section line (blanks ++ at) entries None =
-    subst (λ x. Reads section line x entries None) joined reads in
-    none_is_some (reads_once again (blanks_read blanks all stop)).1
+    let same : None ≡ Some error = (reads_once (rw joined at reads) (blanks_read blanks all stop)).1 in cc
 
-pub header_stops : {at after : List ℕ} {lines : ℕ} {fault : FileFault} → at ≡ 91 ∷ after
-    → HeaderStops after lines fault
-    → (section : Option Section) (line : ℕ) → (error : FileError) × Reads section line at [] (Some error)
-header_stops {lines = lines} {fault = fault} e stops section line =
-    (file.error_at (line + lines) fault, rw e (file.header_refused refl stops))
+pub header_stops : {after : List ℕ} {lines : ℕ} {fault : FileFault} → HeaderStops after lines fault
+    → (section : Option Section) (line : ℕ) → (error : FileError) × Reads section line (91 ∷ after) [] (Some error)
+header_stops {lines = lines} {fault = fault} stops section line =
+    (file.error_at (line + lines) fault, file.header_refused refl stops)
 
 pub entry_stops : {at : List ℕ} {lines : ℕ} {fault : FileFault} → BeginsWithLetter at → EntryStops at lines fault
     → (section : Option Section) (line : ℕ) → (error : FileError) × Reads section line at [] (Some error)
-entry_stops {lines = lines} {fault = fault} (b, more, begins, letter) stops section line = (
-  file.error_at (line + lines) fault,
-  rw begins
-      (file.entry_refused letter (subst (λ x. EntryStops x lines fault) begins stops)),
-)
-
-pub first_of : (blanks more : List ℕ) {b c : ℕ} {rest : List ℕ} → blanks ++ b ∷ more ≡ c ∷ rest → AreBlank blanks
-    → is_blank c ≡ false → b ≡ c
-first_of [] more e all no_blank = cc
-first_of (x ∷ blanks) more {c = c} e all no_blank =
-    let same : x ≡ c =
-    cc in let is =
-    first_blank x blanks all in let yes : is_blank c ≡ true =
-    rw (sym same) is in absurd (true≢false (sym yes ∙ no_blank))
+entry_stops {lines = lines} {fault = fault} (b, more, begins, letter) stops section line =
+    (file.error_at (line + lines) fault, rw begins (file.entry_refused letter (rw begins at stops)))
 
 pub nothing_stops : (at : List ℕ) → StartsLine at → GoesOn at → (section : Option Section) (line : ℕ)
     → (error : FileError) × Reads section line at [] (Some error)
 nothing_stops [] starts (blanks, b, more, joined, all, unused, no_sign, no_line) section line =
     absurd (not_none blanks more b (sym joined))
-nothing_stops (c ∷ rest) (no_blank, no_bracket, no_letter) (blanks, b, more, joined, all, unused, no_sign, no_line) section line =
-    let same : b ≡ c = first_of blanks more (sym joined) all no_blank in
+nothing_stops (c ∷ rest) (no_blank, no_bracket, no_letter) (blanks, b, more, joined, all, other, no_sign, no_line) section line =
+    let left = (run_same is_blank [] blanks (c ∷ rest) (b ∷ more) refl all no_blank other joined).1 in
+    let same : b ≡ c = cc in
     let sign : is_comment_sign c ≡ false = rw (sym same) no_sign in
-    let feed : c ≢ 10 = λ is. no_line (same ∙ is) in (
-      file.error_at line (fault_at (c ∷ rest)),
-      file.no_item
-          (begins_none c no_blank feed sign no_bracket no_letter),
-    )
+    let feed : c ≢ 10 = λ is. no_line (same ∙ is) in
+    (file.error_at line (fault_at (c ∷ rest)), file.no_item (begins_none c no_blank feed sign no_bracket no_letter))
 
 pub blank_no_feed : (x : ℕ) → is_blank x ≡ true → x ≡ 10 → ⊥
 blank_no_feed x blank is = grind (arith, nat_tests)
@@ -482,109 +373,69 @@ blank_no_feed x blank is = grind (arith, nat_tests)
 pub blank_no_sign : (x : ℕ) → is_blank x ≡ true → is_comment_sign x ≡ true → ⊥
 blank_no_sign x blank sign = grind (arith, nat_tests)
 
+blank_at : (x y : ℕ) → is_blank x ≡ true → y ≢ 10 → (x ≡ 10) ⊎ ((x ≡ 13) × (y ≡ 10)) → ⊥
+blank_at x y blank other (inl is) = blank_no_feed x blank is
+blank_at x y blank other (inr p) = other p.1
+
 no_line_end : (blanks : List ℕ) (b : ℕ) (more : List ℕ) → AreBlank blanks → is_blank b ≡ false → b ≢ 10
     → IsAtLineEnd (blanks ++ b ∷ more) → ⊥
-no_line_end [] b [] all no_blank no_line end = no_line end
-no_line_end [] b (c ∷ more) all no_blank no_line (inl is) = no_line is
-no_line_end [] b (c ∷ more) all no_blank no_line (inr (return, feed)) =
-    let yes : is_blank b ≡ true = rw return refl in true≢false (sym yes ∙ no_blank)
-no_line_end (x ∷ []) b more all no_blank no_line (inl is) =
-    let blank : is_blank x ≡ true = first_blank x [] all in blank_no_feed x blank is
-no_line_end (x ∷ []) b more all no_blank no_line (inr (return, feed)) = no_line feed
-no_line_end (x ∷ y ∷ blanks) b more all no_blank no_line (inl is) =
-    blank_no_feed x (first_blank x (y ∷ blanks) all) is
-no_line_end (x ∷ y ∷ blanks) b more all no_blank no_line (inr (return, feed)) =
-    blank_no_feed y (first_blank y blanks (other_blanks x (y ∷ blanks) all)) feed
+no_line_end [] b more all no_blank no_line end =
+    no_line (feed_at b more (λ return. true≢false (rw return at no_blank)) end)
+no_line_end (x ∷ []) b more all no_blank no_line end = blank_at x b (first_blank x [] all) no_line end
+no_line_end (x ∷ y ∷ blanks) b more all no_blank no_line end =
+    blank_at x y (first_blank x (y ∷ blanks) all) (blank_no_feed y (first_blank y blanks (other_blanks x (y ∷ blanks) all))) end
 
 no_value_end : (blanks : List ℕ) (b : ℕ) (more : List ℕ) → AreBlank blanks → is_comment_sign b ≡ false
     → b ≢ 10 → EndsValue (blanks ++ b ∷ more) → ⊥
 no_value_end [] b more all no_sign no_line (inl is) = no_line is
 no_value_end [] b more all no_sign no_line (inr is) = true≢false (sym is ∙ no_sign)
 no_value_end (x ∷ blanks) b more all no_sign no_line (inl is) = blank_no_feed x (first_blank x blanks all) is
-no_value_end (x ∷ blanks) b more all no_sign no_line (inr is) =
-    let blank = first_blank x blanks all in blank_no_sign x blank is
+no_value_end (x ∷ blanks) b more all no_sign no_line (inr is) = blank_no_sign x (first_blank x blanks all) is
 
 pub no_entry_goes_on : {at key rest : List ℕ} {value : Option (List ℕ)} {lines : ℕ}
     → TakesEntry at key value lines rest → GoesOn rest → ⊥
 no_entry_goes_on (alone takes end) (blanks, b, more, joined, all, no_blank, no_sign, no_line) =
-    no_line_end blanks b more all no_blank no_line (subst IsAtLineEnd joined end)
+    no_line_end blanks b more all no_blank no_line (rw joined at end)
 no_entry_goes_on (valued takes is (closed e spells ends)) (blanks, b, more, joined, all, no_blank, no_sign, no_line) =
     no_value_end blanks b more all no_sign no_line (subst EndsValue joined ends)
 no_entry_goes_on (valued takes is (open_end spells)) (blanks, b, more, joined, all, no_blank, no_sign, no_line) = not_none blanks more b (sym joined)
 
 -- the pieces that the code cuts off
-joined_at : (text blanks at front rest : List ℕ) → text ≡ blanks ++ at → at ≡ front ++ rest
-    → text ≡ (blanks ++ front) ++ rest
-joined_at text blanks at front rest joined is =
-    joined ∙ ap (λ x. blanks ++ x) is ∙ sym (append_assoc blanks front rest)
+pub joined_more : (text front rest bytes more : List ℕ) → text ≡ front ++ rest → rest ≡ bytes ++ more
+    → text ≡ (front ++ bytes) ++ more
+joined_more text front rest bytes more joined cut =
+    joined ∙ ap (λ r. front ++ r) cut ∙ sym (append_assoc front bytes more)
 
-pub header_cut : {text blanks after rest bytes : List ℕ} {new : Section} → text ≡ blanks ++ 91 ∷ after
-    → Header after new rest → text ≡ bytes ++ rest → IsHeaderAt new blanks bytes
-header_cut {text = text} {blanks = blanks} {after = after} {rest = rest} {bytes = bytes} joined header cut =
-    let (inner, is, moved) = header_moved header in
-    let whole = joined_at text blanks (91 ∷ after) (91 ∷ inner) rest joined (ap (λ x. 91 ∷ x) is) in
-    record {
-      inner = inner;
-      joined = append_cancel_right bytes (blanks ++ 91 ∷ inner) rest
-          (sym cut ∙ whole);
-      header = moved;
-    }
+pub same_bytes : {text bytes other : List ℕ} (rest : List ℕ) → text ≡ bytes ++ rest → text ≡ other ++ rest → bytes ≡ other
+same_bytes {bytes = bytes} {other = other} rest cut also = append_cancel_right bytes other rest (sym cut ∙ also)
 
-pub header_front : {text after rest : List ℕ} {new : Section} (blanks : List ℕ) → text ≡ blanks ++ 91 ∷ after
-    → Header after new rest → (front : List ℕ) × (text ≡ front ++ rest)
-header_front {text = text} {after = after} {rest = rest} blanks joined header =
-    let (inner, is, moved) = header_moved header in
-    (blanks ++ 91 ∷ inner, joined_at text blanks (91 ∷ after) (91 ∷ inner) rest joined (ap (λ x. 91 ∷ x) is))
-
-entry_front : {at key prest : List ℕ} {value : Option (List ℕ)} {lines : ℕ}
-    → TakesEntry at key value lines prest → (front : List ℕ) × (at ≡ front ++ prest)
-entry_front (alone {key = key} {rest = rest} takes end) = (key ++ takes.spaces, key_joined rest takes)
-entry_front (valued {b = b} {key = key} {after = after} takes is (closed {raw = raw} {rest = rest} joined spells ends)) = (
-  (key ++ takes.spaces) ++ b ∷ raw,
-  key_joined (b ∷ after) takes ∙ ap (λ x. (key ++ takes.spaces) ++ b ∷ x) joined
-      ∙ sym (append_assoc (key ++ takes.spaces) (b ∷ raw) rest),
-)
-entry_front (valued {b = b} {key = key} {after = after} takes is (open_end spells)) = (
-  (key ++ takes.spaces) ++ b ∷ after,
-  key_joined (b ∷ after) takes ∙ sym (append-nil ((key ++ takes.spaces) ++ b ∷ after)),
-)
-
-pub entry_cut : {text at bytes rest tail key after : List ℕ} {value : Option (List ℕ)} {lines : ℕ}
-    (blanks : List ℕ) (is_line : Bool)
-    → text ≡ blanks ++ at → BeginsWithLetter at
-    → TakesEntry at key value lines after → after ≡ tail ++ rest → IsTail tail rest is_line
-    → text ≡ bytes ++ rest → IsEntry key value lines after blanks bytes rest is_line
-entry_cut {text = text} {at = at} {bytes = bytes} {rest = rest} {tail = tail} {key = key} {after = after} {value = value} {lines = lines} blanks is_line joined letter takes left is_tail cut =
-    let (front, at_is) = entry_front takes in
-    let at_whole : at ≡ (front ++ tail) ++ rest = at_is ∙ ap (λ x. front ++ x) left
-    ∙ sym (append_assoc front tail rest) in
-    let whole = joined_at text blanks at (front ++ tail) rest joined at_whole in
-    record {
-      front = front;
-      tail = tail;
-      begins = subst BeginsWithLetter at_is letter;
-      takes = subst (λ x. TakesEntry x key value lines after) at_is takes;
-      left = left;
-      is_tail = is_tail;
-      joined = append_cancel_right bytes (blanks ++ (front ++ tail)) rest (sym cut ∙ whole);
-    }
-
-pub entry_text_front : {at key prest text rest : List ℕ} {value : Option (List ℕ)} {lines : ℕ}
-    (blanks tail : List ℕ)
-    → text ≡ blanks ++ at → TakesEntry at key value lines prest
-    → prest ≡ tail ++ rest → (front : List ℕ) × (text ≡ front ++ rest)
-entry_text_front {at = at} {text = text} {rest = rest} blanks tail joined takes left =
-    let (front, at_is) = entry_front takes in (
-      blanks ++ (front ++ tail),
-      joined_at text blanks at (front ++ tail) rest joined
-          (at_is ∙ ap (λ x. front ++ x) left ∙ sym (append_assoc front tail rest)),
+pub header_cut : {text after rest : List ℕ} {new : Section} (blanks : List ℕ) → text ≡ blanks ++ 91 ∷ after
+    → Header after new rest → (bytes : List ℕ) × (text ≡ bytes ++ rest) × IsHeaderAt new blanks bytes
+header_cut {text = text} {after = after} {rest = rest} blanks joined header =
+    let (inner, is, moved) = header_moved header in (
+      blanks ++ 91 ∷ inner,
+      joined_more text blanks (91 ∷ after) (91 ∷ inner) rest joined (ap (λ x. 91 ∷ x) is),
+      record { inner = inner; joined = refl; header = moved },
     )
 
-pub line_cut : {text at bytes : List ℕ} (rest tail blanks : List ℕ) → text ≡ blanks ++ at → at ≡ tail ++ rest
-    → text ≡ bytes ++ rest → bytes ≡ blanks ++ tail
-line_cut {text = text} {at = at} {bytes = bytes} rest tail blanks joined at_is cut =
-    append_cancel_right bytes (blanks ++ tail) rest
-    (sym cut ∙ joined_at text blanks at tail rest joined at_is)
+pub entry_cut : {text at rest tail key after : List ℕ} {value : Option (List ℕ)} {lines : ℕ} {is_line : Bool} (blanks : List ℕ)
+    → text ≡ blanks ++ at → BeginsWithLetter at
+    → TakesEntry at key value lines after → after ≡ tail ++ rest → IsTail tail rest is_line
+    → (bytes : List ℕ) × (text ≡ bytes ++ rest) × IsEntry key value lines after blanks bytes rest is_line
+entry_cut {text = text} {at = at} {rest = rest} {tail = tail} {after = after} blanks joined letter takes left is_tail =
+    let (front, at_is, unused) = entry_moved takes in (
+      blanks ++ (front ++ tail),
+      joined_more text blanks at (front ++ tail) rest joined (joined_more at front after tail rest at_is left),
+      record {
+        front = front;
+        tail = tail;
+        begins = rw at_is at letter;
+        takes = rw at_is at takes;
+        left = left;
+        is_tail = is_tail;
+        joined = refl;
+      },
+    )
 
 pub line_made : (h : Held) {bytes rest : List ℕ} (blanks : List ℕ) (is_line : Bool) (tail : List ℕ)
     → bytes ≡ blanks ++ tail → (t : IsTail tail rest is_line)
@@ -597,8 +448,3 @@ pub no_comment_before : {text rest : List ℕ} (comment : List ℕ) → text ≡
     → comment ≡ []
 no_comment_before {text = text} {rest = rest} comment cut same =
     sym (append_cancel_right [] comment rest (same ∙ cut))
-
-pub line_front : {text at rest : List ℕ} (blanks tail : List ℕ) → text ≡ blanks ++ at → at ≡ tail ++ rest
-    → (front : List ℕ) × (text ≡ front ++ rest)
-line_front {text = text} {at = at} {rest = rest} blanks tail joined cut =
-    (blanks ++ tail, joined_at text blanks at tail rest joined cut)

@@ -1,20 +1,22 @@
 use Rattle.std.proofs.Common.{arith}
-use Rattle.config_edit.proofs.Pieces.{entry_cut, entry_stops, entry_text_front, no_entry_goes_on, refused}
+use Rattle.config_edit.proofs.Pieces.{entry_cut, entry_stops, no_entry_goes_on, refused, same_bytes}
 use Rattle.config_file.proofs.Bounds.{entry_shortens, length_joined}
 use Rattle.config_edit.proofs.piece.entry_piece.Goals as goal
 
 pub before-requires : goal.before-requires
 before-requires c =
     let (tail, cut, is, plain) = c.in-Some.ensures.tail in
-    entry_text_front c.args.blanks.now tail c.requires.joined c.in-Ok.ensures cut
+    let (bytes, joined, made) = entry_cut c.args.blanks.now c.requires.joined c.requires.letter c.in-Ok.ensures cut is in
+    (bytes, joined)
 
 pub returns-in-Some-clause-piece : goal.returns-in-Some-clause-piece
 returns-in-Some-clause-piece c =
     let (tail, cut, is, plain) = c.in-Some.ensures.tail in
+    let (bytes, joined, made) = entry_cut c.args.blanks.now c.requires.joined c.requires.letter c.in-Ok.ensures cut is in
     record {
       joined = c.before-in-Some.ensures;
       blank = c.requires.blank;
-      made = entry_cut c.args.blanks.now c.in-Some.tail.is_line c.requires.joined c.requires.letter c.in-Ok.ensures cut is c.before-in-Some.ensures;
+      made = rw (same_bytes c.in-Some.tail.rest.now joined c.before-in-Some.ensures) at made;
     }
 
 pub returns-in-Some-clause-shorter : goal.returns-in-Some-clause-shorter

@@ -1,17 +1,19 @@
-use Rattle.std.proofs.Common.{refl, arith, ◌∷◌}
-use Rattle.config_edit.proofs.Pieces.{header_cut, header_front, header_stops, refused}
+use Rattle.std.proofs.Common.{arith, ◌∷◌}
+use Rattle.config_edit.proofs.Pieces.{header_cut, header_stops, refused, same_bytes}
 use Rattle.config_file.proofs.Bounds.{header_shortens, length_joined}
 use Rattle.config_edit.proofs.piece.header_piece.Goals as goal
 
 pub before-requires : goal.before-requires
-before-requires c = header_front c.args.blanks.now c.requires.joined c.in-Ok.ensures
+before-requires c =
+    let (bytes, joined, at) = header_cut c.args.blanks.now c.requires.joined c.in-Ok.ensures in (bytes, joined)
 
 pub returns-in-Ok-clause-piece : goal.returns-in-Ok-clause-piece
 returns-in-Ok-clause-piece c =
+    let (bytes, joined, at) = header_cut c.args.blanks.now c.requires.joined c.in-Ok.ensures in
     record {
       joined = c.before-in-Ok.ensures;
       blank = c.requires.blank;
-      made = header_cut c.requires.joined c.in-Ok.ensures c.before-in-Ok.ensures;
+      made = rw (same_bytes c.in-Ok.rest.now joined c.before-in-Ok.ensures) at at;
     }
 
 pub returns-in-Ok-clause-shorter : goal.returns-in-Ok-clause-shorter
@@ -22,4 +24,4 @@ returns-in-Ok-clause-shorter c =
 
 pub returns-in-Err-clause-piece : goal.returns-in-Err-clause-piece
 returns-in-Err-clause-piece c =
-    refused c.args.blanks.now c.requires.joined c.requires.blank (header_stops refl c.in-Err.ensures)
+    refused c.args.blanks.now c.requires.joined c.requires.blank (header_stops c.in-Err.ensures)

@@ -1,21 +1,21 @@
 use Rattle.std.proofs.Common.{inl, inr}
-use Rattle.config_edit.proofs.Pieces.{line_cut, line_front, line_made, nothing_stops, refused}
+use Rattle.config_edit.proofs.Pieces.{joined_more, line_made, nothing_stops, refused, same_bytes}
 use Rattle.config_edit.proofs.piece.line_piece.Goals as goal
 use Rattle.config_edit.proofs.piece.line_piece.Goals.{then-tail, else-tail}
 
 pub before-requires : goal.before-requires
 before-requires c =
-    let (tail, cut, is, plain) =
-    c.in-Some.ensures.tail in line_front c.args.blanks.now tail c.requires.joined cut
+    let (tail, cut, is, plain) = c.in-Some.ensures.tail in
+    (_, joined_more c.args.text.now c.args.blanks.now c.args.at.now tail c.in-Some.tail.rest.now c.requires.joined cut)
 
 pub returns-after-tail-clause-piece : goal.returns-after-tail-clause-piece
 returns-after-tail-clause-piece c =
     let (tail, cut, is, plain) = c.in-Some.ensures.tail in
-    let is_line = c.in-Some.tail.is_line in
     let blanks = c.args.blanks.now in
+    let rest = c.in-Some.tail.rest.now in
+    let whole = joined_more c.args.text.now blanks c.args.at.now tail rest c.requires.joined cut in
     let made =
-    line_made c.if-tail.result blanks is_line tail
-    (line_cut c.in-Some.tail.rest.now tail blanks c.requires.joined cut c.before-in-Some.ensures) is in
+    line_made c.if-tail.result blanks c.in-Some.tail.is_line tail (same_bytes rest c.before-in-Some.ensures whole) is in
     record {
       joined = c.before-in-Some.ensures;
       blank = c.requires.blank;

@@ -1,6 +1,5 @@
 use Rattle.std.proofs.Common.{◌≡◌, ◌⊎◌, ◌∙◌, inl, inr, sym, false, IsTrue, ◌&&◌, true}
-use Rattle.std.proofs.Common.{◌↔◌, refl, true≢false}
-use Rattle.config_edit.specs.declared.setting.Insertion.{Insertion}
+use Rattle.std.proofs.Common.{◌↔◌}
 use Rattle.config_edit.specs.declared.setting.Places.{Places}
 use Rattle.config_file.specs.KeyView.{key_of}
 use Rattle.config_file.specs.declared.section.Section as code
@@ -33,13 +32,12 @@ pieces-preserved-then-is_item c =
       | in_default-held w ↦ rw w.is_inside-is
           (inside_after_other key p.section c.pieces.is_inside piece.held w.in_default-held.not-Header p.inside_is)
     ] in
-    let here : Insertion = record { rest = piece.rest; end = c.of-end.result } in
     let header : (new : code.Section) → piece.held ≡ held.Header new → m.is_header ≡ true =
     λ new e. elim c.match-piece.branch [
       | in-Header w ↦ w.is_header-is
       | in_default-held w ↦ absurd (w.in_default-held.not-Header new e)
     ] in
-    placing_here c.pieces.is_inside c.pieces.after_header m.is_inside m.is_header piece p is c.in-Some.ensures.shorter c.of-end.ensures inside c.if-is_inside.true header here refl refl
+    placing_here p is c.in-Some.ensures.shorter c.of-end.ensures m.is_inside m.is_header inside c.if-is_inside.true header
 
 pub pieces-preserved : goal.pieces-preserved
 pieces-preserved c =
@@ -55,30 +53,26 @@ pieces-preserved c =
       | in_default-held w ↦ rw w.is_inside-is
           (inside_after_other key p.section c.pieces.is_inside piece.held w.in_default-held.not-Header p.inside_is)
     ] in
-    let either : (m.is_inside ≡ false) ⊎ (is_item piece.held ≡ false) =
+    let (either, no_comment) : ((m.is_inside ≡ false) ⊎ (is_item piece.held ≡ false))
+    × ((c.pieces.is_inside && c.pieces.after_header) ≡ true → NoCommentNext c.pieces.rest.now) =
     elim c.else-is_inside.branch [
       | else-is_inside-via-then-is_inside+else-is_item w ↦ elim w.if-after_header.branch [
-        | then-after_header v ↦ absurd
-            (true≢false (sym v.if-after_header.true ∙ sym v.value-is ∙ w.if-is_item.false))
-        | else-after_header v ↦ inr (sym v.is_item.ensures ∙ sym v.value-is ∙ w.if-is_item.false)
+        | then-after_header v ↦ cc
+        | else-after_header v ↦ (
+          inr (sym v.is_item.ensures ∙ sym v.value-is ∙ w.if-is_item.false),
+          λ pending. let was = and_parts c.pieces.is_inside c.pieces.after_header pending in cc,
+        )
       ]
-      | else-is_inside-via-else-is_inside w ↦ inl w.if-is_inside.false
+      | else-is_inside-via-else-is_inside w ↦ (
+        inl w.if-is_inside.false,
+        λ pending. elim c.match-piece.branch [
+          | in-Header v ↦ header_next piece.held piece.blanks.now piece.bytes.now piece.rest.now
+              piece.is_line v.in-Header.section v.in-Header.is is.blank is.made is.joined
+          | in_default-held v ↦ let was = and_parts c.pieces.is_inside c.pieces.after_header pending in cc
+        ],
+      )
     ] in
-    let no_comment : (c.pieces.is_inside && c.pieces.after_header) ≡ true → NoCommentNext c.pieces.rest.now =
-    λ pending.
-    let (was, behind) = and_parts c.pieces.is_inside c.pieces.after_header pending in
-    elim c.else-is_inside.branch [
-      | else-is_inside-via-then-is_inside+else-is_item w ↦ elim w.if-after_header.branch [
-        | then-after_header v ↦ absurd
-            (true≢false (sym v.if-after_header.true ∙ sym v.value-is ∙ w.if-is_item.false))
-        | else-after_header v ↦ absurd (true≢false (sym behind ∙ v.if-after_header.false))
-      ]
-      | else-is_inside-via-else-is_inside w ↦ elim c.match-piece.branch [
-        | in-Header v ↦ header_next piece.held piece.blanks.now piece.bytes.now piece.rest.now piece.is_line v.in-Header.section v.in-Header.is is.blank is.made is.joined
-        | in_default-held v ↦ absurd (true≢false (sym was ∙ sym v.is_inside-is ∙ w.if-is_inside.false))
-      ]
-    ] in
-    placing_kept c.pieces.is_inside c.pieces.after_header m.is_inside m.is_header piece p no_comment is c.in-Some.ensures.shorter c.of-end.ensures inside either
+    placing_kept p is c.in-Some.ensures.shorter c.of-end.ensures m.is_inside m.is_header inside no_comment either
 
 pub returns-clause-places : goal.returns-clause-places
 returns-clause-places c = λ contents ends.
@@ -86,6 +80,4 @@ returns-clause-places c = λ contents ends.
     placing_ends places c.pieces.invariant ends c.in_default.ensures.piece
 
 pub returns-clause-within : goal.returns-clause-within
-returns-clause-within c =
-    let p = c.pieces.invariant in
-    place_within (key_of c.args.key.now) c.args.text.now c.pieces.rest.now p.contents p.section c.pieces.is_inside c.pieces.after_header c.pieces.inside p.place
+returns-clause-within c = place_within c.pieces.inside c.pieces.invariant
