@@ -261,9 +261,14 @@ fn open_here<'t>(
         None => open_all(&mut opened, &files, commands)?,
     }
     if may_include(&opened, request) {
-        seek_urls(&opened.disk, &mut opened.surroundings, &opened.sources)?;
+        seek(&mut opened)?;
     }
     Ok(Some(opened))
+}
+
+/// Finds the URLs of remotes if conditions ask about them.
+fn seek<'t>(opened: &mut Opened<'t>) -> Result<(), HereError<'t>> {
+    seek_urls(&opened.disk, &mut opened.surroundings, &opened.sources)
 }
 
 /// The texts of a request, after which these settings of the command line come, or `None` if there are none,
