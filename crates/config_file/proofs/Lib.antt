@@ -1,3 +1,4 @@
+pub mod ListsA
 pub mod Runs
 pub mod Subsections
 pub mod Headers

@@ -115,68 +115,41 @@ pub pair_continued : (letter : ℕ) (line : List ℕ) → letter ≢ 13
 pair_continued letter [] no_return = grind (arith, nat_tests)
 pair_continued letter (c ∷ line) no_return = refl
 
-tail_of : (b : ℕ) (rest line : List ℕ) → b ≢ 92 → b ∷ rest ≡ line ++ 10 ∷ [] → is_continued line ≡ false
-    → ((rest ≡ []) × (b ≡ 10)) ⊎ HasLineEnd rest
-tail_of b rest [] other e h =
-    let none : rest ≡ [] = cc in let is : b ≡ 10 = cc in inl (none, is)
-tail_of b rest (x ∷ line) other e h =
-    let joined : rest ≡ line ++ 10 ∷ [] = cc in
-    let same : b ≡ x = cc in
-    let no_backslash : x ≢ 92 = rw same at other in
-    inr (record { line = line; joined = joined; not_continued = sym (continued_tail x line no_backslash) ∙ h })
-
-pub tail_or_last : (b : ℕ) (rest : List ℕ) → b ≢ 92 → HasLineEnd (b ∷ rest)
-    → ((rest ≡ []) × (b ≡ 10)) ⊎ HasLineEnd rest
-tail_or_last b rest other h = tail_of b rest h.line other h.joined h.not_continued
-
-pair_of : (b e : ℕ) (rest line : List ℕ) → b ≡ 92 → b ∷ e ∷ rest ≡ line ++ 10 ∷ []
-    → is_continued line ≡ false → HasLineEnd rest
-pair_of b e rest [] is joined h = cc
-pair_of b e rest (x ∷ []) is joined h =
-    let same : b ≡ x = cc in
-    let backslash : x ≡ 92 = rw same at is in
-    let yes : true ≡ false = rw backslash at h in
-    absurd (true≢false yes)
-pair_of b e rest (x ∷ y ∷ line) is joined h =
-    let more : rest ≡ line ++ 10 ∷ [] = cc in
-    let same : b ≡ x = cc in let backslash : x ≡ 92 = rw same at is in
-    record { line = line; joined = more; not_continued = continued_pair x y line backslash h }
-
-after_pair : (b e : ℕ) (rest : List ℕ) → b ≡ 92 → HasLineEnd (b ∷ e ∷ rest) → HasLineEnd rest
-after_pair b e rest is h = pair_of b e rest h.line is h.joined h.not_continued
-
 -- a text that ends in LF, split after these first bytes and one more byte
 splits : (front : List ℕ) (b : ℕ) (rest line : List ℕ) → front ++ b ∷ rest ≡ line ++ 10 ∷ []
-    → ((rest ≡ []) × (b ≡ 10)) ⊎ ((more : List ℕ) × (rest ≡ more ++ 10 ∷ []) × (line ≡ front ++ b ∷ more))
-splits [] b rest [] e = let none : rest ≡ [] = cc in let is : b ≡ 10 = cc in inl (none, is)
-splits [] b rest (x ∷ line) e =
-    let joined : rest ≡ line ++ 10 ∷ [] = cc in
-    let same : x ∷ line ≡ b ∷ line = cc in
-    inr (line, joined, same)
+    → ((rest ≡ []) × (b ≡ 10) × (line ≡ front))
+    ⊎ ((more : List ℕ) × (rest ≡ more ++ 10 ∷ []) × (line ≡ front ++ b ∷ more))
+splits [] b rest [] e = inl (cc, cc, refl)
+splits [] b rest (x ∷ line) e = inr (line, cc, cc)
 splits (f ∷ front) b rest [] e = let none : front ++ b ∷ rest ≡ [] = cc in absurd (not_none front rest b none)
 splits (f ∷ front) b rest (x ∷ line) e =
     let tails : front ++ b ∷ rest ≡ line ++ 10 ∷ [] = cc in
     let same : x ≡ f = cc in
     elim (splits front b rest line tails) [
-      | inl p ↦ inl p
+      | inl p ↦ inl (p.0, p.1, rw (same, p.2))
       | inr p ↦ inr (p.0, p.1, rw (same, p.2))
-    ]
-
-after_front_of : (front : List ℕ) (b : ℕ) (rest line : List ℕ) → b ≢ 92
-    → front ++ b ∷ rest ≡ line ++ 10 ∷ [] → is_continued line ≡ false
-    → ((rest ≡ []) × (b ≡ 10)) ⊎ HasLineEnd rest
-after_front_of front b rest line other e h =
-    elim (splits front b rest line e) [
-      | inl p ↦ inl p
-      | inr p ↦
-          let whole : is_continued (front ++ b ∷ p.0) ≡ false = rw p.2 at h in
-          inr (record { line = p.0; joined = p.1; not_continued = continued_after_front front b p.0 other whole })
     ]
 
 pub after_front : {text : List ℕ} (front : List ℕ) (b : ℕ) (rest : List ℕ) → b ≢ 92
     → text ≡ front ++ b ∷ rest → HasLineEnd text → ((rest ≡ []) × (b ≡ 10)) ⊎ HasLineEnd rest
 after_front front b rest other joined h =
-    after_front_of front b rest h.line other (sym joined ∙ h.joined) h.not_continued
+    elim (splits front b rest h.line (sym joined ∙ h.joined)) [
+      | inl p ↦ inl (p.0, p.1)
+      | inr p ↦
+          let whole : is_continued (front ++ b ∷ p.0) ≡ false = rw p.2 at h.not_continued in
+          inr (record { line = p.0; joined = p.1; not_continued = continued_after_front front b p.0 other whole })
+    ]
+
+pub tail_or_last : (b : ℕ) (rest : List ℕ) → b ≢ 92 → HasLineEnd (b ∷ rest)
+    → ((rest ≡ []) × (b ≡ 10)) ⊎ HasLineEnd rest
+tail_or_last b rest other h = after_front [] b rest other refl h
+
+after_pair : (b e : ℕ) (rest : List ℕ) → b ≡ 92 → HasLineEnd (b ∷ e ∷ rest) → HasLineEnd rest
+after_pair b e rest is h =
+    elim (splits (b ∷ []) e rest h.line h.joined) [
+      | inl p ↦ let yes : true ≡ false = rw (p.2, is) at h.not_continued in absurd (true≢false yes)
+      | inr p ↦ record { line = p.0; joined = p.1; not_continued = continued_pair b e p.0 is (rw p.2 at h.not_continued) }
+    ]
 
 cons_end : (b : ℕ) (rest : List ℕ) → b ≢ 92 → ((rest ≡ []) × (b ≡ 10)) ⊎ HasLineEnd rest
     → HasLineEnd (b ∷ rest)
@@ -213,28 +186,23 @@ one_end b (x ∷ line) e = let none : line ++ 10 ∷ [] ≡ [] = cc in absurd (n
 
 return_end : (b e f : ℕ) (line : List ℕ) → b ∷ e ∷ f ∷ [] ≡ line ++ 10 ∷ [] → is_continued line ≡ false
     → b ≡ 92 → e ≡ 13 → ⊥
-return_end b e f [] joined h is next = cc
-return_end b e f (x ∷ []) joined h is next = cc
-return_end b e f (x ∷ y ∷ []) joined h is next =
-    let same : x ≡ 92 = cc in let same_next : y ≡ 13 = cc in
-    let yes : true ≡ false = rw (same, same_next) at h in true≢false yes
-return_end b e f (x ∷ y ∷ z ∷ line) joined h is next =
-    let more : line ++ 10 ∷ [] ≡ [] = cc in
-    not_none line [] 10 more
+return_end b e f line joined h is next =
+    elim (splits (b ∷ e ∷ []) f [] line joined) [
+      | inl p ↦ let yes : true ≡ false = rw (p.2, is, next) at h in true≢false yes
+      | inr p ↦ not_none p.0 [] 10 (sym p.1)
+    ]
 
-blank_is_no_backslash : (b : ℕ) → is_blank b ≡ true → b ≢ 92
-blank_is_no_backslash b is e = grind (arith, nat_tests)
+byte_has_no_end : (b : ℕ) (raw : List ℕ) → (b ≢ 92) × (b ≢ 10) → (HasLineEnd raw → ⊥)
+    → HasLineEnd (b ∷ raw) → ⊥
+byte_has_no_end b raw (no_backslash, no_line_feed) more h =
+    elim (tail_or_last b raw no_backslash h) [ inl p ↦ no_line_feed p.1 | inr k ↦ more k ]
 
-plain_is_no_backslash : (q : Bool) (b : ℕ) → is_plain q b ≡ true → b ≢ 92
-plain_is_no_backslash true b is e = grind (arith, nat_tests)
-plain_is_no_backslash false b is e = grind (arith, nat_tests)
+blank_within : (b : ℕ) → is_blank b ≡ true → (b ≢ 92) × (b ≢ 10)
+blank_within b is = (λ e. grind (arith, nat_tests), λ e. grind (arith, nat_tests))
 
-blank_is_no_line_end : (b : ℕ) → is_blank b ≡ true → b ≡ 10 → ⊥
-blank_is_no_line_end b is e = grind (arith, nat_tests)
-
-plain_is_no_line_end : (q : Bool) (b : ℕ) → is_plain q b ≡ true → b ≡ 10 → ⊥
-plain_is_no_line_end true b is e = grind (arith, nat_tests)
-plain_is_no_line_end false b is e = grind (arith, nat_tests)
+plain_within : (q : Bool) (b : ℕ) → is_plain q b ≡ true → (b ≢ 92) × (b ≢ 10)
+plain_within true b is = (λ e. grind (arith, nat_tests), λ e. grind (arith, nat_tests))
+plain_within false b is = (λ e. grind (arith, nat_tests), λ e. grind (arith, nat_tests))
 
 -- the bytes of a value do not end in an LF over which they are not continued
 pub value_has_no_end : {w : ℕ → ℕ} {q : Bool} {value held raw text : List ℕ} {ending : Ending}
@@ -243,7 +211,7 @@ value_has_no_end ends_outside h = none_ends h
 value_has_no_end ends_inside h = none_ends h
 value_has_no_end (ends_at_backslash {b = b} is) h = let e = one_end b h.line h.joined in omega arith
 value_has_no_end (quote {b = b} {raw = raw} is s) h =
-    elim (tail_or_last b raw (omega arith) h) [ inl p ↦ let e = p.1 in omega arith | inr k ↦ value_has_no_end s k ]
+    byte_has_no_end b raw (omega arith) (λ k. value_has_no_end s k) h
 value_has_no_end (escaped {b = b} {e = e} {raw = raw} is l s) h = value_has_no_end s (after_pair b e raw is h)
 value_has_no_end (continued {b = b} {e = e} {raw = raw} is l s) h =
     value_has_no_end s (after_pair b e raw is h)
@@ -253,6 +221,6 @@ value_has_no_end (continued_after_return {b = b} {e = e} {f = f} {raw = raw} is 
       | inr k ↦ value_has_no_end s k
     ]
 value_has_no_end (blank {b = b} {raw = raw} is s) h =
-    elim (tail_or_last b raw (blank_is_no_backslash b is) h) [ inl p ↦ blank_is_no_line_end b is p.1 | inr k ↦ value_has_no_end s k ]
+    byte_has_no_end b raw (blank_within b is) (λ k. value_has_no_end s k) h
 value_has_no_end (plain {quoted = q} {b = b} {raw = raw} is s) h =
-    elim (tail_or_last b raw (plain_is_no_backslash q b is) h) [ inl p ↦ plain_is_no_line_end q b is p.1 | inr k ↦ value_has_no_end s k ]
+    byte_has_no_end b raw (plain_within q b is) (λ k. value_has_no_end s k) h

@@ -2,13 +2,12 @@
 use Rattle.std.proofs.Common.{◌≡◌, ℕ, zero, suc, ◌≤◌, true, false, ◌==◌, List, [], ◌∷◌, ◌++◌, Option, Some}
 use Rattle.std.proofs.Common.{None, Result, Ok, Err, length, refl, sym, ap, ◌∙◌, subst, arith, if◌then◌else◌}
 use Rattle.std.proofs.Common.{length-append}
-use Rattle.std.proofs.lemmas.List.{append_cancel_right}
 use Rattle.std.proofs.lemmas.Bool.Decides.{nat_tests}
 use Rattle.config_file.proofs.OneRun.{before, before_is}
 use Rattle.config_file.proofs.Pick.{pick, pick_first, pick_second, pick_third}
 use Rattle.config_file.specs.Bytes.{is_text_byte, is_plain_in_quotes, EndsText}
 use Rattle.config_file.specs.Subsection as sub
-use Rattle.config_file.specs.Subsection.{SpellsSubsection, TakesSubsection, StopsInSubsection}
+use Rattle.config_file.specs.Subsection.{SpellsSubsection, IsSubsection, TakesSubsection, StopsInSubsection}
 
 abbrev step_escaped : List ℕ → Option (List ℕ)
 step_escaped [] = None
@@ -37,13 +36,11 @@ stops_at_once (suc n) text none = rw none
 stops_after : {raw spelled : List ℕ} → SpellsSubsection raw spelled → (rest : List ℕ) (n : ℕ) → length raw ≤ n
     → step rest ≡ None → stop n (raw ++ rest) ≡ rest
 stops_after sub.ends rest n room none = stops_at_once n rest none
-stops_after (sub.escaped {b = b} is text s) rest zero room none = absurd (omega arith)
-stops_after (sub.escaped {b = b} {e = e} {raw = raw} is text s) rest (suc n) room none =
-    let first : step (b ∷ e ∷ raw ++ rest) ≡ step_escaped (e ∷ raw ++ rest) =
-    pick_first (b == 92) (is_plain_in_quotes b) (step_escaped (e ∷ raw ++ rest)) (Some (e ∷ raw ++ rest)) None (rw is refl) in
-    let next : step_escaped (e ∷ raw ++ rest) ≡ Some (raw ++ rest) = rw text in
-    ap (after_step (stop n) (b ∷ e ∷ raw ++ rest)) (first ∙ next) ∙ stops_after s rest n (omega arith) none
-stops_after (sub.plain {b = b} is s) rest zero room none = absurd (omega arith)
+stops_after (sub.escaped is text s) rest zero room none = absurd (omega arith)
+stops_after (sub.escaped {e = e} {raw = raw} is text s) rest (suc n) room none =
+    let next : step (92 ∷ e ∷ raw ++ rest) ≡ Some (raw ++ rest) = rw text in
+    rw is (ap (after_step (stop n) (92 ∷ e ∷ raw ++ rest)) next ∙ stops_after s rest n (omega arith) none)
+stops_after (sub.plain is s) rest zero room none = absurd (omega arith)
 stops_after (sub.plain {b = b} {raw = raw} is s) rest (suc n) room none =
     let next =
     pick_second _ _ (step_escaped (raw ++ rest)) (Some (raw ++ rest)) None (plain_is_no_backslash b is) is in
@@ -54,19 +51,23 @@ abbrev finish : List ℕ → List ℕ → Result (List ℕ × List ℕ) (List �
 finish raw [] = Err []
 finish raw (b ∷ rest) = pick (b == 34) (b == 92) (Ok (raw, rest)) (Err rest) (Err (b ∷ rest))
 
-record Found (text : List ℕ) (outcome : Result (List ℕ × List ℕ) (List ℕ)) : Type 0 where
-  raw : List ℕ
-  at : List ℕ
-  joined : text ≡ raw ++ at
-  stops : stop (length text) text ≡ at
-  is : outcome ≡ finish raw at
+-- the outcome of the scan, by how far it goes
+abbrev finish_at : List ℕ → List ℕ → Result (List ℕ × List ℕ) (List ℕ)
+finish_at text at = finish (before text at) at
 
-found_only : {text : List ℕ} {a b : Result (List ℕ × List ℕ) (List ℕ)} → Found text a → Found text b → a ≡ b
-found_only first second =
-    let places : first.at ≡ second.at = sym first.stops ∙ second.stops in
-    let fronts : first.raw ≡ second.raw =
-    append_cancel_right first.raw second.raw second.at (ap (◌++◌ first.raw) (sym places) ∙ sym first.joined ∙ second.joined) in
-    first.is ∙ rw (fronts, places) (sym second.is)
+abbrev pub subsection_of : List ℕ → Result (List ℕ × List ℕ) (List ℕ)
+subsection_of text = finish_at text (stop (length text) text)
+
+pub long_enough : {text : List ℕ} (raw rest : List ℕ) → text ≡ raw ++ rest → length raw ≤ length text
+long_enough raw rest e = rw e (omega (arith, length-append raw rest))
+
+-- the scan stops after a subsection if no step goes on there
+outcome_after : {text : List ℕ} (raw rest : List ℕ) → text ≡ raw ++ rest → IsSubsection raw
+    → step rest ≡ None → finish raw rest ≡ subsection_of text
+outcome_after {text = text} raw rest joined (spelled, s) none =
+    let ran = stops_after s rest (length text) (long_enough raw rest joined) none in
+    let stops = subst (λ t. stop (length text) t ≡ rest) (sym joined) ran in
+    ap (λ x. finish x rest) (before_is raw rest text joined) ∙ ap (finish_at text) (sym stops)
 
 ends_text_byte : (b : ℕ) → is_text_byte b ≡ false → (b == 34) ≡ false
 ends_text_byte b h = grind (arith, nat_tests)
@@ -90,66 +91,15 @@ finish_ends raw [] h = refl
 finish_ends raw (b ∷ rest) h =
     sym (pick_third _ _ (Ok (raw, rest)) (Err rest) (Err (b ∷ rest)) (ends_text_byte b h) (ends_text_backslash b h))
 
-pub long_enough : {text : List ℕ} (raw rest : List ℕ) → text ≡ raw ++ rest → length raw ≤ length text
-long_enough raw rest e = rw e (omega (arith, length-append raw rest))
-
-takes_found : {text raw rest : List ℕ} → TakesSubsection text raw rest → Found text (Ok (raw, rest))
-takes_found {text = text} {raw = raw} {rest = rest} h =
-    let (spelled, s) = h.is_subsection in
-    record {
-      raw = raw;
-      at = 34 ∷ rest;
-      joined = h.joined;
-      stops =
-          subst (λ t. stop (length text) t ≡ 34 ∷ rest) (sym h.joined) (stops_after s (34 ∷ rest) (length text) (long_enough raw (34 ∷ rest) h.joined) refl);
-      is = refl;
-    }
-
-stops_found : {text rest : List ℕ} → StopsInSubsection text rest → Found text (Err rest)
-stops_found (sub.stops {text = text} {raw = raw} {rest = rest} (spelled, s) joined h) =
-    record {
-      raw = raw;
-      at = rest;
-      joined = joined;
-      stops =
-          subst (λ t. stop (length text) t ≡ rest) (sym joined) (stops_after s rest (length text) (long_enough raw rest joined) (no_step rest h));
-      is = finish_ends raw rest h;
-    }
-stops_found (sub.stops_escaped {b = b} {text = text} {raw = raw} {rest = rest} (spelled, s) joined is h) =
-    let whole : text ≡ raw ++ 92 ∷ rest = joined ∙ rw is in
-    record {
-      raw = raw;
-      at = 92 ∷ rest;
-      joined = whole;
-      stops =
-          subst (λ t. stop (length text) t ≡ 92 ∷ rest) (sym whole) (stops_after s (92 ∷ rest) (length text) (long_enough raw (92 ∷ rest) whole) (no_step_escaped rest h));
-      is = refl;
-    }
-
 -- the text has this outcome
 abbrev pub SubsectionHas : List ℕ → Result (List ℕ × List ℕ) (List ℕ) → Type 0
 SubsectionHas text (Ok p) = TakesSubsection text p.0 p.1
 SubsectionHas text (Err rest) = StopsInSubsection text rest
 
-found : {text : List ℕ} (outcome : Result (List ℕ × List ℕ) (List ℕ)) → SubsectionHas text outcome
-    → Found text outcome
-found (Ok (raw, rest)) h = takes_found h
-found (Err rest) h = stops_found h
-
-pub subsection_only : (text : List ℕ) (a b : Result (List ℕ × List ℕ) (List ℕ)) → SubsectionHas text a
-    → SubsectionHas text b → a ≡ b
-subsection_only text a b first second = found_only (found a first) (found b second)
-
--- the outcome of the scan, by how far it goes
-abbrev finish_at : List ℕ → List ℕ → Result (List ℕ × List ℕ) (List ℕ)
-finish_at text at = finish (before text at) at
-
-abbrev pub subsection_of : List ℕ → Result (List ℕ × List ℕ) (List ℕ)
-subsection_of text = finish_at text (stop (length text) text)
-
 pub subsection_is : (text : List ℕ) (outcome : Result (List ℕ × List ℕ) (List ℕ)) → SubsectionHas text outcome
     → outcome ≡ subsection_of text
-subsection_is text outcome has =
-    let scan = found outcome has in
-    let front = before_is scan.raw scan.at text scan.joined in
-    scan.is ∙ ap (λ raw. finish raw scan.at) front ∙ ap (finish_at text) (sym scan.stops)
+subsection_is text (Ok (raw, rest)) h = outcome_after raw (34 ∷ rest) h.joined h.is_subsection refl
+subsection_is text (Err rest) (sub.stops {raw = raw} is joined h) =
+    finish_ends raw rest h ∙ outcome_after raw rest joined is (no_step rest h)
+subsection_is text (Err rest) (sub.stops_escaped {raw = raw} is joined e h) =
+    outcome_after raw (92 ∷ rest) (joined ∙ rw e) is (no_step_escaped rest h)

@@ -2,7 +2,8 @@ use Rattle.std.proofs.Common.{◌≡◌, ◌≢◌, ◌<◌, [], length, arith, 
 use Rattle.config_file.specs.Command.{AddsSettings, RefusesParameter, format, this}
 use Rattle.config_file.specs.declared.command.CommandError.TheVariants.{BadFormat}
 use Rattle.config_file.specs.Reading.Commands.{parameter_of}
-use Rattle.config_file.proofs.Commands.{none_left, some_left, passed_on, memory_of_format, adds_none}
+use Rattle.std.proofs.lemmas.List.{nil_from_length}
+use Rattle.config_file.proofs.Commands.{some_left, passed_on, memory_of_format, adds_none}
 use Rattle.config_file.proofs.Commands.{parameter_shortens, settings_next, refused_later, all_settings}
 use Rattle.config_file.proofs.command.lines_of.Goals as goal
 
@@ -52,5 +53,5 @@ parameters-preserved c =
 
 pub returns : goal.returns
 returns c =
-    let e : c.parameters.at.now ≡ [] = none_left _ (search rules) in
+    let e : c.parameters.at.now ≡ [] = nil_from_length _ (search rules) in
     all_settings c.args.parameters.now c.parameters.at.now c.parameters.lines.items e c.parameters.invariant.done
