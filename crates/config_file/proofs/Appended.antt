@@ -25,22 +25,12 @@ name_other b is = grind (arith, nat_tests)
 blank_other : (b : ℕ) → is_blank b ≡ true → is_comment_byte b ≡ true
 blank_other b is = grind (arith, nat_tests)
 
-key_other : (b : ℕ) → is_key_byte b ≡ true → is_comment_byte b ≡ true
-key_other b is = grind (arith, nat_tests)
-
-space_other : (b : ℕ) → is_space b ≡ true → is_comment_byte b ≡ true
-space_other b is = grind (arith, nat_tests)
-
-text_other : (b : ℕ) → is_text_byte b ≡ true → is_comment_byte b ≡ true
-text_other b is = grind (arith, nat_tests)
-
-plain_other : (b : ℕ) → is_plain_in_quotes b ≡ true → is_comment_byte b ≡ true
-plain_other b is = grind (arith, nat_tests)
-
 subsection_other : {raw text : List ℕ} → SpellsSubsection raw text → list_all is_comment_byte raw ≡ true
 subsection_other sub.ends = refl
-subsection_other (sub.escaped {e = e} b t s) = rw (b, text_other e t, subsection_other s)
-subsection_other (sub.plain {b = b} p s) = rw (plain_other b p, subsection_other s)
+subsection_other (sub.escaped {e = e} b t s) =
+    let other : is_comment_byte e ≡ true = grind (arith, nat_tests) in rw (b, other, subsection_other s)
+subsection_other (sub.plain {b = b} p s) =
+    let other : is_comment_byte b ≡ true = grind (arith, nat_tests) in rw (other, subsection_other s)
 
 pub both_other : (front rest : List ℕ) → list_all is_comment_byte front ≡ true
     → list_all is_comment_byte rest ≡ true → list_all is_comment_byte (front ++ rest) ≡ true
@@ -101,8 +91,9 @@ key_bytes : {text key : List ℕ} (rest : List ℕ) → (takes : TakesKey text k
     → (text ≡ (key ++ takes.spaces) ++ rest) × (list_all is_comment_byte (key ++ takes.spaces) ≡ true)
 key_bytes {key = key} rest takes = (
   takes.key_run.joined ∙ rw takes.space_run.joined (sym (append_assoc key takes.spaces rest)),
-  both_other key takes.spaces (all_more is_key_byte is_comment_byte key_other key takes.key_run.pass)
-      (all_more is_space is_comment_byte space_other takes.spaces takes.space_run.pass),
+  both_other key takes.spaces
+      (all_more is_key_byte is_comment_byte (λ b is. grind (arith, nat_tests)) key takes.key_run.pass)
+      (all_more is_space is_comment_byte (λ b is. grind (arith, nat_tests)) takes.spaces takes.space_run.pass),
 )
 
 key_more : {text key : List ℕ} (rest more : List ℕ) → rest ≢ [] → TakesKey text key rest
@@ -171,10 +162,10 @@ after_equals {key = key} {after = after} {b = b} h takes is =
       | inr k ↦ k
     ]
 
-alone_some : {text key : List ℕ} (rest : List ℕ) → HasLineEnd text → TakesKey text key rest → rest ≢ []
-alone_some {key = key} rest h takes none =
-    let bytes = key_bytes rest takes in
-    no_line_end (key ++ takes.spaces) bytes.1 (subst HasLineEnd (bytes.0 ∙ ap (λ r. (key ++ takes.spaces) ++ r) none ∙ append-nil (key ++ takes.spaces)) h)
+some_after : {text : List ℕ} (front rest : List ℕ) → list_all is_comment_byte front ≡ true
+    → text ≡ front ++ rest → HasLineEnd text → rest ≢ []
+some_after front rest all joined h none =
+    no_line_end front all (subst HasLineEnd (joined ∙ rw none (append-nil front)) h)
 
 at_line_end_more : (rest more : List ℕ) → rest ≢ [] → IsAtLineEnd rest → IsAtLineEnd (rest ++ more)
 at_line_end_more [] more some end = absurd (some refl)
@@ -185,8 +176,9 @@ at_line_end_more (a ∷ b ∷ rest) more some end = end
 entry_more : {text key rest : List ℕ} {value : Option (List ℕ)} {lines : ℕ} (more : List ℕ)
     → HasLineEnd text → TakesEntry text key value lines rest
     → TakesEntry (text ++ more) key value lines (rest ++ more)
-entry_more more h (alone {rest = rest} takes end) =
-    let some = alone_some rest h takes in
+entry_more more h (alone {key = key} {rest = rest} takes end) =
+    let bytes = key_bytes rest takes in
+    let some = some_after (key ++ takes.spaces) rest bytes.1 bytes.0 h in
     alone (key_more rest more some takes) (at_line_end_more rest more some end)
 entry_more more h (valued {b = b} {after = after} takes e taken) =
     valued (key_more (b ∷ after) more (λ no. cc) takes) e (value_more more (after_equals h takes e) taken)
@@ -208,12 +200,8 @@ entry_lines h (valued {b = b} {key = key} {after = after} takes is taken) =
 
 comment_bytes : (b : ℕ) (comment : List ℕ) → is_comment_sign b ≡ true
     → list_all is_comment_byte comment ≡ true → list_all is_comment_byte (b ∷ comment) ≡ true
-comment_bytes b comment is pass = let first : is_comment_byte b ≡ true = grind (arith, nat_tests) in rw (first, pass)
-
-comment_some : {b : ℕ} {text : List ℕ} (comment rest : List ℕ) → list_all is_comment_byte (b ∷ comment) ≡ true
-    → text ≡ comment ++ rest → HasLineEnd (b ∷ text) → rest ≢ []
-comment_some {b = b} comment rest all joined h none =
-    no_line_end (b ∷ comment) all (subst (λ t. HasLineEnd (b ∷ t)) (joined ∙ rw none (append-nil comment)) h)
+comment_bytes b comment is pass =
+    let first : is_comment_byte b ≡ true = grind (arith, nat_tests) in rw (first, pass)
 
 blank_alone : (b : ℕ) → is_blank b ≡ true → list_all is_comment_byte (b ∷ []) ≡ true
 blank_alone b is = rw (blank_other b is)
@@ -238,7 +226,8 @@ module _ (more : List ℕ) (last : List Entry) (end : ℕ) (then : (section : Op
       let joined : b ∷ text ≡ (b ∷ comment) ++ rest = ap (◌∷◌ b) run.joined in
       let f = line_feeds_after (b ∷ comment) rest joined all in
       let ends_rest = ends_after (b ∷ comment) rest (comment_end_other rest run.longest) joined has in
-      file.comment is (run_more rest more (comment_some comment rest all run.joined has) run) (reads_more h ends_rest (omega arith))
+      let some = some_after (b ∷ comment) rest all joined has in
+      file.comment is (run_more rest more some run) (reads_more h ends_rest (omega arith))
   reads_more (file.header {b = b} {text = text} {rest = rest} is header h) ends e =
       let (front, joined, all) = header_bytes header in
       let first : list_all is_comment_byte (b ∷ front) ≡ true = rw is all in

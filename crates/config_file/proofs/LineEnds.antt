@@ -9,6 +9,7 @@ use Rattle.config_file.specs.Bytes.{is_comment_byte, is_plain, is_blank}
 use Rattle.config_file.specs.Value.{Ending, Spells, ends_outside, ends_inside, ends_at_backslash, quote}
 use Rattle.config_file.specs.Value.{escaped, continued, continued_after_return, blank, plain, line_feeds}
 use Rattle.config_file.specs.Spelling.{is_continued, HasLineEnd, EndsLine}
+use Rattle.config_file.proofs.Spelled.{blank_inner, plain_inner}
 
 -- how many LFs a text has, by its parts
 pub line_feeds_append : (xs ys : List ℕ) → line_feeds (xs ++ ys) ≡ line_feeds xs + line_feeds ys
@@ -197,13 +198,6 @@ byte_has_no_end : (b : ℕ) (raw : List ℕ) → (b ≢ 92) × (b ≢ 10) → (H
 byte_has_no_end b raw (no_backslash, no_line_feed) more h =
     elim (tail_or_last b raw no_backslash h) [ inl p ↦ no_line_feed p.1 | inr k ↦ more k ]
 
-blank_within : (b : ℕ) → is_blank b ≡ true → (b ≢ 92) × (b ≢ 10)
-blank_within b is = (λ e. grind (arith, nat_tests), λ e. grind (arith, nat_tests))
-
-plain_within : (q : Bool) (b : ℕ) → is_plain q b ≡ true → (b ≢ 92) × (b ≢ 10)
-plain_within true b is = (λ e. grind (arith, nat_tests), λ e. grind (arith, nat_tests))
-plain_within false b is = (λ e. grind (arith, nat_tests), λ e. grind (arith, nat_tests))
-
 -- the bytes of a value do not end in an LF over which they are not continued
 pub value_has_no_end : {w : ℕ → ℕ} {q : Bool} {value held raw text : List ℕ} {ending : Ending}
     → Spells w q value held raw text ending → HasLineEnd raw → ⊥
@@ -221,6 +215,6 @@ value_has_no_end (continued_after_return {b = b} {e = e} {f = f} {raw = raw} is 
       | inr k ↦ value_has_no_end s k
     ]
 value_has_no_end (blank {b = b} {raw = raw} is s) h =
-    byte_has_no_end b raw (blank_within b is) (λ k. value_has_no_end s k) h
+    let other = blank_inner b is in byte_has_no_end b raw (other.3, other.1) (λ k. value_has_no_end s k) h
 value_has_no_end (plain {quoted = q} {b = b} {raw = raw} is s) h =
-    byte_has_no_end b raw (plain_within q b is) (λ k. value_has_no_end s k) h
+    let other = plain_inner q b is in byte_has_no_end b raw (other.3, other.1) (λ k. value_has_no_end s k) h

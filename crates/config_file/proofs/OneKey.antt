@@ -17,6 +17,8 @@ use Rattle.config_file.specs.Listing.{IsListedSection, IsListed, alone, in_secti
 use Rattle.config_file.specs.Key as spec
 use Rattle.config_file.specs.Key.{Key, key, dotted, stem, listed, HasKey, IsCut, IsAccepted, IsWrong, IsKey}
 use Rattle.config_file.specs.Key.{RefusesKey, is_no_dot, has_section, is_section, is_one_line, is_name}
+use Rattle.std.proofs.lemmas.List.Folds.{list_all-map}
+use Rattle.config_file.proofs.LineEnds.{all_more}
 use Rattle.config_file.proofs.OneRun.{run_same}
 use Rattle.config_file.proofs.Keys.{is_dot, no_dot, not_dot, lower_dot, dotted_same, listed_as}
 
@@ -111,12 +113,10 @@ name_not_empty : (name : List ℕ) → is_name name ≡ true → is_empty name �
 name_not_empty [] is = absurd (true≢false (sym is))
 name_not_empty (b ∷ name) is = refl
 
-is_nil : (text : List ℕ) → is_empty text ≡ true → text ≡ []
-is_nil [] e = refl
-is_nil (b ∷ text) e = absurd (true≢false (sym e))
-
-is_some_text : (text : List ℕ) → is_empty text ≡ false → text ≢ []
-is_some_text text e nil = true≢false (ap is_empty (sym nil) ∙ e)
+empty_cases : (text : List ℕ)
+    → ((is_empty text ≡ true) × (text ≡ [])) ⊎ ((is_empty text ≡ false) × (text ≢ []))
+empty_cases [] = inl (refl, refl)
+empty_cases (b ∷ text) = inr (refl, λ e. cc)
 
 abbrev answer : Key → Option KeyError
 answer k = cond (has_section k)
@@ -142,14 +142,14 @@ Answers k = IsAccepted k ⊎ ((error : KeyError) × IsWrong k error)
 answered : (k : Key) → Answers k
 answered k = elim (cases_Bool (has_section k)) [
   | inr h ↦ inr (NoSection, spec.no_section h)
-  | inl h ↦ elim (cases_Bool (is_empty k.name)) [
-    | inl nil ↦ inr (NoName, spec.no_name h (is_nil k.name nil))
+  | inl h ↦ elim (empty_cases k.name) [
+    | inl nil ↦ inr (NoName, spec.no_name h nil.1)
     | inr some ↦ elim (cases_Bool (is_section k.section)) [
-      | inr s ↦ inr (BadByte, spec.bad_section h (is_some_text k.name some) s)
+      | inr s ↦ inr (BadByte, spec.bad_section h some.1 s)
       | inl s ↦ elim (cases_Bool (is_one_line k.subsection)) [
-        | inr l ↦ inr (LineFeed, spec.many_lines h (is_some_text k.name some) s l)
+        | inr l ↦ inr (LineFeed, spec.many_lines h some.1 s l)
         | inl l ↦ elim (cases_Bool (is_name k.name)) [
-          | inr n ↦ inr (BadByte, spec.bad_name h (is_some_text k.name some) s l n)
+          | inr n ↦ inr (BadByte, spec.bad_name h some.1 s l n)
           | inl n ↦ inl (record { some_section = h; section = s; subsection = l; name = n })
         ]
       ]
@@ -201,19 +201,15 @@ lower_no_dot b h = no_dot (to_ascii_lowercase b) (λ e. not_dot b h (lower_dot b
 
 lower_no_dots : (text : List ℕ) → list_all is_no_dot text ≡ true
     → list_all is_no_dot (map to_ascii_lowercase text) ≡ true
-lower_no_dots [] e = refl
-lower_no_dots (b ∷ text) e =
-    let (here, more) = and_parts (is_no_dot b) (list_all is_no_dot text) e in
-    rw (lower_no_dot b here, lower_no_dots text more) refl
+lower_no_dots text e =
+    rw (list_all-map is_no_dot to_ascii_lowercase text)
+    (all_more is_no_dot (λ b. is_no_dot (to_ascii_lowercase b)) lower_no_dot text e)
 
 key_byte_no_dot : (b : ℕ) → is_key_byte b ≡ true → is_no_dot b ≡ true
 key_byte_no_dot b h = grind (arith, nat_tests)
 
 pub key_bytes_no_dot : (text : List ℕ) → list_all is_key_byte text ≡ true → list_all is_no_dot text ≡ true
-key_bytes_no_dot [] e = refl
-key_bytes_no_dot (b ∷ text) e =
-    let (here, more) = and_parts (is_key_byte b) (list_all is_key_byte text) e in
-    rw (key_byte_no_dot b here, key_bytes_no_dot text more) refl
+key_bytes_no_dot text e = all_more is_key_byte is_no_dot key_byte_no_dot text e
 
 -- the text that Git lists for an entry, cut at its last dot
 record ListedAs (section : Option Section) (key_text whole front name : List ℕ) : Type 0 where

@@ -1,5 +1,7 @@
 -- A choice by two tests, and the cases of a test and of an option.
-use Rattle.std.proofs.Common.{◌≡◌, Bool, true, false, if◌then◌else◌, ◌⊎◌, inl, inr, refl, Option, Some, None}
+use Rattle.std.proofs.Common.{◌≡◌, ◌==◌, ℕ, Bool, true, false, if◌then◌else◌, ◌⊎◌, inl, inr, refl, Option}
+use Rattle.std.proofs.Common.{Some, None, eqb-true}
+use Rattle.std.proofs.lemmas.Bool.{eqb-false}
 
 -- a test passes or fails, and an option has a value or none; both compute if the bytes are known
 abbrev pub cases : (b : Bool) → (b ≡ true) ⊎ (b ≡ false)
@@ -9,6 +11,23 @@ cases false = inr refl
 abbrev pub option_cases : {T : Type 0} (o : Option T) → ((x : T) × (o ≡ Some x)) ⊎ (o ≡ None)
 option_cases None = inr refl
 option_cases (Some x) = inl (x, refl)
+
+-- a claim holds or does not, which computes
+abbrev pub Decided : Type 0 → Type 0
+Decided P = P ⊎ (P → ⊥)
+
+abbrev pub equal : (a b : ℕ) → Decided (a ≡ b)
+equal a b = elim (cases (a == b)) [ inl is ↦ inl (eqb-true a b is) | inr off ↦ inr (eqb-false a b off) ]
+
+abbrev pub both : {P Q : Type 0} → Decided P → Decided Q → Decided (P × Q)
+both (inl p) (inl q) = inl (p, q)
+both (inl p) (inr none) = inr (λ h. none h.1)
+both (inr none) q = inr (λ h. none h.0)
+
+abbrev pub either : {P Q : Type 0} → Decided P → Decided Q → Decided (P ⊎ Q)
+either (inl p) q = inl (inl p)
+either (inr none) (inl q) = inl (inr q)
+either (inr none) (inr neither) = inr (λ h. elim h [ inl p ↦ none p | inr q ↦ neither q ])
 
 abbrev pub pick : {T : Type 0} → Bool → Bool → T → T → T → T
 pick x y a b c = if x then a else if y then b else c
