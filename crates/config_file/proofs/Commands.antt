@@ -74,30 +74,30 @@ after_escape is on (plain other more) = absurd (other is)
 none_quoted : {q r : List ℕ} → ¬ (Quotes [] q r)
 none_quoted h = elim h [ ]
 
-pub piece_plain : (text rest : List ℕ) (b : ℕ) → text ≡ b ∷ rest → b ≢ 39
+pub piece_plain : {text rest : List ℕ} {b : ℕ} → text ≡ b ∷ rest → b ≢ 39
     → (length rest < length text)
     × ((quoted after : List ℕ) → Quotes rest quoted after → Quotes text (b ∷ quoted) after)
     × ((quoted after : List ℕ) → Quotes text quoted after → (more : List ℕ) × Quotes rest more after)
-piece_plain text rest b e other = rw e (omega arith, λ q r h. plain other h, λ q r h. after_plain other h)
+piece_plain e other = rw e (omega arith, λ q r h. plain other h, λ q r h. after_plain other h)
 
-pub piece_escaped : (text next rest : List ℕ) (a c : ℕ) → text ≡ a ∷ next → a ≡ 39 → GoesOn next c rest
+pub piece_escaped : {text next rest : List ℕ} {a c : ℕ} → text ≡ a ∷ next → a ≡ 39 → GoesOn next c rest
     → (length rest < length text)
     × ((quoted after : List ℕ) → Quotes rest quoted after → Quotes text (c ∷ quoted) after)
     × ((quoted after : List ℕ) → Quotes text quoted after → (more : List ℕ) × Quotes rest more after)
-piece_escaped text next rest a c e is goes =
+piece_escaped {text = text} {rest = rest} {a = a} {c = c} e is goes =
     let whole : text ≡ a ∷ 92 ∷ c ∷ 39 ∷ rest = e ∙ ap (◌∷◌ a) goes.joined in
     let on : goes_on (92 ∷ c ∷ 39 ∷ rest) ≡ true = ap goes_on (sym goes.joined) ∙ goes.goes_on in
     rw whole (omega arith, λ q r h. escaped is on h, λ q r h. after_escape is on h)
 
 -- what follows the longest run
-pub run_after : (test : ℕ → Bool) (text rest : List ℕ) (n : ℕ) → n ≡ prefix_len test text → rest ≡ drop n text
+pub run_after : {test : ℕ → Bool} {text rest : List ℕ} {n : ℕ} → n ≡ prefix_len test text → rest ≡ drop n text
     → (front : List ℕ) × Run test text front rest
-run_after test text rest n e f = (take n text, rw (f, e) (run_split test text))
+run_after {test = test} {text = text} {n = n} e f = (take n text, rw (f, e) (run_split test text))
 
-pub run_both : (test : ℕ → Bool) (text front rest : List ℕ) (n : ℕ) → n ≡ prefix_len test text
+pub run_both : {test : ℕ → Bool} {text front rest : List ℕ} {n : ℕ} → n ≡ prefix_len test text
     → front ≡ take n text
     → rest ≡ drop n text → Run test text front rest
-run_both test text front rest n e f g = rw (f, g, e) (run_split test text)
+run_both {test = test} {text = text} e f g = rw (f, g, e) (run_split test text)
 
 -- the settings that lines add
 pub adds_none : AddsSettings [] []
@@ -115,10 +115,10 @@ adds_both first second some more adds also text entries file ends =
       rw (append_assoc text first second) at last,
     )
 
-pub adds_one : (setting : KeyValue) (k : Key) (bytes section name : List ℕ) (subsection : Option (List ℕ))
+pub adds_one : (setting : KeyValue) {k : Key} (bytes : List ℕ) {section name : List ℕ} {subsection : Option (List ℕ)}
     → IsKey setting.0 k → section ≡ k.section → subsection ≡ k.subsection → name ≡ k.name
     → AddsEntry bytes section subsection name setting.1 → AddsSettings bytes (setting ∷ [])
-adds_one setting k bytes section name subsection is e f g adds text entries file ends =
+adds_one setting {k = k} bytes is e f g adds text entries file ends =
     let (entry, parts, now, end) = adds text entries file ends in
     let same : IsEntry k.section k.subsection k.name setting.1 entry.line entry = record {
       section = rw (e, f) at parts.section;
@@ -189,11 +189,11 @@ never_no_key (b ∷ name) is lacks =
     let (letter, all) = and_parts (is_ascii_alphabetic b) (list_all is_key_byte (b ∷ name)) is in
     lacks b name [] letter (record { joined = sym (append-nil (b ∷ name)); pass = all; longest = tt })
 
-pub never_refused : (text : List ℕ) (value : Option (List ℕ)) (k : Key) (section name : List ℕ) (subsection : Option (List ℕ))
+pub never_refused : {text : List ℕ} (value : Option (List ℕ)) {k : Key} {section name : List ℕ} {subsection : Option (List ℕ)}
     → IsKey text k → section ≡ k.section → subsection ≡ k.subsection → name ≡ k.name
     → has_nul text ≡ false → some_has_nul value ≡ false
     → ¬ (HasNoHeader section subsection ⊎ IsNoKey name ⊎ LacksSpelling value)
-never_refused text value k section name subsection is e f g nul also refused =
+never_refused value {k = k} {section = section} {name = name} {subsection = subsection} is e f g nul also refused =
     let (front, last) =
     nul_parts (k.section ++ dotted k.subsection) (46 ∷ k.name) (sym (ap has_nul is.cut.joined) ∙ nul) in
     let (first, middle) = nul_parts k.section (dotted k.subsection) front in
@@ -273,56 +273,54 @@ sign_cut (after_plus is) = command.after_plus is
 sign_cut empty = command.no_sign
 sign_cut (no_sign other others) = command.no_sign
 
-pub number_here : (text rest digits : List ℕ) (is_negative : Bool)
+pub number_here : {text rest digits : List ℕ} {is_negative : Bool}
     → (spaces : List ℕ) × Run is_c_space text spaces rest
     → CutsSign rest is_negative digits → IsNumeral 10 digits → IsNumber text is_negative digits
-number_here text rest digits is_negative (spaces, run) cuts numeral =
+number_here {rest = rest} (spaces, run) cuts numeral =
     record { spaces = spaces; signed = rest; space_run = run; sign = sign_cut cuts; numeral = numeral }
 
-pub no_number : (text rest digits : List ℕ) (is_negative : Bool)
+pub no_number : {text rest digits : List ℕ} {is_negative : Bool}
     → (spaces : List ℕ) × Run is_c_space text spaces rest
     → CutsSign rest is_negative digits → ¬ (IsNumeral 10 digits)
     → (other : Bool) (others : List ℕ) → ¬ (IsNumber text other others)
-no_number text rest digits is_negative (spaces, run) cuts none other others number =
+no_number (spaces, run) cuts none other others number =
     let (same, e) = run_only run number.space_run in
-    let cut : CutsSign number.signed is_negative digits = subst (λ r. CutsSign r is_negative digits) e cuts in
-    let (sign, f) = sign_only cut number.sign number.numeral in
-    none (subst (λ d. IsNumeral 10 d) (sym f) number.numeral)
+    let (sign, f) = sign_only (rw e at cuts) number.sign number.numeral in none (rw f number.numeral)
 
-pub counted : (text digits : List ℕ) (is_negative : Bool) (number count : ℕ) (result : Result ℕ CommandError)
+pub counted : {text digits : List ℕ} {is_negative : Bool} {number count : ℕ} (result : Result ℕ CommandError)
     → IsNumber text is_negative digits → number ≡ digits_value 10 digits → number < 2 ^ 64
     → count ≡ in_64_bits is_negative number → Limits count result → Counts text result
-counted text digits is_negative number count (Ok given) is e small f (same, few) =
+counted {digits = digits} {is_negative = is_negative} (Ok given) is e small f (same, few) =
     inr (is_negative, digits, is, omega arith, same ∙ f ∙ ap (in_64_bits is_negative) e, omega arith)
-counted text digits is_negative number count (Err error.TooMany) is e small f many =
+counted {digits = digits} {is_negative = is_negative} (Err error.TooMany) is e small f many =
     (is_negative, digits, is, λ small. subst (λ n. 2147483647 < n) (f ∙ ap (in_64_bits is_negative) e) many)
-counted text digits is_negative number count (Err _) is e small f many = absurd many
+counted (Err _) is e small f many = absurd many
 
 -- quoted texts and parameters
 closed_inner : {b : ℕ} (inner : List ℕ) → Lacks Quotes inner → (q r : List ℕ)
     → ¬ (TakesQuoted (b ∷ inner) q r)
 closed_inner inner lacks q r (opens is more) = lacks q r more
 
-pub nothing_quoted : (text q r : List ℕ) → text ≡ [] → ¬ (Quotes text q r)
-nothing_quoted text q r e h = none_quoted (subst (λ t. Quotes t q r) e h)
+pub nothing_quoted : {text q r : List ℕ} → text ≡ [] → ¬ (Quotes text q r)
+nothing_quoted e h = none_quoted (rw e at h)
 
 pub not_opened : (text inner : List ℕ) → text ≡ 39 ∷ inner → Lacks Quotes inner → Lacks TakesQuoted text
 not_opened text inner e lacks q r takes =
     closed_inner inner lacks q r (rw e at takes)
 
-pub no_value : (text value rest : List ℕ) → ¬ (EndsParameter text) → TakesQuoted text value rest
+pub no_value : {text value rest : List ℕ} → TakesQuoted text value rest → ¬ (EndsParameter text)
     → ¬ (EndsParameter rest)
     → Lacks AfterEquals text
-no_value text value rest going taken other _ _ (absent ends) = going ends
-no_value text value rest going taken other _ _ (present also ends) =
+no_value taken going other _ _ (absent ends) = going ends
+no_value taken going other _ _ (present also ends) =
     let (e, f) = quoted_only taken also in other (subst EndsParameter (sym f) ends)
 
-pub no_parameter : (text key rest : List ℕ) → TakesQuoted text key rest → ¬ (EndsParameter rest)
+pub no_parameter : {text key rest : List ℕ} → TakesQuoted text key rest → ¬ (EndsParameter rest)
     → ((b : ℕ) (after next : List ℕ) (value : Option (List ℕ)) → rest ≡ b ∷ after → b ≡ 61 → ¬ (AfterEquals after value next))
     → LacksParameter text
-no_parameter text key rest taken going lacks _ _ (text_alone also ends) =
+no_parameter taken going lacks _ _ (text_alone also ends) =
     let (e, f) = quoted_only taken also in going (subst EndsParameter (sym f) ends)
-no_parameter text key rest taken going lacks _ _ (key_and_value {b = b} {after = after} {rest = next} {value = value} also is follows) =
+no_parameter taken going lacks _ _ (key_and_value {b = b} {after = after} {rest = next} {value = value} also is follows) =
     let (e, f) = quoted_only taken also in lacks b after next value f is follows
 
 pub no_equals : (rest : List ℕ) → BeginsWithout 61 rest
@@ -346,20 +344,20 @@ pair_pushed key old new value (Ok done) (accepts, (line, adds, e)) =
     (key_value key value, as_given, accepts, (line, adds, e))
 pair_pushed key old new value (Err error) (refuses, same) = of_pair refuses
 
-pub whole_pushed : (text key rest old new : List ℕ) (value : Option (List ℕ)) (result : Result (Unit {0}) CommandError)
+pub whole_pushed : {text key rest : List ℕ} (old new : List ℕ) (value : Option (List ℕ)) (result : Result (Unit {0}) CommandError)
     → Run is_no_equals text key rest → value ≡ value_after rest → key ≢ []
     → MatchResult result
     (λ _. Accepts (key_value key value) × ((line : List ℕ) × AddsSettings line (key_value key value ∷ []) × (new ≡ old ++ line)))
     (λ error. RefusesSetting (key_value key value) error × (new ≡ old))
     → PushesParameter (whole text) old new result
-whole_pushed text key rest old new value (Ok done) run is some (accepts, (line, adds, e)) =
+whole_pushed {key = key} old new value (Ok done) run is some (accepts, (line, adds, e)) =
     (key_value key value, rw is (cut run), accepts, (line, adds, e))
-whole_pushed text key rest old new value (Err error) run is some (refuses, same) =
+whole_pushed old new value (Err error) run is some (refuses, same) =
     of_text run some (rw is at refuses)
 
-pub keyless : (text key rest bytes : List ℕ) → Run is_no_equals bytes key rest → key ≡ [] → bytes ≡ text
+pub keyless : {text key rest bytes : List ℕ} → Run is_no_equals bytes key rest → key ≡ [] → bytes ≡ text
     → Run is_no_equals text [] rest
-keyless text key rest bytes run e f =
+keyless run e f =
     rw (e, f) at run
 
 -- each parameter shortens what is left
@@ -384,7 +382,7 @@ parameter_shortens (key_and_value takes is follows) =
     let second = value_shortens follows in omega (arith, first, second)
 
 -- a parameter and what follows it
-module _ (text at rest white next : List ℕ) (parameter : Parameter) (takes : TakesParameter at parameter rest) (run : Run is_white rest white next) where
+module _ (text : List ℕ) {at rest white next : List ℕ} {parameter : Parameter} (takes : TakesParameter at parameter rest) (run : Run is_white rest white next) where
   pub settings_next : (lines new : List ℕ)
       → (settings : List KeyValue) × AddsSettings lines settings
       × ((more : List KeyValue) → SettingsOf at more → SettingsOf text (settings ++ more))

@@ -43,12 +43,10 @@ parameters-preserved c =
     let (white, run) = c.after_white-at.ensures.run in
     let pushed = c.in_ok-push_parameter.ensures in
     record {
-      done = settings_next c.args.parameters.now c.parameters.at.now c.in-Some.field-0.rest.now white c.after_white-at.result.now
-          (parameter_of c.in-Some.field-0.parameter) takes run c.parameters.lines.items c.push_parameter.new.lines.items
+      done = settings_next c.args.parameters.now takes run c.parameters.lines.items c.push_parameter.new.lines.items
           c.parameters.invariant.done pushed;
-      refused = refused_later c.args.parameters.now c.parameters.at.now c.in-Some.field-0.rest.now white c.after_white-at.result.now
-          (parameter_of c.in-Some.field-0.parameter) takes run c.parameters.lines.items c.push_parameter.new.lines.items
-          c.parameters.invariant.refused pushed;
+      refused = refused_later c.args.parameters.now takes run c.parameters.lines.items
+          c.push_parameter.new.lines.items c.parameters.invariant.refused pushed;
     }
 
 pub returns : goal.returns

@@ -9,12 +9,11 @@ pub returns-then-is_empty : goal.returns-then-is_empty
 returns-then-is_empty c =
     let (rest, run, value) = c.cut.ensures in
     let e : c.cut.result.0.now ≡ [] = nil_from_length _ (search rules) in
-    no_key (keyless c.args.text.items c.cut.result.0.now rest c.deref.result.now run e c.deref.ensures.value) refl
+    no_key (keyless run e c.deref.ensures.value) refl
 
 pub returns : goal.returns
 returns c =
     let (rest, run, value) = c.cut.ensures in
     let some : c.cut.result.0.now ≢ [] = some_left _ (search rules) in
-    let here = subst (λ t. Run is_no_equals t c.cut.result.0.now rest) c.deref.ensures.value run in
-    whole_pushed c.args.text.items c.cut.result.0.now rest c.args.lines.now.items c.push_setting.new.text.items
-    (option_copied c.cut.result.1) c.push_setting.result here value some c.push_setting.ensures
+    let here = rw c.deref.ensures.value at run in
+    whole_pushed c.args.lines.now.items c.push_setting.new.text.items (option_copied c.cut.result.1) c.push_setting.result here value some c.push_setting.ensures
