@@ -87,7 +87,7 @@ plain_no_backslash b is e = grind (arith, nat_tests)
 -- the scan passes a run of bytes as it passes each of them
 pub passed_run : {text after : List ℕ} (q : Bool) (at bytes : List ℕ) → PassedValue text q at
     → at ≡ bytes ++ after → list_all is_plain_byte bytes ≡ true → PassedValue text q after
-passed_run {text = text} q at [] passed e all = subst (λ x. PassedValue text q x) e passed
+passed_run q at [] passed e all = rw e at passed
 passed_run {after = after} q at (b ∷ bytes) passed e all =
     let (here, more) = and_parts (is_plain_byte b) (list_all is_plain_byte bytes) all in
     passed_run q (bytes ++ after) bytes (passed_byte q at passed e (plain_goes_on q b here) (plain_no_quote b here) (plain_no_backslash b here)) refl more
@@ -118,7 +118,7 @@ one_line_run bytes passed e all =
 pub one_line_part : {text at : List ℕ} (raw : List ℕ) → OnOneLine text at → text ≡ raw ++ at
     → line_feeds raw ≡ 0
 one_line_part {at = at} raw (front, joined, none) same =
-    subst (λ x. line_feeds x ≡ 0) (append_cancel_right front raw at (sym joined ∙ same)) none
+    rw (append_cancel_right front raw at (sym joined ∙ same)) at none
 
 pub quote_along : (b : ℕ) → b ≡ 34 → b ≢ 10
 quote_along b is e = grind (arith, nat_tests)
@@ -138,7 +138,7 @@ pub part : {text at : List ℕ} (q : Bool) (raw : List ℕ) → PassedValue text
     → IsPart q raw
 part {at = at} q raw passed joined =
     let same : passed.raw ≡ raw = append_cancel_right passed.raw raw at (sym passed.joined ∙ joined) in
-    subst (λ x. IsPart q x) same (passed_part q passed)
+    rw same at (passed_part q passed)
 
 ends_text : (at : List ℕ) → EndsScan true at → EndsText at
 ends_text [] h = tt
@@ -202,7 +202,7 @@ ends_open_here true at passed off e none = cc
 ends_open_here {text = text} false at passed off e none =
     let whole : passed.raw ++ 92 ∷ [] ≡ text =
     sym (passed.joined ∙ ap (◌++◌ passed.raw) (e ∙ ap (◌∷◌ 92) none)) in
-    rw none (open_end (subst (λ x. SpellsValue x (kept passed.value passed.held) at_backslash) whole (passed.extends (92 ∷ []) _ at_backslash (ends_at_backslash refl))))
+    rw none (open_end (rw whole at (passed.extends (92 ∷ []) _ at_backslash (ends_at_backslash refl))))
 
 some_from : (o : Option ℕ) → is_some o ≡ true → (c : ℕ) × (o ≡ Some c)
 some_from None h = cc

@@ -6,25 +6,15 @@ use Rattle.config_file.proofs.reader.Entries.entry_here.Goals as goal
 pub overflow_add-self : goal.overflow_add-self
 overflow_add-self c =
     let (b, rest, is, letter) = c.requires in
-    let bound = entry_bound_at c.args.self.now.rest.now is letter c.in-Ok.ensures in
-    let fits : c.args.self.now.line + length c.args.self.now.rest.now < 2 ^ 63 + 2 =
-    c.args.self.now.line_fits in
-    omega arith
+    omega (arith, entry_bound_at c.args.self.now.rest.now is letter c.in-Ok.ensures, c.args.self.now.line_fits)
 
 pub invariant_of-self : goal.invariant_of-self
 invariant_of-self c =
     let (b, rest, is, letter) = c.requires in
-    let bound = entry_bound_at c.args.self.now.rest.now is letter c.in-Ok.ensures in
-    let fits : c.args.self.now.line + length c.args.self.now.rest.now < 2 ^ 63 + 2 =
-    c.args.self.now.line_fits in
-    omega arith
+    omega (arith, entry_bound_at c.args.self.now.rest.now is letter c.in-Ok.ensures, c.args.self.now.line_fits)
 
 pub refused-requires : goal.refused-requires
-refused-requires c =
-    let bound = entry_stops_bound c.in-Err.ensures in
-    let fits : c.args.self.now.line + length c.args.self.now.rest.now < 2 ^ 63 + 2 =
-    c.args.self.now.line_fits in
-    omega arith
+refused-requires c = omega (arith, entry_stops_bound c.in-Err.ensures, c.args.self.now.line_fits)
 
 pub returns-in-Ok-clause-gives : goal.returns-in-Ok-clause-gives
 returns-in-Ok-clause-gives c =

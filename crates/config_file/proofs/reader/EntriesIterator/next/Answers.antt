@@ -1,6 +1,7 @@
 use Rattle.std.proofs.Common.{arith, rules, length, ap, ◌+◌, ◌<◌, ◌^◌, ◌∙◌, []}
+use Rattle.config_file.specs.File as file
 use Rattle.config_file.proofs.Bounds.{header_shortens, header_stops_soon, run_shortens}
-use Rattle.config_file.proofs.Readings.{at_blank, at_line_end, at_comment, at_header, header_refused, no_item}
+use Rattle.config_file.proofs.Readings.{header_refused, no_item}
 use Rattle.config_file.proofs.Readings.{none_left, gives_from, begins_none}
 use Rattle.config_file.proofs.reader.EntriesIterator.next.Goals as goal
 
@@ -9,7 +10,7 @@ items-preserved-then-is_blank c =
     let all = ap length c.in-Some.ensures in
     record {
       same =
-          λ left error h. c.items.invariant.same left error (at_blank left error _ c.in-Some.ensures (search rules) h);
+          λ left error h. c.items.invariant.same left error (rw c.in-Some.ensures (file.blank {b = c.in-Some.byte} (search rules) h));
       shorter = omega arith;
     }
 
@@ -18,7 +19,7 @@ items-preserved-then-byte-eq10 c =
     let all = ap length c.in-Some.ensures in
     record {
       same =
-          λ left error h. c.items.invariant.same left error (at_line_end left error _ c.in-Some.ensures c.if-byte-eq10.true h);
+          λ left error h. c.items.invariant.same left error (rw c.in-Some.ensures (file.line_end c.if-byte-eq10.true h));
       shorter = omega arith;
     }
 
@@ -28,22 +29,16 @@ items-preserved-then-is_comment_sign c =
     let less = run_shortens c.run.ensures in
     record {
       same =
-          λ left error h. c.items.invariant.same left error (at_comment left error _ c.in-Some.ensures (search rules) c.run.ensures h);
+          λ left error h. c.items.invariant.same left error (rw c.in-Some.ensures (file.comment {b = c.in-Some.byte} (search rules) c.run.ensures h));
       shorter = omega arith;
     }
 
 pub invariant_of-self-in-Ok : goal.invariant_of-self-in-Ok
 invariant_of-self-in-Ok c =
-    let shorter = header_shortens c.in-Ok.ensures in
-    let all = ap length c.in-Some.ensures in
-    let fits : c.items.self.line + length c.items.self.rest.now < 2 ^ 63 + 2 = c.items.self.line_fits in
-    omega arith
+    omega (arith, header_shortens c.in-Ok.ensures, ap length c.in-Some.ensures, c.items.self.line_fits)
 
 pub items-smaller : goal.items-smaller
-items-smaller c =
-    let shorter = header_shortens c.in-Ok.ensures in
-    let all = ap length c.in-Some.ensures in
-    omega arith
+items-smaller c = omega (arith, header_shortens c.in-Ok.ensures, ap length c.in-Some.ensures)
 
 pub items-preserved : goal.items-preserved
 items-preserved c =
@@ -51,15 +46,12 @@ items-preserved c =
     let all = ap length c.in-Some.ensures in
     record {
       same =
-          λ left error h. c.items.invariant.same left error (at_header left error _ c.in-Some.ensures c.if-byte-eq91.true c.in-Ok.ensures h);
+          λ left error h. c.items.invariant.same left error (rw c.in-Some.ensures (file.header c.if-byte-eq91.true c.in-Ok.ensures h));
       shorter = omega arith;
     }
 
 pub refused-requires : goal.refused-requires
-refused-requires c =
-    let soon = header_stops_soon c.in-Err.ensures in
-    let fits : c.items.self.line + length c.items.self.rest.now < 2 ^ 63 + 2 = c.items.self.line_fits in
-    omega arith
+refused-requires c = omega (arith, header_stops_soon c.in-Err.ensures, c.items.self.line_fits)
 
 pub returns-in-Err-clause-steps : goal.returns-in-Err-clause-steps
 returns-in-Err-clause-steps c =
