@@ -24,11 +24,11 @@ pub passed_none : (text : List ℕ) → PassedValue text false text
 passed_none text = record { raw = []; value = []; held = []; joined = refl; extends = λ more spelled o h. h }
 
 -- if the scan has passed these bytes too, it goes on with this value and this many held blanks
-pub passed_more : {text at rest : List ℕ} {q r : Bool} (piece value held : List ℕ)
+pub passed_more : {text at rest value held : List ℕ} {q r : Bool} (piece : List ℕ)
     → (passed : PassedValue text q at) → at ≡ piece ++ rest
     → ((more spelled : List ℕ) (o : Ending) → Spells itself r value held more spelled o → Spells itself q passed.value passed.held (piece ++ more) spelled o)
     → PassedValue text r rest
-passed_more {rest = rest} piece value held passed e spells =
+passed_more {rest = rest} {value = value} {held = held} piece passed e spells =
     record {
       raw = passed.raw ++ piece;
       value = value;
@@ -40,18 +40,17 @@ passed_more {rest = rest} piece value held passed e spells =
 
 pub passed_quote : {text rest : List ℕ} {q : Bool} {b : ℕ} (at : List ℕ) → PassedValue text q at
     → at ≡ b ∷ rest → b ≡ 34 → PassedValue text (not q) rest
-passed_quote {b = b} at passed e is_quote =
-    passed_more (b ∷ []) (kept passed.value passed.held) [] passed e (λ more spelled o h. quote is_quote h)
+passed_quote {b = b} at passed e is_quote = passed_more (b ∷ []) passed e (λ more spelled o h. quote is_quote h)
 
 pub passed_escape : {text rest after : List ℕ} {q : Bool} {b : ℕ} (at : List ℕ) → PassedValue text q at
     → at ≡ b ∷ rest → b ≡ 92
     → Escapes rest after → PassedValue text q after
-passed_escape {b = b} at passed e is_backslash (letter {e = l} {c = c} s is) =
-    passed_more (b ∷ l ∷ []) (kept passed.value passed.held ++ c ∷ []) [] passed (e ∙ ap (◌∷◌ b) s) (λ more spelled o h. escaped is_backslash is h)
+passed_escape {b = b} at passed e is_backslash (letter {e = l} s is) =
+    passed_more (b ∷ l ∷ []) passed (e ∙ ap (◌∷◌ b) s) (λ more spelled o h. escaped is_backslash is h)
 passed_escape {b = b} at passed e is_backslash (line {e = l} s is) =
-    passed_more (b ∷ l ∷ []) (kept passed.value passed.held) [] passed (e ∙ ap (◌∷◌ b) s) (λ more spelled o h. continued is_backslash is h)
+    passed_more (b ∷ l ∷ []) passed (e ∙ ap (◌∷◌ b) s) (λ more spelled o h. continued is_backslash is h)
 passed_escape {b = b} at passed e is_backslash (line_after_return {e = l} {f = f} s is next) =
-    passed_more (b ∷ l ∷ f ∷ []) (kept passed.value passed.held) [] passed (e ∙ ap (◌∷◌ b) s)
+    passed_more (b ∷ l ∷ f ∷ []) passed (e ∙ ap (◌∷◌ b) s)
     (λ more spelled o h. continued_after_return is_backslash is next h)
 
 plain_quoted : (b : ℕ) → goes_on true b ≡ true → b ≢ 34 → b ≢ 92 → is_plain true b ≡ true
@@ -64,25 +63,18 @@ plain_unquoted b on not_quote not_backslash not_blank = grind (arith, nat_tests)
 pub passed_byte : {text rest : List ℕ} {b : ℕ} (q : Bool) (at : List ℕ) → PassedValue text q at
     → at ≡ b ∷ rest → goes_on q b ≡ true → b ≢ 34 → b ≢ 92 → PassedValue text q rest
 passed_byte {b = b} true at passed e on not_quote not_backslash =
-    passed_more (b ∷ []) (kept passed.value passed.held ++ b ∷ []) [] passed e
-    (λ more spelled o h. plain (plain_quoted b on not_quote not_backslash) h)
+    passed_more (b ∷ []) passed e (λ more spelled o h. plain (plain_quoted b on not_quote not_backslash) h)
 passed_byte {b = b} false at passed e on not_quote not_backslash =
     elim (cases_Bool (is_blank b)) [
-      | inl is ↦
-          passed_more (b ∷ []) passed.value (passed.held ++ b ∷ []) passed e (λ more spelled o h. blank is h)
-      | inr other ↦ passed_more (b ∷ []) (kept passed.value passed.held ++ b ∷ []) [] passed e
-          (λ more spelled o h. plain (plain_unquoted b on not_quote not_backslash other) h)
+      | inl is ↦ passed_more (b ∷ []) passed e (λ more spelled o h. blank is h)
+      | inr other ↦
+          let is = plain_unquoted b on not_quote not_backslash other in
+          passed_more (b ∷ []) passed e (λ more spelled o h. plain is h)
     ]
 
-plain_goes_on : (q : Bool) (b : ℕ) → is_plain_byte b ≡ true → goes_on q b ≡ true
-plain_goes_on true b is = grind (arith, nat_tests)
-plain_goes_on false b is = grind (arith, nat_tests)
-
-plain_no_quote : (b : ℕ) → is_plain_byte b ≡ true → b ≢ 34
-plain_no_quote b is e = grind (arith, nat_tests)
-
-plain_no_backslash : (b : ℕ) → is_plain_byte b ≡ true → b ≢ 92
-plain_no_backslash b is e = grind (arith, nat_tests)
+plain_passes : (q : Bool) (b : ℕ) → is_plain_byte b ≡ true → (goes_on q b ≡ true) × (b ≢ 34) × (b ≢ 92)
+plain_passes true b is = (grind (arith, nat_tests), grind (arith, nat_tests), grind (arith, nat_tests))
+plain_passes false b is = (grind (arith, nat_tests), grind (arith, nat_tests), grind (arith, nat_tests))
 
 -- the scan passes a run of bytes as it passes each of them
 pub passed_run : {text after : List ℕ} (q : Bool) (at bytes : List ℕ) → PassedValue text q at
@@ -90,7 +82,8 @@ pub passed_run : {text after : List ℕ} (q : Bool) (at bytes : List ℕ) → Pa
 passed_run q at [] passed e all = rw e at passed
 passed_run {after = after} q at (b ∷ bytes) passed e all =
     let (here, more) = and_parts (is_plain_byte b) (list_all is_plain_byte bytes) all in
-    passed_run q (bytes ++ after) bytes (passed_byte q at passed e (plain_goes_on q b here) (plain_no_quote b here) (plain_no_backslash b here)) refl more
+    let (on, not_quote, not_backslash) = plain_passes q b here in
+    passed_run q (bytes ++ after) bytes (passed_byte q at passed e on not_quote not_backslash) refl more
 
 pub one_line_none : (text : List ℕ) → OnOneLine text text
 one_line_none text = ([], refl, refl)
