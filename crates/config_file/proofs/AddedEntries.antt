@@ -1,6 +1,6 @@
 -- Entries that are added to a configuration file.
 use Rattle.std.proofs.Common.{◌≡◌, ◌≢◌, ℕ, ◌+◌, Bool, true, false, List, [], ◌∷◌, ◌++◌, Option, Some, None}
-use Rattle.std.proofs.Common.{refl, sym, ap, ◌∙◌, subst, append_assoc, arith, inl, inr, ◌⊎◌, ◌==◌, ◌&&◌, ◌||◌}
+use Rattle.std.proofs.Common.{option_map, refl, sym, ap, ◌∙◌, subst, append_assoc, arith, inl, inr, ◌⊎◌, ◌==◌, ◌&&◌, ◌||◌}
 use Rattle.std.specs.List.{list_all, flat_map}
 use Rattle.std.specs.Char.{is_ascii_alphabetic}
 use Rattle.std.proofs.lemmas.Bool.{cases_Bool, true≢false, and_parts}
@@ -105,9 +105,8 @@ line_ends front (k ∷ key) value is =
     }
 
 -- a line with a key, and with a value if there is one
-value_of : Option (List ℕ) → Option (List ℕ)
-value_of None = None
-value_of (Some value) = Some (git_spelled value)
+abbrev value_of : Option (List ℕ) → Option (List ℕ)
+value_of value = option_map (λ v. git_spelled v) value
 
 key_then : (k : ℕ) (key rest : List ℕ) (b : ℕ) → list_all is_key_byte (k ∷ key) ≡ true
     → is_key_byte b ≡ false → (b == 32 || b == 9) ≡ false
@@ -123,7 +122,6 @@ key_then k key rest b all no_key no_space =
 line_taken : (k : ℕ) (key : List ℕ) (value : Option (List ℕ)) → is_key (k ∷ key) ≡ true
     → is_spellable_or_absent value ≡ true
     → TakesEntry ((k ∷ key) ++ after_key value) (k ∷ key) (value_of value) 0 (10 ∷ [])
-unfolding value_of
 line_taken k key None is spellable =
     let all : list_all is_key_byte (k ∷ key) ≡ true = grind (arith, nat_tests) in
     alone (key_then k key [] 10 all refl refl) refl
@@ -138,17 +136,15 @@ line_taken k key (Some value) is spellable =
 
 value_spells : (value : Option (List ℕ)) → is_spellable_or_absent value ≡ true
     → SpellsOptional IsSpelling (value_of value) value
-unfolding value_of
 value_spells None is = tt
 value_spells (Some value) is = git_spelling value is
 
-entry_on : Section → List ℕ → Option (List ℕ) → ℕ → Entry
+abbrev entry_on : Section → List ℕ → Option (List ℕ) → ℕ → Entry
 entry_on section key value line = record { section = Some section; key = key; value = value_of value; line = line }
 
 line_reads : (section : Section) (key : List ℕ) (value : Option (List ℕ)) (line : ℕ) → is_key key ≡ true
     → is_spellable_or_absent value ≡ true
     → Reads (Some section) line (spelled_line key value) (entry_on section key value line ∷ []) None
-unfolding entry_on
 line_reads section [] value line is spellable = cc
 line_reads section (k ∷ key) value line is spellable =
     let letter : is_ascii_alphabetic k ≡ true = grind (arith, nat_tests) in
@@ -201,24 +197,10 @@ marked_ends rest same (inr h) =
     ends_line (after_front (0xef ∷ 0xbb ∷ []) 0xbf rest other same h)
 
 module _ (bytes : List ℕ) (last : List Entry) (end : ℕ) (reads : (section : Option Section) → Reads section end (91 ∷ bytes) last None) where
-  unmarked_more : (text : List ℕ) (entries : List Entry) → Reads None 1 text entries None → EndsLine text
-      → 1 + line_feeds text ≡ end
-      → IsFile (text ++ 91 ∷ bytes) (entries ++ last) None
-  unmarked_more [] entries h ends e =
-      let bracket : 91 ≢ 0xef = omega arith in
-      record { line = 1; rest = 91 ∷ bytes; begins = begins_unmarked 91 bytes bracket; reads = reads_more (91 ∷ bytes) last end reads h ends e }
-  unmarked_more (b ∷ text) entries h ends e =
-      record {
-        line = 1;
-        rest = (b ∷ text) ++ 91 ∷ bytes;
-        begins = begins_unmarked b (text ++ 91 ∷ bytes) (begins_no_mark h);
-        reads = reads_more (91 ∷ bytes) last end reads h ends e;
-      }
-
   begun_more : {text rest : List ℕ} {line : ℕ} {entries : List Entry} → Begins text line rest
       → Reads None line rest entries None → EndsLine text
       → 1 + line_feeds text ≡ end → IsFile (text ++ 91 ∷ bytes) (entries ++ last) None
-  begun_more {entries = entries} (marked {text = text} {rest = rest} mark) h ends e =
+  begun_more (marked {text = text} {rest = rest} mark) h ends e =
       let same = mark_is text rest mark in
       let f = line_feeds_after (0xef ∷ 0xbb ∷ 0xbf ∷ []) rest same refl in
       record {
@@ -230,14 +212,21 @@ module _ (bytes : List ℕ) (last : List Entry) (end : ℕ) (reads : (section : 
   begun_more (part_of_mark {text = []} part) h ends e = absurd part
   begun_more (part_of_mark {text = b ∷ text} part) h ends e =
       absurd (no_part_of_mark b text (begins_no_mark h) part)
-  begun_more {entries = entries} (unmarked {text = text} none other) h ends e =
-      unmarked_more text entries h ends e
+  begun_more (unmarked {text = []} none other) h ends e =
+      let bracket : 91 ≢ 0xef = omega arith in
+      record { line = 1; rest = 91 ∷ bytes; begins = begins_unmarked 91 bytes bracket; reads = reads_more (91 ∷ bytes) last end reads h ends e }
+  begun_more (unmarked {text = b ∷ text} none other) h ends e =
+      record {
+        line = 1;
+        rest = (b ∷ text) ++ 91 ∷ bytes;
+        begins = begins_unmarked b (text ++ 91 ∷ bytes) (begins_no_mark h);
+        reads = reads_more (91 ∷ bytes) last end reads h ends e;
+      }
 
 pub entry_added : (bytes name : List ℕ) (text : Option (List ℕ)) (key : List ℕ) (value : Option (List ℕ))
     → IsHeader bytes name text
     → is_key key ≡ true → is_spellable_or_absent value ≡ true
     → AddsEntry (bytes ++ spelled_line key value) name text key value
-unfolding entry_on
 entry_added bytes name text key value (inner, section, same, names, header) is spellable file_text entries is_file ends =
     let end = 1 + line_feeds file_text in
     let entry = entry_on section key value end in

@@ -4,7 +4,7 @@ use Rattle.std.proofs.Common.{None, Result, Ok, Err, length, refl, sym, ap, ◌�
 use Rattle.std.proofs.Common.{length-append}
 use Rattle.std.proofs.lemmas.Bool.Decides.{nat_tests}
 use Rattle.config_file.proofs.OneRun.{before, before_is}
-use Rattle.config_file.proofs.Pick.{pick, pick_first, pick_second, pick_third}
+use Rattle.config_file.proofs.Pick.{pick}
 use Rattle.config_file.specs.Bytes.{is_text_byte, is_plain_in_quotes, EndsText}
 use Rattle.config_file.specs.Subsection as sub
 use Rattle.config_file.specs.Subsection.{SpellsSubsection, IsSubsection, TakesSubsection, StopsInSubsection}
@@ -42,8 +42,7 @@ stops_after (sub.escaped {e = e} {raw = raw} is text s) rest (suc n) room none =
     rw is (ap (after_step (stop n) (92 ∷ e ∷ raw ++ rest)) next ∙ stops_after s rest n (omega arith) none)
 stops_after (sub.plain is s) rest zero room none = absurd (omega arith)
 stops_after (sub.plain {b = b} {raw = raw} is s) rest (suc n) room none =
-    let next =
-    pick_second _ _ (step_escaped (raw ++ rest)) (Some (raw ++ rest)) None (plain_is_no_backslash b is) is in
+    let next : step (b ∷ raw ++ rest) ≡ Some (raw ++ rest) = rw (is, plain_is_no_backslash b is) in
     ap (after_step (stop n) (b ∷ raw ++ rest)) next ∙ stops_after s rest n (omega arith) none
 
 -- the outcome of a scan that stops before this rest, after these bytes
@@ -69,18 +68,13 @@ outcome_after {text = text} raw rest joined (spelled, s) none =
     let stops = subst (λ t. stop (length text) t ≡ rest) (sym joined) ran in
     ap (λ x. finish x rest) (before_is raw rest text joined) ∙ ap (finish_at text) (sym stops)
 
-ends_text_byte : (b : ℕ) → is_text_byte b ≡ false → (b == 34) ≡ false
-ends_text_byte b h = grind (arith, nat_tests)
-
-ends_text_backslash : (b : ℕ) → is_text_byte b ≡ false → (b == 92) ≡ false
-ends_text_backslash b h = grind (arith, nat_tests)
-
-ends_text_plain : (b : ℕ) → is_text_byte b ≡ false → is_plain_in_quotes b ≡ false
-ends_text_plain b h = grind (arith, nat_tests)
+pub ends_text_byte : (b : ℕ) → is_text_byte b ≡ false
+    → ((b == 34) ≡ false) × ((b == 92) ≡ false) × (is_plain_in_quotes b ≡ false)
+ends_text_byte b h = (grind (arith, nat_tests), grind (arith, nat_tests), grind (arith, nat_tests))
 
 no_step : (rest : List ℕ) → EndsText rest → step rest ≡ None
 no_step [] h = refl
-no_step (b ∷ rest) h = pick_third _ _ _ _ _ (ends_text_backslash b h) (ends_text_plain b h)
+no_step (b ∷ rest) h = let (no_quote, no_backslash, not_plain) = ends_text_byte b h in rw (not_plain, no_backslash)
 
 no_step_escaped : (rest : List ℕ) → EndsText rest → step (92 ∷ rest) ≡ None
 no_step_escaped [] h = refl
@@ -89,7 +83,7 @@ no_step_escaped (b ∷ rest) h = rw h
 finish_ends : (raw rest : List ℕ) → EndsText rest → Err rest ≡ finish raw rest
 finish_ends raw [] h = refl
 finish_ends raw (b ∷ rest) h =
-    sym (pick_third _ _ (Ok (raw, rest)) (Err rest) (Err (b ∷ rest)) (ends_text_byte b h) (ends_text_backslash b h))
+    let (no_quote, no_backslash, not_plain) = ends_text_byte b h in rw (no_quote, no_backslash)
 
 -- the text has this outcome
 abbrev pub SubsectionHas : List ℕ → Result (List ℕ × List ℕ) (List ℕ) → Type 0

@@ -6,7 +6,7 @@ use Rattle.std.proofs.lemmas.List.{append_assoc, length-append}
 use Rattle.std.proofs.lemmas.Bool.{cases_Bool}
 use Rattle.std.proofs.lemmas.Bool.Decides.{nat_tests}
 use Rattle.config_file.proofs.OneRun.{before, before_is}
-use Rattle.config_file.proofs.Pick.{pick, pick_first, pick_second, pick_third, pick_no}
+use Rattle.config_file.proofs.Pick.{pick, pick_first, pick_third, equal}
 use Rattle.config_file.specs.declared.errors.FileFault.{FileFault}
 use Rattle.config_file.specs.declared.errors.FileFault.TheVariants.{BadLine, Nul}
 use Rattle.config_file.specs.Bytes.{is_text_byte, is_plain, is_blank, is_comment_sign, EndsText}
@@ -15,11 +15,11 @@ use Rattle.config_file.specs.Value as value
 use Rattle.config_file.specs.Value.{Ending, outside, inside, at_backslash, Spells, TakesValue, ValueStops}
 use Rattle.config_file.specs.Value.{IsPart, EndsValue, IsNoEscape, line_feeds, escape}
 use Rattle.config_file.specs.Reading.Scans.{goes_on}
-use Rattle.config_file.proofs.OneSubsection.{long_enough}
+use Rattle.config_file.proofs.OneSubsection.{long_enough, ends_text_byte}
 
 abbrev step_return : Bool → ℕ → List ℕ → Option (Bool × List ℕ)
 step_return q e [] = None
-step_return q e (f ∷ rest) = pick (e == 13) (f == 10) (if f == 10 then Some (q, rest) else None) None None
+step_return q e (f ∷ rest) = if e == 13 then (if f == 10 then Some (q, rest) else None) else None
 
 abbrev step_escape : Bool → List ℕ → Option (Bool × List ℕ)
 step_escape q [] = None
@@ -161,9 +161,7 @@ ends_value_byte b (inr is) =
 
 no_step_byte : (q : Bool) (b : ℕ) (rest : List ℕ) → (b == 34) ≡ false → (b == 92) ≡ false
     → goes_on q b ≡ false → step q (b ∷ rest) ≡ None
-no_step_byte q b rest not_quote not_backslash off =
-    let stays : step_byte q b rest ≡ None = ap (λ x. if x then Some (q, rest) else None) off in
-    pick_third _ _ (Some (not q, rest)) (step_escape q rest) (step_byte q b rest) not_quote not_backslash ∙ stays
+no_step_byte q b rest not_quote not_backslash off = rw (not_quote, not_backslash, off)
 
 no_step_at_end : (rest : List ℕ) → EndsValue rest → step false rest ≡ None
 no_step_at_end [] h = refl
@@ -175,7 +173,7 @@ finish_at_end : (raw rest : List ℕ) → EndsValue rest → Ok (raw, line_feeds
 finish_at_end raw [] h = refl
 finish_at_end raw (b ∷ rest) h =
     let (not_quote, not_backslash, off, not_nul) = ends_value_byte b h in
-    sym (pick_third _ _ (finish_at_backslash raw false rest) (Err (line_feeds raw, Nul)) (Ok (raw, line_feeds raw, b ∷ rest)) not_backslash not_nul)
+    rw (not_backslash, not_nul)
 
 taken_is : {text raw rest : List ℕ} {lines : ℕ} → TakesValue text raw lines rest
     → Ok (raw, lines, rest) ≡ value_of text
@@ -189,32 +187,26 @@ taken_is (value.open_end {raw = raw} spells) =
     ap (λ x. Ok (x, line_feeds x + 1, [])) e in
     same ∙ outcome_at false front (92 ∷ []) e (rw (append-nil raw) at ran)
 
-ends_text_byte : (b : ℕ) → is_text_byte b ≡ false → ((b == 34) ≡ false) × ((b == 92) ≡ false)
-ends_text_byte b h = (grind (arith, nat_tests), grind (arith, nat_tests))
-
 no_step_in_quotes : (rest : List ℕ) → EndsText rest → step true rest ≡ None
 no_step_in_quotes [] h = refl
 no_step_in_quotes (b ∷ rest) h =
-    let (not_quote, not_backslash) = ends_text_byte b h in
+    let (not_quote, not_backslash, not_plain) = ends_text_byte b h in
     no_step_byte true b rest not_quote not_backslash h
 
 finish_in_quotes : (raw rest : List ℕ) → EndsText rest
     → Err (line_feeds raw, fault_at rest) ≡ finish raw true rest
 finish_in_quotes raw [] h = refl
 finish_in_quotes raw (b ∷ rest) h =
-    let (not_quote, not_backslash) = ends_text_byte b h in
-    sym (ap (λ x. if x then finish_at_backslash raw true rest else Err (line_feeds raw, fault_at (b ∷ rest))) not_backslash)
+    let (not_quote, not_backslash, not_plain) = ends_text_byte b h in rw not_backslash
 
 pub test_false : (b c : ℕ) → b ≢ c → (b == c) ≡ false
 test_false b c other = grind (arith, nat_tests)
 
 no_return : (q : Bool) (e f : ℕ) (rest : List ℕ) → (e ≡ 13 → f ≢ 10) → step_return q e (f ∷ rest) ≡ None
 no_return q e f rest h =
-    elim (cases_Bool (e == 13)) [
-      | inl is ↦
-          let other = test_false f 10 (h (eqb-true e 13 is)) in
-          pick_first _ (f == 10) (if f == 10 then Some (q, rest) else None) None None is ∙ ap (λ x. if x then Some (q, rest) else None) other
-      | inr no_cr ↦ pick_no (e == 13) (f == 10) (if f == 10 then Some (q, rest) else None) None no_cr
+    elim (equal e 13) [
+      | inl is ↦ rw (is, test_false f 10 (h is))
+      | inr other ↦ rw (test_false e 13 other)
     ]
 
 no_step_after_backslash : (q : Bool) (rest : List ℕ) → IsNoEscape rest → step q (92 ∷ rest) ≡ None
@@ -250,6 +242,3 @@ ValueHas text (Err stop) = ValueStops text stop.0 stop.1
 pub value_is : (text : List ℕ) (outcome : Outcome) → ValueHas text outcome → outcome ≡ value_of text
 value_is text (Ok (raw, lines, rest)) has = taken_is has
 value_is text (Err (lines, fault)) has = stopped_is has
-
-pub value_only : (text : List ℕ) (a b : Outcome) → ValueHas text a → ValueHas text b → a ≡ b
-value_only text a b first second = value_is text a first ∙ sym (value_is text b second)

@@ -35,12 +35,5 @@ pick x y a b c = if x then a else if y then b else c
 pub pick_first : {T : Type 0} (x y : Bool) (a b c : T) → x ≡ true → pick x y a b c ≡ a
 pick_first x y a b c e = rw e
 
-pub pick_second : {T : Type 0} (x y : Bool) (a b c : T) → x ≡ false → y ≡ true → pick x y a b c ≡ b
-pick_second x y a b c e f = rw (e, f)
-
 pub pick_third : {T : Type 0} (x y : Bool) (a b c : T) → x ≡ false → y ≡ false → pick x y a b c ≡ c
 pick_third x y a b c e f = rw (e, f)
-
-pub pick_no : {T : Type 0} (x y : Bool) (a c : T) → x ≡ false → pick x y a c c ≡ c
-pick_no x true a c e = rw e
-pick_no x false a c e = rw e
