@@ -1,6 +1,7 @@
 -- Entries that are added to a configuration file.
 use Rattle.std.proofs.Common.{◌≡◌, ◌≢◌, ℕ, ◌+◌, Bool, true, false, List, [], ◌∷◌, ◌++◌, Option, Some, None}
-use Rattle.std.proofs.Common.{option_map, refl, sym, ap, ◌∙◌, subst, append_assoc, arith, inl, inr, ◌⊎◌, ◌==◌, ◌&&◌, ◌||◌}
+use Rattle.std.proofs.Common.{option_map, refl, sym, ap, ◌∙◌, subst, append_assoc, arith, inl, inr, ◌⊎◌}
+use Rattle.std.proofs.Common.{◌==◌, ◌&&◌, ◌||◌}
 use Rattle.std.specs.List.{list_all, flat_map}
 use Rattle.std.specs.Char.{is_ascii_alphabetic}
 use Rattle.std.proofs.lemmas.Bool.{cases_Bool, true≢false, and_parts}
@@ -46,7 +47,8 @@ value_lines value =
 -- no spelling is continued: it does not end in a backslash that is not escaped
 byte_stays : (b : ℕ) (o : Option ℕ) (line : List ℕ) → letter_of b ≡ o → is_continued line ≡ false
     → is_continued (after_backslash b o ++ line) ≡ false
-byte_stays b (Some l) line is h = let other : l ≢ 13 = grind (arith, nat_tests) in pair_continued l line other ∙ h
+byte_stays b (Some l) line is h =
+    let other : l ≢ 13 = grind (arith, nat_tests) in pair_continued l line other ∙ h
 byte_stays b None line is h = let other : b ≢ 92 = grind (arith, nat_tests) in continued_tail b line other ∙ h
 
 bytes_stay : (value : List ℕ) → is_continued (flat_map spelled_byte value) ≡ false
@@ -214,7 +216,12 @@ module _ (bytes : List ℕ) (last : List Entry) (end : ℕ) (reads : (section : 
       absurd (no_part_of_mark b text (begins_no_mark h) part)
   begun_more (unmarked {text = []} none other) h ends e =
       let bracket : 91 ≢ 0xef = omega arith in
-      record { line = 1; rest = 91 ∷ bytes; begins = begins_unmarked 91 bytes bracket; reads = reads_more (91 ∷ bytes) last end reads h ends e }
+      record {
+        line = 1;
+        rest = 91 ∷ bytes;
+        begins = begins_unmarked 91 bytes bracket;
+        reads = reads_more (91 ∷ bytes) last end reads h ends e;
+      }
   begun_more (unmarked {text = b ∷ text} none other) h ends e =
       record {
         line = 1;
@@ -264,7 +271,7 @@ writable_parts : (name : List ℕ) (text : Option (List ℕ)) (key : List ℕ) (
     → is_writable name text key value ≡ true
     → (is_section name text ≡ true) × (is_key key ≡ true) × (is_spellable_or_absent value ≡ true)
 writable_parts name text key value all =
-    let (front, spellable) = and_parts (is_section name text && is_key key) (is_spellable_or_absent value) all in
+    let (front, spellable) = and_parts (is_section name text && is_key key) _ all in
     let (section, is) = and_parts (is_section name text) (is_key key) front in
     (section, is, spellable)
 

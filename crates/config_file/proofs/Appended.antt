@@ -93,7 +93,7 @@ key_bytes {key = key} rest takes = (
   takes.key_run.joined ∙ rw takes.space_run.joined (sym (append_assoc key takes.spaces rest)),
   both_other key takes.spaces
       (all_more is_key_byte is_comment_byte (λ b is. grind (arith, nat_tests)) key takes.key_run.pass)
-      (all_more is_space is_comment_byte (λ b is. grind (arith, nat_tests)) takes.spaces takes.space_run.pass),
+      (all_more is_space is_comment_byte (λ b e. grind (arith, nat_tests)) takes.spaces takes.space_run.pass),
 )
 
 key_more : {text key : List ℕ} (rest more : List ℕ) → rest ≢ [] → TakesKey text key rest
@@ -149,7 +149,8 @@ comment_end_other (b ∷ rest) stops = λ e. grind (arith, nat_tests)
 value_lines : {after raw rest : List ℕ} {lines : ℕ} → HasLineEnd after → TakesValue after raw lines rest
     → (line_feeds after ≡ lines + line_feeds rest) × EndsLine rest
 value_lines h (closed {raw = raw} {rest = rest} joined spells ends) =
-    (ap line_feeds joined ∙ line_feeds_append raw rest, ends_after raw rest (value_end_other rest ends) joined h)
+    let ends_rest = ends_after raw rest (value_end_other rest ends) joined h in
+    (ap line_feeds joined ∙ line_feeds_append raw rest, ends_rest)
 value_lines h (open_end spells) = absurd (value_has_no_end spells h)
 
 -- if the text has a line end over which it is not continued, so has what follows the `=`

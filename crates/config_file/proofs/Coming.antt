@@ -30,31 +30,7 @@ use Rattle.config_file.specs.declared.walk.Frame.{Frame}
 use Rattle.config_file.specs.declared.walk.Known.{Known}
 use Rattle.config_file.specs.declared.walk.FilePlace.{FilePlace}
 use Rattle.config_file.proofs.Adding.{adds_none, adds_both}
-use Rattle.config_file.proofs.Steps.{all_of, cut_here}
-
--- a walk over some contents is one over more
-walks_more : (some all : List ℕ → Content → Type 0) {known : Known} {depth : ℕ} {place : FilePlace} {entries : List Entry}
-    {error : _} {items : List (List ℕ × Item)} {whole : Bool} → Within some all
-    → Walks some known depth place entries error items whole
-    → Walks all known depth place entries error items whole
-walks_more some all more w.cut = w.cut
-walks_more some all more w.ends = w.ends
-walks_more some all more w.line = w.line
-walks_more some all more (w.plain not walks) = w.plain not (walks_more some all more walks)
-walks_more some all more (w.missing name is has walks) =
-    w.missing name is (more name w.Missing has) (walks_more some all more walks)
-walks_more some all more (w.included less at text inner end within is has reads deep inner_walks walks) =
-    w.included less at text inner end within is (more at.name.now _ has) reads deep
-    (walks_more some all more inner_walks) (walks_more some all more walks)
-walks_more some all more (w.cut_within less at text inner end within is has reads deep inner_walks) =
-    w.cut_within less at text inner end within is (more at.name.now _ has) reads deep
-    (walks_more some all more inner_walks)
-walks_more some all more (w.no_value is walks) = w.no_value is (walks_more some all more walks)
-walks_more some all more (w.unknown is walks) = w.unknown is (walks_more some all more walks)
-walks_more some all more (w.not_read name is has walks) =
-    w.not_read name is (more name w.Unreadable has) (walks_more some all more walks)
-walks_more some all more (w.too_deep name real_dir text is has deep walks) =
-    w.too_deep name real_dir text is (more name _ has) deep (walks_more some all more walks)
+use Rattle.config_file.proofs.Steps.{all_of, cut_here, walks_as}
 
 none_said : (name : List ℕ) (content : Content) → Said [] name content → ⊥
 none_said name content said = let below = said.1 in omega arith
@@ -90,7 +66,10 @@ module _ (contents : List ℕ → Content → Type 0) (known : Known) where
       → Comes contents known old (items ++ more) new
   comes_both old mid new items more (said, among, passes) (said2, among2, passes2) = (
     said ++ said2,
-    λ n c is. elim (Contains-append_cases said said2 (n, c) is) [ inl here ↦ among n c here | inr there ↦ among2 n c there ],
+    λ n c is. elim (Contains-append_cases said said2 (n, c) is) [
+      | inl here ↦ among n c here
+      | inr there ↦ among2 n c there
+    ],
     λ all within left whole has.
         subst (λ is. Left (Said all) known old is whole) (sym (append_assoc items more left))
         (passes all (λ n c is. within n c (Contains-append_left said said2 (n, c) is)) (more ++ left) whole
@@ -118,7 +97,10 @@ keeps_first {contents = contents} {known = known} {settings = settings} {frames 
       comes = comes_none contents known frames;
     }
 
-module _ {contents : List ℕ → Content → Type 0} {known : Known} {place : FilePlace} {text : List ℕ} {start now : List Setting} {frames : List Frame} (k : Keeps contents known place text start now frames) where
+module _
+    {contents : List ℕ → Content → Type 0} {known : Known} {place : FilePlace} {text : List ℕ}
+    {start now : List Setting} {frames : List Frame}
+    (k : Keeps contents known place text start now frames) where
   -- the walk, if it comes to these items next and then ends or is cut
   ended : (to : List Frame) (items : List (List ℕ × Item)) (whole : Bool)
       → Comes contents known frames items to
@@ -126,7 +108,8 @@ module _ {contents : List ℕ → Content → Type 0} {known : Known} {place : F
       → WalksText contents known place text (map found_item k.found ++ items) whole
   ended to items whole comes rest =
       let all = map found_item k.found ++ items in
-      let (said, among, passes) = comes_both contents known k.first frames to (map found_item k.found) items k.comes comes in
+      let (said, among, passes) =
+      comes_both contents known k.first frames to (map found_item k.found) items k.comes comes in
       let (entries, error, reads, walks) =
       all_of (Said said) known place text k.first (all ++ []) whole k.enters
       (passes said (λ n c is. is) [] whole (rest said)) in (
@@ -134,7 +117,7 @@ module _ {contents : List ℕ → Content → Type 0} {known : Known} {place : F
         error,
         reads,
         subst (λ is. Walks contents known 10 place entries error is whole) (append-nil all)
-            (walks_more (Said said) contents among walks),
+            (walks_as among (λ e. e) walks),
       )
 
   pub keeps_more : {newer : List Setting} {to : List Frame} (b : Bool) → b ≡ true
@@ -147,7 +130,8 @@ module _ {contents : List ℕ → Content → Type 0} {known : Known} {place : F
         enters = k.enters;
         found = k.found ++ one ∷ [];
         adds = adds_both k.found (one ∷ []) start now newer k.adds more;
-        comes = rw (map-append found_item k.found (one ∷ [])) (comes_both contents known k.first frames to (map found_item k.found) (found_item one ∷ []) k.comes step);
+        comes = rw (map-append found_item k.found (one ∷ []))
+            (comes_both contents known k.first frames to (map found_item k.found) _ k.comes step);
       }
 
   pub keeps_end : (newer : List Setting) (to : List Frame) (b : Bool) (u : Unit {0}) → b ≡ false
@@ -162,7 +146,8 @@ module _ {contents : List ℕ → Content → Type 0} {known : Known} {place : F
   keeps_memory newer refused fits same = (
     k.found,
     rw same k.adds,
-    rw append-nil at (ended frames [] false (comes_none contents known frames) (λ answers. cut_here (Said answers) known frames fits)),
+    rw append-nil at (ended frames [] false (comes_none contents known frames)
+        (λ answers. cut_here (Said answers) known frames fits)),
   )
 
   pub keeps_error : (newer : List Setting) (to : List Frame) (e : AddError) → length frames ≤ 11
@@ -187,7 +172,8 @@ entry_item place entry = found_item (place.name.now, entry_of entry)
 abbrev and_stop : FilePlace → code.Entry → Stop → List (List ℕ × Item)
 and_stop place entry stop = entry_item place entry ∷ (place.name.now, Stops stop) ∷ []
 
-module _ (contents : List ℕ → Content → Type 0) (known : Known) (old new : List Frame) (place : FilePlace) where
+module _
+    (contents : List ℕ → Content → Type 0) (known : Known) (old new : List Frame) (place : FilePlace) where
   -- a line that cannot be read
   pub line_next : (at : FileError) → TakesEach known old (step.Line place at) new
       → Comes contents known old ((place.name.now, Stops (w.Line at)) ∷ []) new
@@ -205,11 +191,13 @@ module _ (contents : List ℕ → Content → Type 0) (known : Known) (old new :
   passed_next entry _ takes is = absurd is
 
   -- an entry that is followed
-  pub entered_next : (newer : List Frame) (at : FilePlace) (entry : code.Entry) (include : Include) (text : List ℕ)
-      → TakesEach known old (step.Entry place entry include) new → IsEntered contents at text include
+  pub entered_next : (newer : List Frame) (at : FilePlace) (entry : code.Entry) (include : Include)
+      (text : List ℕ) → TakesEach known old (step.Entry place entry include) new
+      → IsEntered contents at text include
       → Enters new at text newer → Comes contents known old (entry_item place entry ∷ []) newer
   entered_next newer at entry (Named name) text takes (same, is) enters =
-      comes_with contents known old newer (entry_item place entry ∷ []) at.name.now (w.Text at.real_dir.now text) is
+      comes_with contents known old newer (entry_item place entry ∷ []) at.name.now
+      (w.Text at.real_dir.now text) is
       (λ answers said. (takes answers).entered at text newer same said enters)
   entered_next newer at entry _ text takes is enters = absurd is
 

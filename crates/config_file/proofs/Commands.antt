@@ -115,8 +115,9 @@ adds_both first second some more adds also text entries file ends =
       rw (append_assoc text first second) at last,
     )
 
-pub adds_one : (setting : KeyValue) {k : Key} (bytes : List ℕ) {section name : List ℕ} {subsection : Option (List ℕ)}
-    → IsKey setting.0 k → section ≡ k.section → subsection ≡ k.subsection → name ≡ k.name
+pub adds_one : (setting : KeyValue) {k : Key} (bytes : List ℕ) {section name : List ℕ}
+    {subsection : Option (List ℕ)} → IsKey setting.0 k → section ≡ k.section → subsection ≡ k.subsection
+    → name ≡ k.name
     → AddsEntry bytes section subsection name setting.1 → AddsSettings bytes (setting ∷ [])
 adds_one setting {k = k} bytes is e f g adds text entries file ends =
     let (entry, parts, now, end) = adds text entries file ends in
@@ -189,19 +190,20 @@ never_no_key (b ∷ name) is lacks =
     let (letter, all) = and_parts (is_ascii_alphabetic b) (list_all is_key_byte (b ∷ name)) is in
     lacks b name [] letter (record { joined = sym (append-nil (b ∷ name)); pass = all; longest = tt })
 
-pub never_refused : {text : List ℕ} (value : Option (List ℕ)) {k : Key} {section name : List ℕ} {subsection : Option (List ℕ)}
-    → IsKey text k → section ≡ k.section → subsection ≡ k.subsection → name ≡ k.name
+pub never_refused : {text : List ℕ} (value : Option (List ℕ)) {k : Key} {section name : List ℕ}
+    {subsection : Option (List ℕ)} → IsKey text k → section ≡ k.section → subsection ≡ k.subsection
+    → name ≡ k.name
     → has_nul text ≡ false → some_has_nul value ≡ false
     → ¬ (HasNoHeader section subsection ⊎ IsNoKey name ⊎ LacksSpelling value)
-never_refused value {k = k} {section = section} {name = name} {subsection = subsection} is e f g nul also refused =
+never_refused value {k = k} {section = section} {name = name} {subsection = sub} is e f g nul also refused =
     let (front, last) =
     nul_parts (k.section ++ dotted k.subsection) (46 ∷ k.name) (sym (ap has_nul is.cut.joined) ∙ nul) in
     let (first, middle) = nul_parts k.section (dotted k.subsection) front in
-    let header : is_section section subsection ≡ true =
+    let header : is_section section sub ≡ true =
     rw (e, f) (section_writable k.section k.subsection k.name is.accepted middle) in
     let named : is_key name ≡ true = rw g (key_writable k.name is.accepted.name) in
     elim refused [
-      | inl no_header ↦ never_without_header section subsection header no_header
+      | inl no_header ↦ never_without_header section sub header no_header
       | inr other ↦ elim other [
         | inl no_name ↦ never_no_key name named no_name
         | inr no_spelling ↦ never_lacks value (value_spellable value also) no_spelling
@@ -209,12 +211,6 @@ never_refused value {k = k} {section = section} {name = name} {subsection = subs
     ]
 
 -- digits
-digit_small : (b : ℕ) → is_ascii_digit b ≡ true → digit_value b < 10
-digit_small b is = grind (arith, nat_tests)
-
-digit_tested : (b : ℕ) → digit_value b < 10 → is_ascii_digit b ≡ true
-digit_tested b is = grind (arith, nat_tests)
-
 digit_is : (b : ℕ) → IsInRange 48 57 b → digit_value b ≡ b - 48
 digit_is b is = grind (arith, nat_tests)
 
@@ -222,13 +218,12 @@ all_digits : (text : List ℕ) → list_all is_ascii_digit text ≡ true → All
 all_digits [] all = tt
 all_digits (b ∷ text) all =
     let (here, rest) = and_parts (is_ascii_digit b) (list_all is_ascii_digit text) all in
-    (digit_small b here, all_digits text rest)
+    (grind (arith, nat_tests), all_digits text rest)
 
 digits_pass : (text : List ℕ) → AllDigits 10 text → list_all is_ascii_digit text ≡ true
 digits_pass [] all = refl
 digits_pass (b ∷ text) (here, rest) =
-    let more = digits_pass text rest in
-    let this = digit_tested b here in rw (this, more) refl
+    let this : is_ascii_digit b ≡ true = grind (arith, nat_tests) in rw (this, digits_pass text rest) refl
 
 pub numeral_tested : (text : List ℕ) (test : Bool) → test ≡ list_all is_ascii_digit text → 0 < length text
     → IsTrue test ↔ (IsNumeral 10 text)
@@ -320,8 +315,8 @@ pub no_parameter : {text key rest : List ℕ} → TakesQuoted text key rest → 
     → LacksParameter text
 no_parameter taken going lacks _ _ (text_alone also ends) =
     let (e, f) = quoted_only taken also in going (subst EndsParameter (sym f) ends)
-no_parameter taken going lacks _ _ (key_and_value {b = b} {after = after} {rest = next} {value = value} also is follows) =
-    let (e, f) = quoted_only taken also in lacks b after next value f is follows
+no_parameter taken going lacks _ _ (key_and_value also is follows) =
+    let (e, f) = quoted_only taken also in lacks _ _ _ _ f is follows
 
 pub no_equals : (rest : List ℕ) → BeginsWithout 61 rest
     → (b : ℕ) (after next : List ℕ) (value : Option (List ℕ)) → rest ≡ b ∷ after → b ≡ 61
@@ -344,8 +339,9 @@ pair_pushed key old new value (Ok done) (accepts, (line, adds, e)) =
     (key_value key value, as_given, accepts, (line, adds, e))
 pair_pushed key old new value (Err error) (refuses, same) = of_pair refuses
 
-pub whole_pushed : {text key rest : List ℕ} (old new : List ℕ) (value : Option (List ℕ)) (result : Result (Unit {0}) CommandError)
-    → Run is_no_equals text key rest → value ≡ value_after rest → key ≢ []
+pub whole_pushed : {text key rest : List ℕ} (old new : List ℕ) (value : Option (List ℕ))
+    (result : Result (Unit {0}) CommandError) → Run is_no_equals text key rest → value ≡ value_after rest
+    → key ≢ []
     → MatchResult result
     (λ _. Accepts (key_value key value) × ((line : List ℕ) × AddsSettings line (key_value key value ∷ []) × (new ≡ old ++ line)))
     (λ error. RefusesSetting (key_value key value) error × (new ≡ old))
@@ -382,7 +378,9 @@ parameter_shortens (key_and_value takes is follows) =
     let second = value_shortens follows in omega (arith, first, second)
 
 -- a parameter and what follows it
-module _ (text : List ℕ) {at rest white next : List ℕ} {parameter : Parameter} (takes : TakesParameter at parameter rest) (run : Run is_white rest white next) where
+module _
+    (text : List ℕ) {at rest white next : List ℕ} {parameter : Parameter}
+    (takes : TakesParameter at parameter rest) (run : Run is_white rest white next) where
   pub settings_next : (lines new : List ℕ)
       → (settings : List KeyValue) × AddsSettings lines settings
       × ((more : List KeyValue) → SettingsOf at more → SettingsOf text (settings ++ more))

@@ -5,7 +5,7 @@ use Rattle.std.specs.List.{prefix_len}
 use Rattle.std.specs.Char.{is_ascii_alphabetic}
 use Rattle.config_file.proofs.Runs.{run_split}
 use Rattle.config_file.proofs.Pick.{cases, option_cases, Decided, equal, both, either}
-use Rattle.config_file.proofs.Headers.{no_blanks}
+use Rattle.config_file.proofs.Headers.{no_blanks, opened}
 use Rattle.config_file.proofs.Readings.{begins_none}
 use Rattle.config_file.proofs.Bounds.{header_shortens, entry_shortens, run_shortens}
 use Rattle.config_file.proofs.EachValue.{value_holds, subsection_holds}
@@ -82,7 +82,8 @@ blanked name after (x ∷ blanks) (b ∷ inner) run blank_run =
       | inl is ↦
           let o = subsection_of inner in
           let (c, closing) = closing_of inner o (subsection_holds inner) in
-          with_subsection name (record { blanks = x ∷ blanks; blanked = after; quote = b; name_run = run; blank_run = blank_run; some_blank = (not_empty x blanks); is_quote = is }) c closing
+          let opens = opened after (x ∷ blanks) (b ∷ inner) run blank_run (not_empty x blanks) (rw is) in
+          with_subsection name opens c closing
       | inr other ↦
           (Err (0, fault_at (b ∷ inner)), header.blanks run blank_run (not_empty x blanks) other)
     ]

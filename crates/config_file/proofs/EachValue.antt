@@ -134,7 +134,8 @@ subsection_turn n more b rest room passed =
         | inl text ↦ elim (equal b 92) [
           | inl is ↦ subsection_escaped n more b rest room passed is
           | inr no_backslash ↦
-              more rest room (subsections.passed_plain (b ∷ rest) passed refl (subsections.plain_byte b text no_quote no_backslash))
+              let plain = subsections.plain_byte b text no_quote no_backslash in
+              more rest room (subsections.passed_plain (b ∷ rest) passed refl plain)
         ]
         | inr off ↦ (Err (b ∷ rest), subsections.stops_here (b ∷ rest) passed off)
       ]

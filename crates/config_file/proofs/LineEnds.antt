@@ -9,6 +9,7 @@ use Rattle.config_file.specs.Bytes.{is_comment_byte, is_plain, is_blank}
 use Rattle.config_file.specs.Value.{Ending, Spells, ends_outside, ends_inside, ends_at_backslash, quote}
 use Rattle.config_file.specs.Value.{escaped, continued, continued_after_return, blank, plain, line_feeds}
 use Rattle.config_file.specs.Spelling.{is_continued, HasLineEnd, EndsLine}
+use Rattle.config_file.proofs.Pick.{equal, test_false}
 use Rattle.config_file.proofs.Spelled.{blank_inner, plain_inner}
 
 -- how many LFs a text has, by its parts
@@ -56,12 +57,8 @@ rest_none (x ∷ front) rest e = cc
 -- lines that are continued
 pub continued_tail : (a : ℕ) (line : List ℕ) → a ≢ 92 → is_continued (a ∷ line) ≡ is_continued line
 continued_tail a [] other = grind (arith, nat_tests)
-continued_tail a (b ∷ []) other =
-    let no_backslash : (a == 92) ≡ false = grind (arith, nat_tests) in
-    rw no_backslash
-continued_tail a (b ∷ c ∷ line) other =
-    let no_backslash : (a == 92) ≡ false = grind (arith, nat_tests) in
-    rw no_backslash
+continued_tail a (b ∷ []) other = rw (test_false a 92 other)
+continued_tail a (b ∷ c ∷ line) other = rw (test_false a 92 other)
 
 continued_pair : (a e : ℕ) (line : List ℕ) → a ≡ 92 → is_continued (a ∷ e ∷ line) ≡ false
     → is_continued line ≡ false
@@ -72,18 +69,14 @@ continued_after_front : (front : List ℕ) (b : ℕ) (line : List ℕ) → b ≢
     → is_continued (front ++ b ∷ line) ≡ false → is_continued line ≡ false
 continued_after_front [] b line other h = sym (continued_tail b line other) ∙ h
 continued_after_front (x ∷ []) b line other h =
-    elim (cases_Bool (x == 92)) [
-      | inl is ↦ continued_pair x b line (grind (arith, nat_tests)) h
-      | inr no_backslash ↦
-          let no_escape : x ≢ 92 = grind (arith, nat_tests) in
-          sym (continued_tail b line other) ∙ sym (continued_tail x (b ∷ line) no_escape) ∙ h
+    elim (equal x 92) [
+      | inl is ↦ continued_pair x b line is h
+      | inr no_escape ↦ sym (continued_tail b line other) ∙ sym (continued_tail x (b ∷ line) no_escape) ∙ h
     ]
 continued_after_front (x ∷ y ∷ front) b line other h =
-    elim (cases_Bool (x == 92)) [
-      | inl is ↦
-          continued_after_front front b line other (continued_pair x y (front ++ b ∷ line) (grind (arith, nat_tests)) h)
-      | inr no_backslash ↦
-          let no_escape : x ≢ 92 = grind (arith, nat_tests) in
+    elim (equal x 92) [
+      | inl is ↦ continued_after_front front b line other (continued_pair x y (front ++ b ∷ line) is h)
+      | inr no_escape ↦
           continued_after_front (y ∷ front) b line other (sym (continued_tail x (y ∷ (front ++ b ∷ line)) no_escape) ∙ h)
     ]
 
@@ -95,19 +88,21 @@ pub continued_by_last : (front : List ℕ) (b : ℕ) (line : List ℕ) → b ≢
     → is_continued (b ∷ line) ≡ false → is_continued (front ++ b ∷ line) ≡ false
 continued_by_last [] b line other no_return h = h
 continued_by_last (x ∷ []) b [] other no_return h =
-    let no_backslash : (b == 92) ≡ false = grind (arith, nat_tests) in
-    let no_carriage_return : (b == 13) ≡ false = grind (arith, nat_tests) in
-    elim (cases_Bool (x == 92)) [ inl is ↦ rw (is, no_carriage_return) | inr no_escape ↦ rw (no_escape, no_backslash) ]
+    elim (equal x 92) [
+      | inl is ↦ rw (is, test_false b 13 no_return)
+      | inr no_escape ↦ rw (test_false x 92 no_escape, test_false b 92 other)
+    ]
 continued_by_last (x ∷ []) b (c ∷ line) other no_return h =
-    let tail = continued_tail b (c ∷ line) other in
-    elim (cases_Bool (x == 92)) [ inl is ↦ rw is (sym tail ∙ h) | inr no_escape ↦ rw no_escape h ]
+    elim (equal x 92) [
+      | inl is ↦ rw is (sym (continued_tail b (c ∷ line) other) ∙ h)
+      | inr no_escape ↦ rw (test_false x 92 no_escape) h
+    ]
 continued_by_last (x ∷ y ∷ front) b line other no_return h =
-    elim (cases_Bool (x == 92)) [
+    elim (equal x 92) [
       | inl is ↦
-          let same : x ≡ 92 = grind (arith, nat_tests) in
-          pair_before x y (front ++ b ∷ line) (not_none front line b) same ∙ continued_by_last front b line other no_return h
-      | inr no_backslash ↦
-          let no_escape : x ≢ 92 = grind (arith, nat_tests) in
+          pair_before x y (front ++ b ∷ line) (not_none front line b) is
+          ∙ continued_by_last front b line other no_return h
+      | inr no_escape ↦
           continued_tail x (y ∷ (front ++ b ∷ line)) no_escape ∙ continued_by_last (y ∷ front) b line other no_return h
     ]
 
@@ -149,7 +144,9 @@ after_pair : (b e : ℕ) (rest : List ℕ) → b ≡ 92 → HasLineEnd (b ∷ e 
 after_pair b e rest is h =
     elim (splits (b ∷ []) e rest h.line h.joined) [
       | inl p ↦ let yes : true ≡ false = rw (p.2, is) at h.not_continued in absurd (true≢false yes)
-      | inr p ↦ record { line = p.0; joined = p.1; not_continued = continued_pair b e p.0 is (rw p.2 at h.not_continued) }
+      | inr p ↦
+          let left = continued_pair b e p.0 is (rw p.2 at h.not_continued) in
+          record { line = p.0; joined = p.1; not_continued = left }
     ]
 
 cons_end : (b : ℕ) (rest : List ℕ) → b ≢ 92 → ((rest ≡ []) × (b ≡ 10)) ⊎ HasLineEnd rest

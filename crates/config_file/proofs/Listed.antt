@@ -18,7 +18,8 @@ pub plain_appended : {name listed : List ℕ} {sub : Option (List ℕ)} (old low
     → IsListedSection (name, sub) listed → sub ≡ None
     → lowered ≡ old ++ map to_ascii_lowercase name → new ≡ lowered ++ 46 ∷ [] → new ≡ old ++ listed
 plain_appended {name = name} old lowered new h none e f =
-    let whole = plain_only (rw none at h) in rw (f, e, whole) (append_assoc old (map to_ascii_lowercase name) (46 ∷ []))
+    let whole = plain_only (rw none at h) in
+    rw (f, e, whole) (append_assoc old (map to_ascii_lowercase name) (46 ∷ []))
 
 pub quoted_appended : {name raw listed : List ℕ} {sub : Option (List ℕ)} (old lowered dotted spelled_out new : List ℕ) → IsListedSection (name, sub) listed → sub ≡ Some raw
     → lowered ≡ old ++ map to_ascii_lowercase name → dotted ≡ lowered ++ 46 ∷ []
@@ -27,8 +28,8 @@ pub quoted_appended : {name raw listed : List ℕ} {sub : Option (List ℕ)} (ol
 quoted_appended {name = name} old lowered dotted spelled_out new h some e f written g =
     let (spelled, s, whole) = quoted_only (rw some at h) in
     let front = map to_ascii_lowercase name in
-    let same : (((old ++ front) ++ 46 ∷ []) ++ spelled) ++ 46 ∷ [] ≡ old ++ ((front ++ 46 ∷ []) ++ (spelled ++ 46 ∷ [])) =
-    simp append_assoc in
+    let same : (((old ++ front) ++ 46 ∷ []) ++ spelled) ++ 46 ∷ []
+    ≡ old ++ ((front ++ 46 ∷ []) ++ (spelled ++ 46 ∷ [])) = simp append_assoc in
     rw (g, written spelled s, f, e) (same ∙ ap (◌++◌ old) (sym whole))
 
 alone_only : {key listed : List ℕ} → IsListed None key listed → listed ≡ map to_ascii_lowercase key

@@ -42,7 +42,8 @@ items_are_read walk.line read = (tt, tt)
 items_are_read (walk.plain is more) read = (read.0, items_are_read more read.1)
 items_are_read (walk.missing name is holds more) read = (read.0, items_are_read more read.1)
 items_are_read (walk.included less at text inner end within is holds file deep first more) read =
-    (read.0, all_appended IsReadItem within _ (items_are_read first (file_is_read file)) (items_are_read more read.1))
+    let inner = items_are_read first (file_is_read file) in
+    (read.0, all_appended IsReadItem within _ inner (items_are_read more read.1))
 items_are_read (walk.cut_within less at text inner end within is holds file deep first) read =
     (read.0, items_are_read first (file_is_read file))
 items_are_read (walk.no_value is more) read = (read.0, (tt, items_are_read more read.1))
@@ -91,9 +92,7 @@ same_after (x ∷ old) a b same = ((refl, refl, refl), same_after old a b same)
 same_settings : (found : List (List ℕ × Entry)) (old a b : List Setting) → AreReadEntries found
     → AddsEach found old a → AddsEach found old b → AllZip IsSameSetting a b
 same_settings found old a b read (first, is, zip) (second, so, also) =
-    subst (λ x. AllZip IsSameSetting x b) (sym is)
-    (subst (λ x. AllZip IsSameSetting (old ++ first) x) (sym so)
-    (same_after old first second (same_added found first second read zip also)))
+    rw (is, so) (same_after old first second (same_added found first second read zip also))
 
 -- ---- the end of a walk
 
@@ -118,16 +117,13 @@ record Reached (contents : List ℕ → Content → Type 0) (known : Known) (pla
 reached : {contents : List ℕ → Content → Type 0} {known : Known} {place : FilePlace} {text : List ℕ}
     {old new : List Setting} (result : Result (Unit {0}) AddError) → HasMemory result
     → AddsWalk contents known place text old new result → Reached contents known place text old new result
-reached {contents = contents} {known = known} {place = place} {text = text} (Ok u) memory
-    (found, adds, walks) =
+reached (Ok u) memory (found, adds, walks) =
     record {
       found = found;
       stop = None;
       whole = true;
       adds = adds;
-      walks =
-          subst (λ x. WalksText contents known place text x true) (sym (append-nil (map found_item found)))
-          walks;
+      walks = rw append-nil walks;
       all = λ none. refl;
       tells = refl;
     }
@@ -156,7 +152,8 @@ stop_of ((file, Stops stop) ∷ items) = Some (file, stop)
 
 parts_of : (f : List (List ℕ × Entry)) (s : Option (List ℕ × Stop)) (more : List (List ℕ × Item))
     → (s ≡ None → more ≡ [])
-    → (entries_of ((map found_item f ++ last s) ++ more) ≡ f) × (stop_of ((map found_item f ++ last s) ++ more) ≡ s)
+    → (entries_of ((map found_item f ++ last s) ++ more) ≡ f)
+    × (stop_of ((map found_item f ++ last s) ++ more) ≡ s)
 parts_of [] None more all = rw (all refl) (refl, refl)
 parts_of [] (Some at) more all = (refl, refl)
 parts_of (x ∷ f) s more all = let (founds, stops) = parts_of f s more all in (ap (◌∷◌ x) founds, stops)
@@ -201,7 +198,7 @@ one_addition contents known place text old a b r s one memory also first second 
     (texts_agree {text = text} one x.walks y.walks) in
     let (entries, error, is, walks) = x.walks in
     let read = found_are_read x.found (last x.stop) (items_are_read walks (file_is_read is)) in (
-      same_settings x.found old a b read x.adds (subst (λ f. AddsEach f old b) (sym founds) y.adds),
+      same_settings x.found old a b read x.adds (rw founds y.adds),
       same_end r s x.stop y.stop stops x.tells y.tells,
     )
 
@@ -239,13 +236,11 @@ added_front (x ∷ f) h (y ∷ added) zip =
 settings_begin : (f g h : List (List ℕ × Entry)) (old a b : List Setting) → AreReadEntries f → g ≡ f ++ h
     → AddsEach f old a → AddsEach g old b → HasSameFront a b
 settings_begin f g h old a b read whole (first, is, zip) (second, so, also) =
-    let settings_of = subst (λ x. AllZip IsSettingOf x second) whole also in
-    let (front, rest, e, same) = added_front f h second settings_of in (
+    let (front, rest, e, same) = added_front f h second (rw whole at also) in (
       old ++ front,
       rest,
       so ∙ ap (λ x. old ++ x) e ∙ sym (append_assoc old front rest),
-      subst (λ x. AllZip IsSameSetting x (old ++ front)) (sym is)
-          (same_after old first front (same_added f first front read zip same)),
+      rw is (same_after old first front (same_added f first front read zip same)),
     )
 
 pub cut_addition : (contents : List ℕ → Content → Type 0) (known : Known) (place : FilePlace) (text : List ℕ)

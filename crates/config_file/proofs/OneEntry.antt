@@ -6,7 +6,8 @@ use Rattle.config_file.proofs.OneRun.{run_only}
 use Rattle.config_file.proofs.Runs.{run_split}
 use Rattle.config_file.proofs.OneHeader.{ends_line, at_line_end, not_at_line_end}
 use Rattle.config_file.proofs.OneValue as one_value
-use Rattle.config_file.proofs.OneValue.{ValueHas, value_of, value_is, test_false}
+use Rattle.config_file.proofs.OneValue.{ValueHas, value_of, value_is}
+use Rattle.config_file.proofs.Pick.{test_false}
 use Rattle.config_file.specs.declared.errors.FileFault.{FileFault}
 use Rattle.config_file.specs.Bytes.{IsAtLineEnd, is_key_byte, is_space}
 use Rattle.config_file.specs.Header.{BeginsWithout, fault_at}
@@ -33,7 +34,8 @@ abbrev after_spaces : List ℕ → List ℕ → Outcome
 after_spaces key spaced = ends_of key (drop (prefix_len is_space spaced) spaced)
 
 abbrev entry_of : List ℕ → Outcome
-entry_of text = after_spaces (take (prefix_len is_key_byte text) text) (drop (prefix_len is_key_byte text) text)
+entry_of text =
+    let n = prefix_len is_key_byte text in after_spaces (take n text) (drop n text)
 
 ends_at : {text key rest : List ℕ} → TakesKey text key rest → ends_of key rest ≡ entry_of text
 ends_at {text = text} {key = key} {rest = rest} takes =

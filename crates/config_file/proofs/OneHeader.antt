@@ -4,7 +4,7 @@ use Rattle.std.proofs.Common.{Result, Ok, Err, refl, sym, ap, ◌∙◌, subst, 
 use Rattle.std.proofs.Common.{take, drop}
 use Rattle.std.specs.List.{prefix_len}
 use Rattle.std.proofs.lemmas.Bool.Decides.{nat_tests}
-use Rattle.config_file.proofs.Pick.{pick}
+use Rattle.config_file.proofs.Pick.{pick, test_false}
 use Rattle.config_file.proofs.OneRun.{run_only}
 use Rattle.config_file.proofs.Runs.{run_split}
 use Rattle.config_file.proofs.OneSubsection.{SubsectionHas, subsection_of, subsection_is}
@@ -15,7 +15,6 @@ use Rattle.config_file.specs.Runs.{Run, StopsRun}
 use Rattle.config_file.specs.Header as header
 use Rattle.config_file.specs.Header.{Section, Header, OpensSubsection, HeaderStops, NameStops}
 use Rattle.config_file.specs.Header.{ClosesSubsection, SubsectionStops, BeginsWithout, fault_at}
-use Rattle.config_file.proofs.OneValue.{test_false}
 
 abbrev pub ends_line : List ℕ → Bool
 ends_line [] = true
@@ -72,7 +71,8 @@ closing_is text o has = ap close_subsection (subsection_is text o has)
 
 closes_is : {text raw rest : List ℕ} → ClosesSubsection text raw rest → Ok (raw, rest) ≡ closing_of text
 closes_is (header.closes {b = b} {text = text} {raw = raw} {rest = rest} takes is) =
-    let same : Ok (raw, rest) ≡ close raw (b ∷ rest) = rw is in same ∙ closing_is text (Ok (raw, b ∷ rest)) takes
+    let same : Ok (raw, rest) ≡ close raw (b ∷ rest) = rw is in
+    same ∙ closing_is text (Ok (raw, b ∷ rest)) takes
 
 stops_is : {text : List ℕ} {lines : ℕ} {fault : FileFault} → SubsectionStops text lines fault
     → Err (lines, fault) ≡ closing_of text
@@ -111,10 +111,12 @@ ends_of name (x ∷ blanks) (b ∷ inner) =
     if b == 34 then with_name name (closing_of inner) else Err (0, fault_at (b ∷ inner))
 
 abbrev after_name : List ℕ → List ℕ → Outcome
-after_name name after = ends_of name (take (prefix_len is_blank after) after) (drop (prefix_len is_blank after) after)
+after_name name after =
+    let n = prefix_len is_blank after in ends_of name (take n after) (drop n after)
 
 abbrev header_of : List ℕ → Outcome
-header_of text = after_name (take (prefix_len is_name_byte text) text) (drop (prefix_len is_name_byte text) text)
+header_of text =
+    let n = prefix_len is_name_byte text in after_name (take n text) (drop n text)
 
 ends_at : {text name after blanks more : List ℕ} → Run is_name_byte text name after
     → Run is_blank after blanks more → ends_of name blanks more ≡ header_of text
@@ -162,8 +164,8 @@ header_is text (Ok (section, rest)) (header.quoted {raw = raw} opens closed) =
     opened_is opens (Ok (raw, rest)) (closes_is closed)
 header_is text (Err (lines, fault)) (header.name {rest = rest} run none stops) =
     name_stops stops ∙ ends_at run (no_run rest none)
-header_is text (Err (lines, fault)) (header.blanks {name = n} {blanks = blanks} {rest = rest} run more some other) =
-    unopened_ends n blanks rest some other ∙ ends_at run more
+header_is text (Err (lines, fault)) (header.blanks {name = n} {blanks = x} {rest = r} run more some other) =
+    unopened_ends n x r some other ∙ ends_at run more
 header_is text (Err (lines, fault)) (header.subsection opens stops) =
     opened_is opens (Err (lines, fault)) (stops_is stops)
 

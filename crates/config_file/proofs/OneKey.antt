@@ -212,16 +212,11 @@ pub key_bytes_no_dot : (text : List ℕ) → list_all is_key_byte text ≡ true 
 key_bytes_no_dot text e = all_more is_key_byte is_no_dot key_byte_no_dot text e
 
 -- the text that Git lists for an entry, cut at its last dot
-record ListedAs (section : Option Section) (key_text whole front name : List ℕ) : Type 0 where
-  of : Section
-  in_section : section ≡ Some of
-  front_listed : IsListedSection of (front ++ 46 ∷ [])
-  same_name : map to_ascii_lowercase key_text ≡ name
-
 listed_at : {section : Option Section} {key_text whole : List ℕ} (front name : List ℕ)
     → list_all is_no_dot key_text ≡ true → list_all is_no_dot name ≡ true → IsListed section key_text whole
     → whole ≡ front ++ 46 ∷ name
-    → ListedAs section key_text whole front name
+    → (of : Section) × (section ≡ Some of) × IsListedSection of (front ++ 46 ∷ [])
+    × (map to_ascii_lowercase key_text ≡ name)
 listed_at front name p q (alone {key = key}) e =
     absurd (no_dot_within front name (lower_no_dots key p) e)
 listed_at front name p q (in_section {section = section} {key = key} {listed = before} h) e =
@@ -231,8 +226,7 @@ listed_at front name p q (in_section {section = section} {key = key} {listed = b
     let moved : mine ++ 46 ∷ own ≡ before ++ own =
     sym (append_assoc mine (46 ∷ []) own) ∙ ap (λ t. t ++ own) (sym is) in
     let (fronts, names) = last_same mine front own name (lower_no_dots key p) q (moved ∙ e) in
-    let front_listed = subst (λ l. IsListedSection section l) (is ∙ ap (λ t. t ++ 46 ∷ []) fronts) h in
-    record { of = section; in_section = refl; front_listed = front_listed; same_name = names }
+    (section, refl, rw (is ∙ ap (λ t. t ++ 46 ∷ []) fronts) at h, names)
 
 pub has_key_as_listed : (entry : Entry) (k : Key) → list_all is_no_dot entry.key ≡ true
     → list_all is_no_dot k.name ≡ true
@@ -243,11 +237,7 @@ has_key_as_listed entry k p q = (
       append_assoc (stem k) (46 ∷ []) own ∙ ap (λ n. stem k ++ 46 ∷ n) has.same_name in
       rw has.in_section
       (subst (λ l. IsListed (Some has.section) entry.key l) whole (in_section has.stem_listed)),
-  λ h. let found = listed_at (stem k) (map to_ascii_lowercase k.name) p (lower_no_dots k.name q) h refl in
-      record {
-        section = found.of;
-        in_section = found.in_section;
-        stem_listed = found.front_listed;
-        same_name = found.same_name;
-      },
+  λ h. let (of, is, front, names) =
+      listed_at (stem k) (map to_ascii_lowercase k.name) p (lower_no_dots k.name q) h refl in
+      record { section = of; in_section = is; stem_listed = front; same_name = names },
 )

@@ -50,19 +50,21 @@ sign_cases b is =
 pub kind_comment : (b : ℕ) → is_comment_sign b ≡ true → kind b ≡ comment
 kind_comment b is = elim (sign_cases b is) [ inl e ↦ rw e | inr e ↦ rw e ]
 
-chosen_last : (p q r s t : Bool) → p ≡ false → q ≡ false → r ≡ false → s ≡ false
+chosen_last : (p q r s t : Bool) → (p ≡ false) × (q ≡ false) × (r ≡ false) × (s ≡ false)
     → choose p q r s t ≡ (if t then entry else nothing)
-chosen_last p q r s t e f g h = rw (e, f, g, h)
+chosen_last p q r s t (e, f, g, h) = rw (e, f, g, h)
 
 pub kind_entry : (b : ℕ) → is_ascii_alphabetic b ≡ true → kind b ≡ entry
 kind_entry b is =
-    chosen_last _ _ _ _ _ (grind (arith, nat_tests)) (grind (arith, nat_tests)) (grind (arith, nat_tests)) (grind (arith, nat_tests))
+    chosen_last _ _ _ _ _
+    (grind (arith, nat_tests), grind (arith, nat_tests), grind (arith, nat_tests), grind (arith, nat_tests))
     ∙ ap (λ t. if t then entry else nothing) is
 
 kind_nothing : (b : ℕ) → begins_item b ≡ false → kind b ≡ nothing
 kind_nothing b is =
     let no_letter : is_ascii_alphabetic b ≡ false = grind (arith, nat_tests) in
-    chosen_last _ _ _ _ _ (grind (arith, nat_tests)) (grind (arith, nat_tests)) (grind (arith, nat_tests)) (grind (arith, nat_tests))
+    chosen_last _ _ _ _ _
+    (grind (arith, nat_tests), grind (arith, nat_tests), grind (arith, nat_tests), grind (arith, nat_tests))
     ∙ ap (λ t. if t then entry else nothing) no_letter
 
 abbrev AfterHeader : Option Section → ℕ → List Entry → Option FileError → one_header.Outcome → Type 0
@@ -107,8 +109,8 @@ turn (file.entry_refused {lines = lines} {b = b} {fault = fault} is stops) =
     (entry, kind_entry b is, (Err (lines, fault), is, stops, (refl, refl)))
 turn (file.no_item {b = b} is) = (nothing, kind_nothing b is, (refl, refl))
 
-at_kind : {section : Option Section} {line b : ℕ} {text : List ℕ} {left : List Entry} {error : Option FileError}
-    (k : Kind) → kind b ≡ k → Reads section line (b ∷ text) left error
+at_kind : {section : Option Section} {line b : ℕ} {text : List ℕ} {left : List Entry}
+    {error : Option FileError} (k : Kind) → kind b ≡ k → Reads section line (b ∷ text) left error
     → Turn section line b text left error k
 at_kind {section = section} {line = line} {b = b} {text = text} {left = left} {error = error} k is reads =
     let (other, so, found) = turn reads in
@@ -121,16 +123,16 @@ empty_is file.ends = (refl, refl)
 header_at : {section : Option Section} {line b : ℕ} {text : List ℕ} {left : List Entry}
     {error : Option FileError} (o : one_header.Outcome) → HeaderHas text o → b ≡ 91
     → Reads section line (b ∷ text) left error → AfterHeader section line left error o
-header_at {section = section} {line = line} {b = b} {text = text} {left = left} {error = error} o has is reads =
+header_at {b = b} {text = text} o has is reads =
     let (p, also, after) = at_kind header (kind_header b is) reads in
-    subst (λ x. AfterHeader section line left error x) (header_only text p o also has) after
+    rw (header_only text p o also has) at after
 
 entry_at : {section : Option Section} {line b : ℕ} {text : List ℕ} {left : List Entry}
     {error : Option FileError} (o : one_entry.Outcome) → EntryHas (b ∷ text) o → is_ascii_alphabetic b ≡ true
     → Reads section line (b ∷ text) left error → AfterEntry section line left error o
-entry_at {section = section} {line = line} {b = b} {text = text} {left = left} {error = error} o has is reads =
+entry_at {b = b} {text = text} o has is reads =
     let (p, again, also, after) = at_kind entry (kind_entry b is) reads in
-    subst (λ x. AfterEntry section line left error x) (entry_only (b ∷ text) p o also has) after
+    rw (entry_only (b ∷ text) p o also has) at after
 
 -- what is left of a text has at most one reading, in any section and on any line
 pub reads_once : {section : Option Section} {line : ℕ} {text : List ℕ} {a b : List Entry} {e f : Option FileError}
@@ -144,7 +146,8 @@ reads_once {section = section} {line = line} {b = b} {f = f} (file.comment {b = 
     reads_once first (subst (λ x. Reads section line x b f) (sym (run_only ran also).1) more)
 reads_once (file.header {next = next} {rest = rest} is has first) second =
     reads_once first (header_at (Ok (next, rest)) has is second)
-reads_once {section = section} {line = line} (file.entry {lines = lines} {key = key} {rest = rest} {value = v} is has first) second =
+reads_once {section = section} {line = line}
+    (file.entry {lines = lines} {key = key} {rest = rest} {value = v} is has first) second =
     let (later, more, same) = entry_at (Ok (key, v, lines, rest)) has is second in
     let (lefts, errors) = reads_once first more in
     (ap (◌∷◌ (file.entry_at section key v (line + lines))) lefts ∙ sym same, errors)

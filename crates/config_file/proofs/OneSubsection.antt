@@ -74,7 +74,8 @@ ends_text_byte b h = (grind (arith, nat_tests), grind (arith, nat_tests), grind 
 
 no_step : (rest : List ℕ) → EndsText rest → step rest ≡ None
 no_step [] h = refl
-no_step (b ∷ rest) h = let (no_quote, no_backslash, not_plain) = ends_text_byte b h in rw (not_plain, no_backslash)
+no_step (b ∷ rest) h =
+    let (no_quote, no_backslash, not_plain) = ends_text_byte b h in rw (not_plain, no_backslash)
 
 no_step_escaped : (rest : List ℕ) → EndsText rest → step (92 ∷ rest) ≡ None
 no_step_escaped [] h = refl

@@ -6,7 +6,7 @@ use Rattle.std.proofs.lemmas.List.{append_assoc, length-append}
 use Rattle.std.proofs.lemmas.Bool.{cases_Bool}
 use Rattle.std.proofs.lemmas.Bool.Decides.{nat_tests}
 use Rattle.config_file.proofs.OneRun.{before, before_is}
-use Rattle.config_file.proofs.Pick.{pick, pick_first, pick_third, equal}
+use Rattle.config_file.proofs.Pick.{pick, pick_first, pick_third, equal, test_false}
 use Rattle.config_file.specs.declared.errors.FileFault.{FileFault}
 use Rattle.config_file.specs.declared.errors.FileFault.TheVariants.{BadLine, Nul}
 use Rattle.config_file.specs.Bytes.{is_text_byte, is_plain, is_blank, is_comment_sign, EndsText}
@@ -100,7 +100,8 @@ scans (value.ends_at_backslash is) = rw is ends
 scans (value.quote is s) = goes [] (scans s) (λ rest. rw is)
 scans (value.escaped {quoted = q} {e = l} is letter s) =
     goes (l ∷ []) (scans s)
-    (λ rest. rw is (pick_first _ (l == 10) (Some (q, rest)) (Some (q, rest)) (step_return q l rest) (ap is_some letter)))
+    (λ rest. let next = Some (q, rest) in
+    rw is (pick_first _ (l == 10) next next (step_return q l rest) (ap is_some letter)))
 scans (value.continued {e = l} is line s) = goes (l ∷ []) (scans s) (λ rest. rw (is, line))
 scans (value.continued_after_return {e = l} {f = m} is return line s) =
     goes (l ∷ m ∷ []) (scans s) (λ rest. rw (is, return, line))
@@ -198,9 +199,6 @@ finish_in_quotes : (raw rest : List ℕ) → EndsText rest
 finish_in_quotes raw [] h = refl
 finish_in_quotes raw (b ∷ rest) h =
     let (not_quote, not_backslash, not_plain) = ends_text_byte b h in rw not_backslash
-
-pub test_false : (b c : ℕ) → b ≢ c → (b == c) ≡ false
-test_false b c other = grind (arith, nat_tests)
 
 no_return : (q : Bool) (e f : ℕ) (rest : List ℕ) → (e ≡ 13 → f ≢ 10) → step_return q e (f ∷ rest) ≡ None
 no_return q e f rest h =

@@ -1,6 +1,7 @@
 -- A choice by two tests, and the cases of a test and of an option.
 use Rattle.std.proofs.Common.{◌≡◌, ◌==◌, ℕ, Bool, true, false, if◌then◌else◌, ◌⊎◌, inl, inr, refl, Option}
-use Rattle.std.proofs.Common.{Some, None, eqb-true}
+use Rattle.std.proofs.Common.{Some, None, eqb-true, ◌≢◌, arith}
+use Rattle.std.proofs.lemmas.Bool.Decides.{nat_tests}
 use Rattle.std.proofs.lemmas.Bool.{eqb-false}
 
 -- a test passes or fails, and an option has a value or none; both compute if the bytes are known
@@ -18,6 +19,9 @@ Decided P = P ⊎ (P → ⊥)
 
 abbrev pub equal : (a b : ℕ) → Decided (a ≡ b)
 equal a b = elim (cases (a == b)) [ inl is ↦ inl (eqb-true a b is) | inr off ↦ inr (eqb-false a b off) ]
+
+pub test_false : (b c : ℕ) → b ≢ c → (b == c) ≡ false
+test_false b c other = grind (arith, nat_tests)
 
 abbrev pub both : {P Q : Type 0} → Decided P → Decided Q → Decided (P × Q)
 both (inl p) (inl q) = inl (p, q)

@@ -229,8 +229,8 @@ slash_only {i = i} {after = after} {text = text} pattern e (rest, crossing, at, 
 
 -- ---- what is found
 
-pub star_map : (i : Bool) {P Q : Type 0} {F G : Bool → Type 0} (found : Found) → (P → Q) → (found ≡ Nothing → Q → P)
-    → ((c : Bool) → G c → F c)
+pub star_map : (i : Bool) {P Q : Type 0} {F G : Bool → Type 0} (found : Found) → (P → Q)
+    → (found ≡ Nothing → Q → P) → ((c : Bool) → G c → F c)
     → FindsStar i P F found → FindsStar i Q G found
 star_map i Whole there back from is = there is
 star_map i Nothing there back from is = λ q. is (back refl q)
@@ -257,7 +257,8 @@ pub star_next : (i : Bool) (P : Type 0) (F : Bool → Type 0) {more rest : List 
     → FindsStar i P F found2
 star_next i P F found place e is run short whole found2 is2 =
     let both = rw e at is in
-    star_map i found2 (λ m. both.0 (short_back run short m)) (λ nothing p. to_later (star_all run short (both.1 false (whole p))))
+    star_map i found2 (λ m. both.0 (short_back run short m))
+    (λ nothing p. to_later (star_all run short (both.1 false (whole p))))
     (λ c f. star_all run short (both.1 c f)) is2
 
 pub smaller : {more rest : List ℕ} (found found2 : Found) (place : FilePlace) → found ≡ Stars place

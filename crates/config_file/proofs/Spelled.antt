@@ -88,7 +88,8 @@ pub after_blanks : {value spelled : List ℕ} {e : Ending} (held blanks rest : L
 after_blanks held [] rest all s = rw append-nil s
 after_blanks held (b ∷ blanks) rest all s =
     let (here, more) = and_parts (is_blank b) (list_all is_blank blanks) all in
-    rw (← append_assoc held (b ∷ []) blanks) (after_blanks (held ++ b ∷ []) blanks rest more (after_held s here))
+    rw (← append_assoc held (b ∷ []) blanks)
+    (after_blanks (held ++ b ∷ []) blanks rest more (after_held s here))
 
 -- a run of blanks is held back where none was held before it, since a longest run precedes no blank
 pub blanks_next : {q : Bool} {b : ℕ} {value held blanks rest after spelled : List ℕ} {o : Ending} (at : List ℕ) → at ≡ b ∷ rest

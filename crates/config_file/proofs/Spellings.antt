@@ -120,7 +120,7 @@ module _ (w : ℕ → ℕ) (reads : w 32 ≡ 32) where
 unquoted : (w : ℕ → ℕ) → w 32 ≡ 32 → (value : List ℕ) → is_spellable value ≡ true → needs_quotes value ≡ false
     → Spells w false [] [] (flat_map spelled_byte value) value outside
 unquoted w reads value all other =
-    let (spaces, found) = or_parts (begins_with_space value || ends_with_space value) (list_any is_lost value) other in
+    let (spaces, found) = or_parts (begins_with_space value || ends_with_space value) _ other in
     let (first, last) = or_parts (begins_with_space value) (ends_with_space value) spaces in
     spelled_outside w reads value all found first last
 
@@ -169,7 +169,8 @@ spelled_spellable (continued_after_return {value = value} {held = held} e l n s)
 spelled_spellable (blank {b = b} {held = held} is s) all blanks =
     spelled_spellable s all (pushed_spellable held b blanks (blank_inner b is).0)
 spelled_spellable (plain {quoted = q} {b = b} {value = value} {held = held} is s) all blanks =
-    spelled_spellable s (pushed_spellable (kept value held) b (kept_spellable value held all blanks) (plain_inner q b is).0) refl
+    let so_far = kept_spellable value held all blanks in
+    spelled_spellable s (pushed_spellable (kept value held) b so_far (plain_inner q b is).0) refl
 
 pub not_spelled : (value : List ℕ) → is_spellable value ≡ false → HasNoSpelling value
 not_spelled value refused raw s = true≢false (sym (spelled_spellable s refl refl) ∙ refused)

@@ -22,6 +22,8 @@ use Rattle.config_file.specs.Walk.{in_file}
 use Rattle.config_file.specs.Walk as w
 use Rattle.config_file.specs.Reading.Walks.{LeftOf, nothing, goes_on, is_cut, Left, Enters, Said, Asks, Takes}
 use Rattle.config_file.specs.Reading.Walks.{Passes}
+use Rattle.std.proofs.lemmas.Bool.{true≢false}
+use Rattle.config_file.specs.Reading.Adds.{Within}
 use Rattle.config_file.proofs.EachReading.{are_read}
 
 turned : {frames : List Frame} (below : List Frame) (f : Frame) → frames ≡ below ++ f ∷ []
@@ -42,7 +44,8 @@ pub exhausted : (contents : List ℕ → Content → Type 0) (known : Known) (ol
     (items : List (List ℕ × Item)) (whole : Bool) → old ≡ below ++ f ∷ [] → length old ≤ 11
     → HasLeft f.entries [] None → Left contents known below items whole → Left contents known old items whole
 exhausted contents known old below f items whole e fits has rest =
-    rw (turned below f e) (goes_on (10 - length (reverse below)) [] None [] (depth_of below f e fits) has w.ends rest)
+    rw (turned below f e)
+    (goes_on (10 - length (reverse below)) [] None [] (depth_of below f e fits) has w.ends rest)
 
 -- at a line that cannot be read the file ends, and Git stops
 pub invalid : (contents : List ℕ → Content → Type 0) (known : Known) (old below : List Frame) (f : Frame)
@@ -87,21 +90,12 @@ goes_in : {contents : List ℕ → Content → Type 0} {known : Known} {f next e
     → ((left : List Entry) (error : Option FileError) → HasLeft entered.entries left error → IsFile text left error)
     → LeftOf contents known (entered ∷ next ∷ below) items whole
     → LeftOf contents known (f ∷ below) (in_file f.place (Found (entry_of entry)) ∷ items) whole
-goes_in {contents = contents} {known = known} {f = f} {entered = entered} {below = below} entry text gives same is said
-    reads (goes_on less inside end1 within deep1 has1 walks1
-    (goes_on {rest = others} {whole = whole} depth inner end walked deep has walks rest)) =
-    subst (λ is. LeftOf contents known (f ∷ below) (in_file f.place (Found (entry_of entry)) ∷ is) whole)
-    (append_assoc within walked others)
-    (goes_on depth (entry_of entry ∷ inner) end (in_file f.place (Found (entry_of entry)) ∷ (within ++ walked)) deep
-    (gives inner end has)
-    (w.included less entered.place text inside end1 within is said (reads inside end1 has1) (omega arith) walks1
-    (rw same at walks)) rest)
-goes_in {contents = contents} {known = known} {f = f} {entered = entered} {below = below} entry text gives same is said
-    reads (goes_on less inside end1 within deep1 has1 walks1 (is_cut depth inner end walked deep has walks)) =
-    is_cut depth (entry_of entry ∷ inner) end (in_file f.place (Found (entry_of entry)) ∷ (within ++ walked)) deep
-    (gives inner end has)
-    (w.included less entered.place text inside end1 within is said (reads inside end1 has1) (omega arith) walks1
-    (rw same at walks))
+goes_in {f = f} {entered = entered} entry text gives same is said reads
+    (goes_on less inside end1 within deep1 has1 walks1 left) =
+    passes entry (in_file f.place (Found (entry_of entry)) ∷ within) gives same
+    (λ depth entries error more whole deep walks.
+    w.included less entered.place text inside end1 within is said (reads inside end1 has1) (omega arith)
+    walks1 walks) left
 goes_in {f = f} {next = next} {entered = entered} {below = below} entry text gives same is said reads
     (is_cut less inside end1 within deep1 has1 walks1) =
     let (inner, end, has) = some_left next.entries in
@@ -131,30 +125,38 @@ enters old new place text reader fresh begins e = (
   λ left error has. file_begins reader text left error fresh begins has,
 )
 
--- a whole walk is one that may be cut
-may_be_cut : {contents : List ℕ → Content → Type 0} {known : Known} {depth : ℕ} {place : FilePlace}
-    {entries : List Entry} {error : Option FileError} {items : List (List ℕ × Item)} {whole : Bool}
-    → Walks contents known depth place entries error items true
-    → Walks contents known depth place entries error items whole
-may_be_cut w.ends = w.ends
-may_be_cut w.line = w.line
-may_be_cut (w.plain not walks) = w.plain not (may_be_cut walks)
-may_be_cut (w.missing name is has walks) = w.missing name is has (may_be_cut walks)
-may_be_cut (w.included less at text inner end within is has reads deep within_walks walks) =
-    w.included less at text inner end within is has reads deep within_walks (may_be_cut walks)
-may_be_cut (w.no_value is walks) = w.no_value is (may_be_cut walks)
-may_be_cut (w.unknown is walks) = w.unknown is (may_be_cut walks)
-may_be_cut (w.not_read name is has walks) = w.not_read name is has (may_be_cut walks)
-may_be_cut (w.too_deep name real_dir text is has deep walks) =
-    w.too_deep name real_dir text is has deep (may_be_cut walks)
+-- a walk over some contents is one over more, and a whole one is one that may be cut
+pub walks_as : {some all : List ℕ → Content → Type 0} {known : Known} {depth : ℕ} {place : FilePlace}
+    {entries : List Entry} {error : Option FileError} {items : List (List ℕ × Item)} {part whole : Bool}
+    → Within some all → (part ≡ false → whole ≡ false) → Walks some known depth place entries error items part
+    → Walks all known depth place entries error items whole
+walks_as more cuts w.cut = rw (cuts refl) w.cut
+walks_as more cuts w.ends = w.ends
+walks_as more cuts w.line = w.line
+walks_as more cuts (w.plain not walks) = w.plain not (walks_as more cuts walks)
+walks_as more cuts (w.missing name is has walks) =
+    w.missing name is (more name w.Missing has) (walks_as more cuts walks)
+walks_as more cuts (w.included less at text inner end within is has reads deep within_walks walks) =
+    w.included less at text inner end within is (more at.name.now _ has) reads deep
+    (walks_as more (λ e. e) within_walks) (walks_as more cuts walks)
+walks_as more cuts (w.cut_within less at text inner end within is has reads deep within_walks) =
+    rw (cuts refl) (w.cut_within less at text inner end within is (more at.name.now _ has) reads deep
+    (walks_as more (λ e. e) within_walks))
+walks_as more cuts (w.no_value is walks) = w.no_value is (walks_as more cuts walks)
+walks_as more cuts (w.unknown is walks) = w.unknown is (walks_as more cuts walks)
+walks_as more cuts (w.not_read name is has walks) =
+    w.not_read name is (more name w.Unreadable has) (walks_as more cuts walks)
+walks_as more cuts (w.too_deep name real_dir text is has deep walks) =
+    w.too_deep name real_dir text is (more name _ has) deep (walks_as more cuts walks)
 
 only : (contents : List ℕ → Content → Type 0) (known : Known) (place : FilePlace) (text : List ℕ) (f : Frame)
     (items : List (List ℕ × Item)) (whole : Bool) → f.place ≡ place
     → ((left : List Entry) (error : Option FileError) → HasLeft f.entries left error → IsFile text left error)
     → LeftOf contents known (f ∷ []) items whole → WalksText contents known place text items whole
-only contents known place text f items whole here reads (goes_on depth inner end within deep has walks nothing) =
+only _ _ place text f items whole here reads (goes_on depth inner end within deep has walks nothing) =
     let ten : depth ≡ 10 = omega arith in
-    (inner, end, reads inner end has, rw append-nil (may_be_cut (rw (ten, here) at walks)))
+    let whole_walk = walks_as {whole = whole} (λ n c is. is) (λ e. absurd (true≢false e)) walks in
+    (inner, end, reads inner end has, rw append-nil (rw (ten, here) at whole_walk))
 only contents known place text f items whole here reads (is_cut depth inner end within deep has walks) =
     let ten : depth ≡ 10 = omega arith in
     (inner, end, reads inner end has, rw (ten, here) at walks)
@@ -182,19 +184,23 @@ cut_here contents known frames fits =
     cut_of (reverse frames) (omega (arith, length-reverse frames))
 
 -- an entry and what it includes are taken off the frames that a loop began with
-module _ (answers : List (List ℕ × Content)) (known : Known) (start old new below : List Frame) (f next : Frame)
+module _
+    (answers : List (List ℕ × Content)) (known : Known) (start old new below : List Frame) (f next : Frame)
     (entry : code.Entry)
-    (from : (items : List (List ℕ × Item)) (whole : Bool) → Left (Said answers) known old items whole → Left (Said answers) known start items whole)
+    (from : (items : List (List ℕ × Item)) (whole : Bool) → Left (Said answers) known old items whole
+    → Left (Said answers) known start items whole)
     (e1 : old ≡ below ++ f ∷ []) (e2 : new ≡ below ++ next ∷ []) (same : next.place ≡ f.place)
     (gives : GivesEntry f.entries (Some (Ok entry)) next.entries) where
   passed : (front : List (List ℕ × Item)) → Precedes (Said answers) known f (reverse below) entry front
       → Passes answers known start front new
   passed front more items whole has =
-      from (front ++ items) whole (rw (turned below f e1) (passes entry front gives same more (rw (turned below next e2) at has)))
+      from (front ++ items) whole (rw (turned below f e1)
+      (passes entry front gives same more (rw (turned below next e2) at has)))
 
   with_stop : (stop : w.Stop) → Precedes (Said answers) known f (reverse below) entry
       (in_file f.place (Found (entry_of entry)) ∷ in_file f.place (Stops stop) ∷ [])
-      → Passes answers known start (in_file f.place (Found (entry_of entry)) ∷ in_file f.place (Stops stop) ∷ []) new
+      → Passes answers known start
+      (in_file f.place (Found (entry_of entry)) ∷ in_file f.place (Stops stop) ∷ []) new
   with_stop stop = passed (in_file f.place (Found (entry_of entry)) ∷ in_file f.place (Stops stop) ∷ [])
 
   at_end : length new ≡ 11 → (depth : ℕ) → length (reverse below) + depth ≡ 10 → depth ≡ 0
@@ -215,8 +221,10 @@ module _ (answers : List (List ℕ × Content)) (known : Known) (start old new b
         let below_next : LeftOf (Said answers) known (g ∷ next ∷ reverse below) items whole =
         rw (turned below next e2) at (rw (turned new g e3) at has) in
         from _ _ (rw (turned below f e1) (goes_in entry text gives same
-        (subst (λ n. IncludesFile known f.place (entry_of entry) n) (sym named ∙ ap (λ p. p.name.now) (sym here)) is)
-        (subst (λ p. Said answers p.name.now (w.Text p.real_dir.now text)) (sym here) said) reads below_next));
+        (subst (λ n. IncludesFile known f.place (entry_of entry) n)
+        (sym named ∙ ap (λ p. p.name.now) (sym here)) is)
+        (subst (λ p. Said answers p.name.now (w.Text p.real_dir.now text)) (sym here) said) reads
+        below_next));
   }
 
   pub takes : (include : Include) → IsInclude known f.place (entry_of entry) include

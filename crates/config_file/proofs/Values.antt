@@ -40,7 +40,8 @@ passed_more {rest = rest} {value = value} {held = held} piece passed e spells =
 
 pub passed_quote : {text rest : List ℕ} {q : Bool} {b : ℕ} (at : List ℕ) → PassedValue text q at
     → at ≡ b ∷ rest → b ≡ 34 → PassedValue text (not q) rest
-passed_quote {b = b} at passed e is_quote = passed_more (b ∷ []) passed e (λ more spelled o h. quote is_quote h)
+passed_quote {b = b} at passed e is_quote =
+    passed_more (b ∷ []) passed e (λ more spelled o h. quote is_quote h)
 
 pub passed_escape : {text rest after : List ℕ} {q : Bool} {b : ℕ} (at : List ℕ) → PassedValue text q at
     → at ≡ b ∷ rest → b ≡ 92

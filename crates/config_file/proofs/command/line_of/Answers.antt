@@ -13,8 +13,10 @@ returns-in_err-line c =
 
 pub returns-in-Some : goal.returns-in-Some
 returns-in-Some c =
-    let adds = rw c.in-Some.is at c.in_ok-line.ensures.adds in (
-      record { key = key_of c.in-Ok.parts; is_key = c.in-Ok.ensures; no_nul = or_from _ _ (sym c.has_nul.ensures ∙ c.if-has_nul.false) (sym c.some_has_nul.ensures ∙ c.if-some_has_nul.false) },
+    let adds = rw c.in-Some.is at c.in_ok-line.ensures.adds in
+    let first = sym c.has_nul.ensures ∙ c.if-has_nul.false in
+    let second = sym c.some_has_nul.ensures ∙ c.if-some_has_nul.false in (
+      record { key = key_of c.in-Ok.parts; is_key = c.in-Ok.ensures; no_nul = or_from _ _ first second },
       adds_one (key_value c.args.key.now (option_copied c.args.value)) c.in-Some.line.items c.in-Ok.ensures
           c.section-section.ensures c.subsection-subsection.ensures c.name.ensures adds,
     )
@@ -23,4 +25,5 @@ pub returns-in-None : goal.returns-in-None
 returns-in-None c =
     let lacks = rw c.in-None.is at c.in_ok-line.ensures.adds in
     absurd (never_refused (option_copied c.args.value) c.in-Ok.ensures c.section-section.ensures
-    c.subsection-subsection.ensures c.name.ensures (sym c.has_nul.ensures ∙ c.if-has_nul.false) (sym c.some_has_nul.ensures ∙ c.if-some_has_nul.false) lacks)
+    c.subsection-subsection.ensures c.name.ensures (sym c.has_nul.ensures ∙ c.if-has_nul.false)
+    (sym c.some_has_nul.ensures ∙ c.if-some_has_nul.false) lacks)

@@ -43,8 +43,8 @@ parameters-preserved c =
     let (white, run) = c.after_white-at.ensures.run in
     let pushed = c.in_ok-push_parameter.ensures in
     record {
-      done = settings_next c.args.parameters.now takes run c.parameters.lines.items c.push_parameter.new.lines.items
-          c.parameters.invariant.done pushed;
+      done = settings_next c.args.parameters.now takes run c.parameters.lines.items
+          c.push_parameter.new.lines.items c.parameters.invariant.done pushed;
       refused = refused_later c.args.parameters.now takes run c.parameters.lines.items
           c.push_parameter.new.lines.items c.parameters.invariant.refused pushed;
     }

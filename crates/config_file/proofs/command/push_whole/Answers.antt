@@ -16,4 +16,5 @@ returns c =
     let (rest, run, value) = c.cut.ensures in
     let some : c.cut.result.0.now ≢ [] = some_left _ (search rules) in
     let here = rw c.deref.ensures.value at run in
-    whole_pushed c.args.lines.now.items c.push_setting.new.text.items (option_copied c.cut.result.1) c.push_setting.result here value some c.push_setting.ensures
+    whole_pushed c.args.lines.now.items c.push_setting.new.text.items (option_copied c.cut.result.1)
+    c.push_setting.result here value some c.push_setting.ensures

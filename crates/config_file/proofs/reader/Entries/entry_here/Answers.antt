@@ -6,12 +6,12 @@ use Rattle.config_file.proofs.reader.Entries.entry_here.Goals as goal
 pub overflow_add-self : goal.overflow_add-self
 overflow_add-self c =
     let (b, rest, is, letter) = c.requires in
-    omega (arith, entry_bound_at c.args.self.now.rest.now is letter c.in-Ok.ensures, c.args.self.now.line_fits)
+    omega (arith, entry_bound_at _ is letter c.in-Ok.ensures, c.args.self.now.line_fits)
 
 pub invariant_of-self : goal.invariant_of-self
 invariant_of-self c =
     let (b, rest, is, letter) = c.requires in
-    omega (arith, entry_bound_at c.args.self.now.rest.now is letter c.in-Ok.ensures, c.args.self.now.line_fits)
+    omega (arith, entry_bound_at _ is letter c.in-Ok.ensures, c.args.self.now.line_fits)
 
 pub refused-requires : goal.refused-requires
 refused-requires c = omega (arith, entry_stops_bound c.in-Err.ensures, c.args.self.now.line_fits)

@@ -9,8 +9,8 @@ pub items-preserved-then-is_blank : goal.items-preserved-then-is_blank
 items-preserved-then-is_blank c =
     let all = ap length c.in-Some.ensures in
     record {
-      same =
-          λ left error h. c.items.invariant.same left error (rw c.in-Some.ensures (file.blank {b = c.in-Some.byte} (search rules) h));
+      same = λ left error h. c.items.invariant.same left error
+          (rw c.in-Some.ensures (file.blank {b = c.in-Some.byte} (search rules) h));
       shorter = omega arith;
     }
 
@@ -18,8 +18,8 @@ pub items-preserved-then-byte-eq10 : goal.items-preserved-then-byte-eq10
 items-preserved-then-byte-eq10 c =
     let all = ap length c.in-Some.ensures in
     record {
-      same =
-          λ left error h. c.items.invariant.same left error (rw c.in-Some.ensures (file.line_end c.if-byte-eq10.true h));
+      same = λ left error h. c.items.invariant.same left error
+          (rw c.in-Some.ensures (file.line_end c.if-byte-eq10.true h));
       shorter = omega arith;
     }
 
@@ -28,8 +28,8 @@ items-preserved-then-is_comment_sign c =
     let all = ap length c.in-Some.ensures in
     let less = run_shortens c.run.ensures in
     record {
-      same =
-          λ left error h. c.items.invariant.same left error (rw c.in-Some.ensures (file.comment {b = c.in-Some.byte} (search rules) c.run.ensures h));
+      same = λ left error h. c.items.invariant.same left error
+          (rw c.in-Some.ensures (file.comment {b = c.in-Some.byte} (search rules) c.run.ensures h));
       shorter = omega arith;
     }
 
@@ -45,8 +45,8 @@ items-preserved c =
     let less = header_shortens c.in-Ok.ensures in
     let all = ap length c.in-Some.ensures in
     record {
-      same =
-          λ left error h. c.items.invariant.same left error (rw c.in-Some.ensures (file.header c.if-byte-eq91.true c.in-Ok.ensures h));
+      same = λ left error h. c.items.invariant.same left error
+          (rw c.in-Some.ensures (file.header c.if-byte-eq91.true c.in-Ok.ensures h));
       shorter = omega arith;
     }
 
