@@ -1,11 +1,11 @@
 -- A configuration file, and a line that is appended to it.
 use Rattle.std.proofs.Common.{◌≡◌, ◌≢◌, ℕ, ◌+◌, Bool, true, List, [], ◌∷◌, ◌++◌, Option, None, refl, sym, ap}
-use Rattle.std.proofs.Common.{◌∙◌, subst, append_assoc, append-nil, arith, inl, inr, ◌⊎◌}
+use Rattle.std.proofs.Common.{◌∙◌, subst, append_assoc, append-nil, arith, inl, inr}
 use Rattle.std.specs.List.{list_all}
 use Rattle.std.proofs.lemmas.List.Folds.{list_all-append}
 use Rattle.std.proofs.lemmas.Bool.Decides.{nat_tests}
 use Rattle.config_file.specs.Bytes.{is_comment_byte, is_comment_sign, is_name_byte, is_blank, is_key_byte}
-use Rattle.config_file.specs.Bytes.{is_space, is_text_byte, is_plain_in_quotes, IsAtLineEnd}
+use Rattle.config_file.specs.Bytes.{is_space, IsAtLineEnd}
 use Rattle.config_file.specs.Runs.{Run, StopsRun}
 use Rattle.config_file.specs.Subsection as sub
 use Rattle.config_file.specs.Subsection.{SpellsSubsection}

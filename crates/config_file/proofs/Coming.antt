@@ -1,5 +1,5 @@
 -- A loop over the steps of a walk, which adds settings.
-use Rattle.std.proofs.Common.{arith, inl, inr, ◌≡◌, ◌≤◌, ◌++◌, ◌∙◌, ℕ, Bool, true, false, List, [], ◌∷◌}
+use Rattle.std.proofs.Common.{arith, inl, inr, ◌≡◌, ◌≤◌, ◌++◌, ℕ, Bool, true, false, List, [], ◌∷◌}
 use Rattle.std.proofs.Common.{subst, refl, sym, length, map}
 use Rattle.std.specs.Prelude.{Ok, Err}
 use Rattle.std.proofs.lemmas.Bool.{true≢false, false≢true}
@@ -7,11 +7,11 @@ use Rattle.std.proofs.lemmas.List.{append_assoc, append-nil, map-append}
 use Rattle.std.proofs.lemmas.List.Elements.{Contains-push, Contains-append_left, Contains-append_right}
 use Rattle.std.proofs.lemmas.List.Elements.{Contains-append_cases, Contains-push_cases}
 use Rattle.config_file.specs.File.{Entry}
-use Rattle.config_file.specs.Settings.{AddsEach, AddsWalk, IsFaultOf, TellsStop, found_item, IsPassed}
+use Rattle.config_file.specs.Settings.{AddsEach, AddsWalk, TellsStop, found_item, IsPassed}
 use Rattle.config_file.specs.Settings.{IsEntered, IsStop}
 use Rattle.config_file.specs.Walk.{Content, Item, Stops, Stop, Walks, WalksText}
 use Rattle.config_file.specs.Walk as w
-use Rattle.config_file.specs.Reading.Adds.{Within, Comes, AddsNext}
+use Rattle.config_file.specs.Reading.Adds.{Comes, AddsNext}
 use Rattle.config_file.specs.Reading.Walks.{Left, nothing, Enters, Passes, Said, Takes}
 use Rattle.config_file.specs.Views.{entry_of}
 use Rattle.config_file.specs.declared.entry.Entry as code

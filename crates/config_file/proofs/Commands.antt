@@ -1,5 +1,5 @@
 -- The settings of a command.
-use Rattle.std.proofs.Common.{◌≡◌, ◌≢◌, ℕ, ◌+◌, ◌-◌, ◌*◌, ◌^◌, ◌<◌, ◌≤◌, Bool, true, false, not, ◌||◌, List}
+use Rattle.std.proofs.Common.{◌≡◌, ◌≢◌, ℕ, ◌+◌, ◌-◌, ◌*◌, ◌^◌, ◌<◌, ◌≤◌, Bool, true, false, not, List}
 use Rattle.std.proofs.Common.{[], ◌∷◌, ◌++◌, Option, Some, None, take, drop, get_or, Result, Ok, Err}
 use Rattle.std.proofs.Common.{MatchResult, IsTrue, ◌↔◌, length, refl, sym, ap, ◌∙◌, subst, append_assoc}
 use Rattle.std.proofs.Common.{append-nil, arith, inl, inr, ◌⊎◌, ◌==◌}
@@ -20,11 +20,9 @@ use Rattle.config_file.proofs.LineEnds.{all_more}
 use Rattle.std.proofs.lemmas.Bool.Decides.{nat_tests}
 use Rattle.config_file.specs.Bytes.{is_key_byte, is_name_byte, is_text_byte}
 use Rattle.config_file.specs.Runs.{Run}
-use Rattle.config_file.specs.Header.{Section, BeginsWithout}
-use Rattle.config_file.specs.File.{IsFile}
+use Rattle.config_file.specs.Header.{BeginsWithout}
 use Rattle.config_file.specs.Key.{Key, key, IsKey, IsAccepted, dotted, is_name}
-use Rattle.config_file.specs.Spelling.{SpellsSection, HasNoHeader, IsNoKey, LacksSpelling, IsEntry, AddsEntry}
-use Rattle.config_file.specs.Spelling.{EndsLine}
+use Rattle.config_file.specs.Spelling.{HasNoHeader, IsNoKey, LacksSpelling, IsEntry, AddsEntry}
 use Rattle.config_file.specs.Reading.Spellings.{is_section, is_key, is_spellable, is_spellable_or_absent}
 use Rattle.config_file.specs.Command.{goes_on, Quotes, closes, escaped, plain, TakesQuoted, opens}
 use Rattle.config_file.specs.Command.{EndsParameter, AfterEquals, absent, present, TakesParameter, text_alone}

@@ -1,11 +1,9 @@
 -- Headers, from the parts that the reader takes.
-use Rattle.std.proofs.Common.{◌≡◌, ◌≢◌, ℕ, List, [], ◌∷◌, refl, subst, None}
-use Rattle.config_file.specs.declared.errors.FileFault.TheVariants.{BadLine}
+use Rattle.std.proofs.Common.{◌≡◌, ◌≢◌, ℕ, List, [], ◌∷◌, refl}
 use Rattle.config_file.specs.Bytes.{is_name_byte, is_blank}
 use Rattle.config_file.specs.Runs.{Run, StopsRun}
-use Rattle.config_file.specs.Subsection.{TakesSubsection}
-use Rattle.config_file.specs.Header.{fault_at, BeginsWithout, ClosesSubsection, closes, OpensSubsection}
-use Rattle.config_file.specs.Header.{Header, plain, NameStops, at_end, empty, not_closed}
+use Rattle.config_file.specs.Header.{fault_at, BeginsWithout, OpensSubsection}
+use Rattle.config_file.specs.Header.{NameStops, empty, not_closed}
 
 pub name_stops_empty : (name after : List ℕ) → after ≢ [] → name ≡ []
     → NameStops name after 0 (fault_at after)

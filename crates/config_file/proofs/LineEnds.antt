@@ -3,9 +3,9 @@ use Rattle.std.proofs.Common.{◌≡◌, ◌≢◌, ℕ, ◌+◌, Bool, true, fa
 use Rattle.std.proofs.Common.{◌∙◌, arith, inl, inr, ◌⊎◌, ◌==◌}
 use Rattle.std.specs.List.{list_all}
 use Rattle.std.proofs.lemmas.List.Sums.{sum_by-cons, sum_by-append}
-use Rattle.std.proofs.lemmas.Bool.{cases_Bool, true≢false}
+use Rattle.std.proofs.lemmas.Bool.{true≢false}
 use Rattle.std.proofs.lemmas.Bool.Decides.{nat_tests}
-use Rattle.config_file.specs.Bytes.{is_comment_byte, is_plain, is_blank}
+use Rattle.config_file.specs.Bytes.{is_comment_byte}
 use Rattle.config_file.specs.Value.{Ending, Spells, ends_outside, ends_inside, ends_at_backslash, quote}
 use Rattle.config_file.specs.Value.{escaped, continued, continued_after_return, blank, plain, line_feeds}
 use Rattle.config_file.specs.Spelling.{is_continued, HasLineEnd, EndsLine}

@@ -1,6 +1,6 @@
 -- At the start of a text there is at most one entry or place at which the reading stops.
 use Rattle.std.proofs.Common.{◌≡◌, ◌∙◌, ◌==◌, ℕ, false, List, [], ◌∷◌, Option, Some, None, Result, Ok, Err}
-use Rattle.std.proofs.Common.{refl, sym, ap, take, drop, if◌then◌else◌}
+use Rattle.std.proofs.Common.{sym, ap, take, drop, if◌then◌else◌}
 use Rattle.std.specs.List.{prefix_len}
 use Rattle.config_file.proofs.OneRun.{run_only}
 use Rattle.config_file.proofs.Runs.{run_split}

@@ -1,15 +1,14 @@
 -- After an `=`, a text has at most one value or place at which the reading stops.
 use Rattle.std.proofs.Common.{◌≡◌, ◌≢◌, ℕ, zero, suc, ◌+◌, ◌≤◌, Bool, true, false, not, ◌==◌, List, [], ◌∷◌}
 use Rattle.std.proofs.Common.{◌++◌, Option, Some, None, is_some, Result, Ok, Err, length, refl, sym, ap, ◌∙◌}
-use Rattle.std.proofs.Common.{subst, arith, if◌then◌else◌, append-nil, eqb-true, inl, inr, ◌⊎◌}
+use Rattle.std.proofs.Common.{subst, arith, if◌then◌else◌, append-nil, inl, inr, ◌⊎◌}
 use Rattle.std.proofs.lemmas.List.{append_assoc, length-append}
-use Rattle.std.proofs.lemmas.Bool.{cases_Bool}
 use Rattle.std.proofs.lemmas.Bool.Decides.{nat_tests}
 use Rattle.config_file.proofs.OneRun.{before, before_is}
 use Rattle.config_file.proofs.Pick.{pick, pick_first, pick_third, equal, test_false}
 use Rattle.config_file.specs.declared.errors.FileFault.{FileFault}
 use Rattle.config_file.specs.declared.errors.FileFault.TheVariants.{BadLine, Nul}
-use Rattle.config_file.specs.Bytes.{is_text_byte, is_plain, is_blank, is_comment_sign, EndsText}
+use Rattle.config_file.specs.Bytes.{is_plain, is_blank, is_comment_sign, EndsText}
 use Rattle.config_file.specs.Header.{fault_at}
 use Rattle.config_file.specs.Value as value
 use Rattle.config_file.specs.Value.{Ending, outside, inside, at_backslash, Spells, TakesValue, ValueStops}

@@ -1,6 +1,6 @@
 -- How far a pattern has matched a text, and why an earlier star need not be tried again.
 use Rattle.std.proofs.Common.{◌≡◌, ◌≢◌, ℕ, Bool, true, false, not, ◌||◌, ◌==◌, List, [], ◌∷◌, refl, sym, ◌∙◌}
-use Rattle.std.proofs.Common.{subst, arith, inl, inr, ◌⊎◌, ◌↔◌, length, ◌≤◌, ◌<◌}
+use Rattle.std.proofs.Common.{subst, arith, inl, inr, ◌↔◌, length, ◌≤◌, ◌<◌}
 use Rattle.std.proofs.lemmas.Bool.{true≢false}
 use Rattle.config_file.specs.Runs.{Run}
 use Rattle.config_file.specs.Set.{slash}

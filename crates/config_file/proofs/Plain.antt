@@ -9,7 +9,7 @@ use Rattle.config_file.proofs.Spelled.{after_held, after_blanks, after_plain, wo
 use Rattle.config_file.proofs.Spelled.{word_no_backslash}
 use Rattle.config_file.specs.Bytes.{is_blank}
 use Rattle.config_file.specs.Runs.{Run, StopsRun}
-use Rattle.config_file.specs.Value.{Spells, itself, kept}
+use Rattle.config_file.specs.Value.{kept}
 use Rattle.config_file.specs.Reading.Scans.{PassedPlain, is_word_byte}
 
 pub passed_start : {raw blanks start : List ℕ} → Run is_blank raw blanks start → PassedPlain raw start start 0

@@ -1,5 +1,5 @@
 -- Entries and their keys, from the runs that the reader takes.
-use Rattle.std.proofs.Common.{◌≡◌, ℕ, List, ◌∷◌, subst}
+use Rattle.std.proofs.Common.{ℕ, List}
 use Rattle.config_file.specs.Bytes.{is_key_byte, is_space}
 use Rattle.config_file.specs.Runs.{Run}
 use Rattle.config_file.specs.File.{TakesKey}

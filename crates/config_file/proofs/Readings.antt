@@ -1,15 +1,14 @@
 -- The reader, item by item.
 use Rattle.std.proofs.Common.{◌≡◌, ◌≢◌, ℕ, ◌+◌, true, false, List, [], ◌∷◌, Option, Some, None, Result, Ok}
-use Rattle.std.proofs.Common.{Err, sym, ap, ◌∙◌, subst, arith}
+use Rattle.std.proofs.Common.{Err, ap, ◌∙◌, arith}
 use Rattle.std.proofs.lemmas.Bool.Decides.{nat_tests}
 use Rattle.std.specs.Char.{is_ascii_alphabetic}
 use Rattle.config_file.specs.declared.errors.FileError.{FileError}
 use Rattle.config_file.specs.declared.errors.FileFault.{FileFault}
 use Rattle.config_file.specs.declared.entry.Entry as code
 use Rattle.config_file.specs.declared.reader.Entries as reader
-use Rattle.config_file.specs.Bytes.{is_blank, is_comment_sign, is_comment_byte}
-use Rattle.config_file.specs.Runs.{Run}
-use Rattle.config_file.specs.Header.{Section, Header, HeaderStops, fault_at}
+use Rattle.config_file.specs.Bytes.{is_blank, is_comment_sign}
+use Rattle.config_file.specs.Header.{Section, HeaderStops, fault_at}
 use Rattle.config_file.specs.File as file
 use Rattle.config_file.specs.File.{Entry, TakesEntry, EntryStops, Reads, begins_item}
 use Rattle.config_file.specs.Left.{HasLeft, GivesEntry}

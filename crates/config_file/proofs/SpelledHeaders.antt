@@ -1,6 +1,6 @@
 -- Spellings of headers and keys.
 use Rattle.std.proofs.Common.{◌≡◌, ◌≢◌, ℕ, true, false, not, ◌||◌, List, [], ◌∷◌, ◌++◌, Option, Some, None}
-use Rattle.std.proofs.Common.{length, ◌+◌, refl, sym, ◌∙◌, subst, append_assoc, arith, inl, inr, ◌==◌}
+use Rattle.std.proofs.Common.{length, refl, sym, ◌∙◌, subst, append_assoc, arith, inl, inr, ◌==◌}
 use Rattle.std.specs.List.{list_all}
 use Rattle.std.specs.Char.{is_ascii_alphabetic}
 use Rattle.std.proofs.lemmas.Bool.{cases_Bool, true≢false}

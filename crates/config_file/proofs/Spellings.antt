@@ -7,7 +7,7 @@ use Rattle.std.specs.List.{flat_map, list_any}
 use Rattle.std.proofs.lemmas.List.Folds.{list_all-append}
 use Rattle.std.proofs.lemmas.Bool.{cases_Bool, true≢false, or_parts}
 use Rattle.std.proofs.lemmas.Bool.Decides.{nat_tests}
-use Rattle.config_file.specs.Bytes.{is_plain, is_blank}
+use Rattle.config_file.specs.Bytes.{is_plain}
 use Rattle.config_file.specs.Value.{Ending, outside, Spells, itself, as_space, ends_outside, ends_inside}
 use Rattle.config_file.specs.Value.{ends_at_backslash, quote, escaped, continued, continued_after_return}
 use Rattle.config_file.specs.Value.{blank, plain, kept, escape}

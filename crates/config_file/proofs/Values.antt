@@ -1,6 +1,6 @@
 -- The scan of a value.
 use Rattle.std.proofs.Common.{◌≡◌, ◌≢◌, ℕ, ◌+◌, Bool, true, false, not, List, [], ◌∷◌, ◌++◌, Option, Some}
-use Rattle.std.proofs.Common.{None, is_some, refl, sym, ap, ◌∙◌, subst, append_assoc, append-nil, arith, inl}
+use Rattle.std.proofs.Common.{None, is_some, refl, sym, ap, ◌∙◌, append_assoc, append-nil, arith, inl}
 use Rattle.std.proofs.Common.{inr, ◌⊎◌, ◌==◌}
 use Rattle.std.proofs.lemmas.List.{append_cancel_right}
 use Rattle.std.specs.List.{list_all}
@@ -11,8 +11,8 @@ use Rattle.config_file.specs.Bytes.{is_plain, is_blank, is_comment_sign, is_comm
 use Rattle.config_file.specs.Header.{fault_at}
 use Rattle.config_file.specs.Value.{Ending, outside, inside, at_backslash, Spells, itself, ends_outside}
 use Rattle.config_file.specs.Value.{ends_inside, ends_at_backslash, quote, escaped, continued}
-use Rattle.config_file.specs.Value.{continued_after_return, blank, plain, SpellsValue, IsPart, EndsValue}
-use Rattle.config_file.specs.Value.{IsNoEscape, line_feeds, kept, escape}
+use Rattle.config_file.specs.Value.{continued_after_return, blank, plain, IsPart, EndsValue}
+use Rattle.config_file.specs.Value.{IsNoEscape, line_feeds, escape}
 use Rattle.config_file.specs.Value.{TakesValue, closed, open_end, ValueStops, nul, unclosed}
 use Rattle.config_file.specs.Value.{unclosed_open_end, no_escape}
 use Rattle.config_file.specs.Reading.Scans.{PassedValue, OnOneLine, EndsScan, Escapes, letter, line}

@@ -1,6 +1,5 @@
-use Rattle.std.proofs.Common.{◌≡◌, ◌≢◌, [], refl, subst, rules, option_copied}
-use Rattle.config_file.specs.Runs.{Run}
-use Rattle.config_file.specs.Command.{is_no_equals, no_key}
+use Rattle.std.proofs.Common.{◌≡◌, ◌≢◌, [], refl, rules, option_copied}
+use Rattle.config_file.specs.Command.{no_key}
 use Rattle.std.proofs.lemmas.List.{nil_from_length}
 use Rattle.config_file.proofs.Commands.{keyless, whole_pushed, some_left}
 use Rattle.config_file.proofs.command.push_whole.Goals as goal

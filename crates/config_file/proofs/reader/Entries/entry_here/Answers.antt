@@ -1,4 +1,4 @@
-use Rattle.std.proofs.Common.{arith, length, ◌+◌, ◌<◌, ◌^◌}
+use Rattle.std.proofs.Common.{arith}
 use Rattle.config_file.proofs.Bounds.{entry_bound_at, entry_shortens, entry_stops_bound}
 use Rattle.config_file.proofs.Readings.{at_entry, entry_refused}
 use Rattle.config_file.proofs.reader.Entries.entry_here.Goals as goal

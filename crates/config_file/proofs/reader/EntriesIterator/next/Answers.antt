@@ -1,4 +1,4 @@
-use Rattle.std.proofs.Common.{arith, rules, length, ap, ◌+◌, ◌<◌, ◌^◌, ◌∙◌, []}
+use Rattle.std.proofs.Common.{arith, rules, length, ap, ◌∙◌, []}
 use Rattle.config_file.specs.File as file
 use Rattle.config_file.proofs.Bounds.{header_shortens, header_stops_soon, run_shortens}
 use Rattle.config_file.proofs.Readings.{header_refused, no_item}
