@@ -4,7 +4,7 @@ use Rattle.std.proofs.Common.{Result, Ok, Err, length, take, drop, refl, arith, 
 use Rattle.std.specs.List.{prefix_len}
 use Rattle.std.specs.Char.{is_ascii_alphabetic}
 use Rattle.config_file.proofs.Runs.{run_split}
-use Rattle.config_file.proofs.Pick.{cases, option_cases, Decided, equal, both, either}
+use Rattle.config_file.proofs.Pick.{cases, option_cases, Decided, equal, both, either, line_end_decided}
 use Rattle.config_file.proofs.Headers.{no_blanks, opened}
 use Rattle.config_file.proofs.Readings.{begins_none}
 use Rattle.config_file.proofs.Bounds.{header_shortens, entry_shortens, run_shortens}
@@ -29,11 +29,6 @@ use Rattle.config_file.specs.File.{Entry, TakesKey, Reads, IsFile, Begins, after
 
 pub not_empty : (b : ℕ) (rest : List ℕ) → b ∷ rest ≢ []
 not_empty b rest e = cc
-
-abbrev line_end_decided : (rest : List ℕ) → Decided (IsAtLineEnd rest)
-line_end_decided [] = inl tt
-line_end_decided (a ∷ []) = equal a 10
-line_end_decided (a ∷ b ∷ rest) = either (equal a 10) (both (equal a 13) (equal b 10))
 
 abbrev ClosingIs : List ℕ → Result (List ℕ × List ℕ) (ℕ × FileFault) → Type 0
 ClosingIs text (Ok p) = ClosesSubsection text p.0 p.1

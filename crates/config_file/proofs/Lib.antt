@@ -12,6 +12,7 @@ pub mod Keys
 pub mod OneKey
 pub mod EachListed
 pub mod OneRun
+pub mod Scan
 pub mod OneSubsection
 pub mod Pick
 pub mod OneValue

@@ -2,12 +2,12 @@
 use Rattle.std.proofs.Common.{◌≡◌, ◌∙◌, ◌==◌, ℕ, false, List, [], ◌∷◌, Option, Some, None, Result, Ok, Err}
 use Rattle.std.proofs.Common.{sym, ap, take, drop, if◌then◌else◌}
 use Rattle.std.specs.List.{prefix_len}
+use Rattle.std.proofs.Common.{arith, inl, inr}
 use Rattle.config_file.proofs.OneRun.{run_only}
 use Rattle.config_file.proofs.Runs.{run_split}
-use Rattle.config_file.proofs.OneHeader.{ends_line, at_line_end, not_at_line_end}
 use Rattle.config_file.proofs.OneValue as one_value
 use Rattle.config_file.proofs.OneValue.{ValueHas, value_of, value_is}
-use Rattle.config_file.proofs.Pick.{test_false}
+use Rattle.config_file.proofs.Pick.{choose, chosen, not_chosen, line_end_decided, test_false}
 use Rattle.config_file.specs.declared.errors.FileFault.{FileFault}
 use Rattle.config_file.specs.Bytes.{IsAtLineEnd, is_key_byte, is_space}
 use Rattle.config_file.specs.Header.{BeginsWithout, fault_at}
@@ -28,7 +28,7 @@ after_key key (b ∷ after) =
     if b == 61 then with_key key (value_of after) else Err (0, fault_at (b ∷ after))
 
 abbrev ends_of : List ℕ → List ℕ → Outcome
-ends_of key rest = if ends_line rest then Ok (key, None, 0, rest) else after_key key rest
+ends_of key rest = choose (line_end_decided rest) (Ok (key, None, 0, rest)) (after_key key rest)
 
 abbrev after_spaces : List ℕ → List ℕ → Outcome
 after_spaces key spaced = ends_of key (drop (prefix_len is_space spaced) spaced)
@@ -45,18 +45,26 @@ ends_at {text = text} {key = key} {rest = rest} takes =
     let second : after_spaces key takes.spaced ≡ entry_of text = rw (keys, spaceds) in
     first ∙ second
 
-not_line_end : (b : ℕ) (after : List ℕ) → b ≡ 61 → ends_line (b ∷ after) ≡ false
-not_line_end b [] is = rw is
-not_line_end b (c ∷ after) is = rw is
+no_line_end : (b : ℕ) (after : List ℕ) → b ≡ 61 → IsAtLineEnd (b ∷ after) → ⊥
+no_line_end b [] is h = omega arith
+no_line_end b (c ∷ after) is (inl line) = omega arith
+no_line_end b (c ∷ after) is (inr (return, line)) = omega arith
+
+going : (key rest : List ℕ) → (IsAtLineEnd rest → ⊥) → after_key key rest ≡ ends_of key rest
+going key rest h = sym (not_chosen (line_end_decided rest) (Ok (key, None, 0, rest)) (after_key key rest) h)
 
 valued_ends : (key after : List ℕ) (b : ℕ) (o : one_value.Outcome) → b ≡ 61 → ValueHas after o
     → with_key key o ≡ ends_of key (b ∷ after)
-valued_ends key after b o is has = rw (not_line_end b after is, is) (ap (with_key key) (value_is after o has))
+valued_ends key after b o is has =
+    let here : with_key key o ≡ after_key key (b ∷ after) = rw is (ap (with_key key) (value_is after o has)) in
+    here ∙ going key (b ∷ after) (no_line_end b after is)
 
 stopped_ends : (key rest : List ℕ) → BeginsWithout 61 rest → ¬ (IsAtLineEnd rest)
     → Err (0, fault_at rest) ≡ ends_of key rest
 stopped_ends key [] other h = absurd (h tt)
-stopped_ends key (b ∷ after) other h = rw (not_at_line_end (b ∷ after) h, test_false b 61 other)
+stopped_ends key (b ∷ after) other h =
+    let here : Err (0, fault_at (b ∷ after)) ≡ after_key key (b ∷ after) = rw (test_false b 61 other) in
+    here ∙ going key (b ∷ after) h
 
 abbrev pub EntryHas : List ℕ → Outcome → Type 0
 EntryHas text (Ok p) = TakesEntry text p.0 p.1 p.2 p.3
@@ -64,7 +72,7 @@ EntryHas text (Err stop) = EntryStops text stop.0 stop.1
 
 entry_is : (text : List ℕ) (outcome : Outcome) → EntryHas text outcome → outcome ≡ entry_of text
 entry_is text (Ok (key, v, lines, rest)) (file.alone takes end) =
-    let here : Ok (key, None, 0, rest) ≡ ends_of key rest = rw (at_line_end rest end) in here ∙ ends_at takes
+    sym (chosen (line_end_decided rest) (Ok (key, None, 0, rest)) (after_key key rest) end) ∙ ends_at takes
 entry_is text (Ok (key, v, lines, rest)) (file.valued {b = b} {after = after} {raw = raw} takes is taken) =
     valued_ends key after b (Ok (raw, lines, rest)) is taken ∙ ends_at takes
 entry_is text (Err (lines, fault)) (file.key {key = key} {rest = rest} takes other h) =

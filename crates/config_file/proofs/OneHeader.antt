@@ -4,7 +4,7 @@ use Rattle.std.proofs.Common.{Result, Ok, Err, refl, sym, ap, ◌∙◌, arith, 
 use Rattle.std.proofs.Common.{take, drop}
 use Rattle.std.specs.List.{prefix_len}
 use Rattle.std.proofs.lemmas.Bool.Decides.{nat_tests}
-use Rattle.config_file.proofs.Pick.{pick, test_false}
+use Rattle.config_file.proofs.Pick.{choose, chosen, not_chosen, line_end_decided, test_false}
 use Rattle.config_file.proofs.OneRun.{run_only}
 use Rattle.config_file.proofs.Runs.{run_split}
 use Rattle.config_file.proofs.OneSubsection.{SubsectionHas, subsection_of, subsection_is}
@@ -16,33 +16,12 @@ use Rattle.config_file.specs.Header as header
 use Rattle.config_file.specs.Header.{Section, Header, OpensSubsection, HeaderStops, NameStops}
 use Rattle.config_file.specs.Header.{ClosesSubsection, SubsectionStops, BeginsWithout, fault_at}
 
-abbrev pub ends_line : List ℕ → Bool
-ends_line [] = true
-ends_line (a ∷ []) = a == 10
-ends_line (a ∷ b ∷ rest) = a == 10 || (a == 13 && b == 10)
-
-pub at_line_end : (rest : List ℕ) → IsAtLineEnd rest → ends_line rest ≡ true
-at_line_end [] h = refl
-at_line_end (a ∷ []) h = rw h
-at_line_end (a ∷ b ∷ rest) (inl is) = rw is
-at_line_end (a ∷ b ∷ rest) (inr (is, next)) = rw (is, next)
-
-no_line_end : (a b : ℕ) → a ≢ 10 → (a ≡ 13 → b ≢ 10) → (a == 10 || (a == 13 && b == 10)) ≡ false
-no_line_end a b first second = grind (arith, nat_tests)
-
-pub not_at_line_end : (rest : List ℕ) → (IsAtLineEnd rest → ⊥) → ends_line rest ≡ false
-not_at_line_end [] h = absurd (h tt)
-not_at_line_end (a ∷ []) h = grind (arith, nat_tests)
-not_at_line_end (a ∷ b ∷ rest) h =
-    let first : a ≢ 10 = λ is. h (inl is) in
-    let second : a ≡ 13 → b ≢ 10 = λ is next. h (inr (is, next)) in
-    no_line_end a b first second
-
 -- the outcome after the closing quote
 abbrev close : List ℕ → List ℕ → Result (List ℕ × List ℕ) (ℕ × FileFault)
 close raw [] = Err (1, BadLine)
 close raw (b ∷ rest) =
-    pick (b == 93) (ends_line (b ∷ rest)) (Ok (raw, rest)) (Err (1, BadLine)) (Err (0, fault_at (b ∷ rest)))
+    if b == 93 then Ok (raw, rest)
+    else choose (line_end_decided (b ∷ rest)) (Err (1, BadLine)) (Err (0, fault_at (b ∷ rest)))
 
 abbrev close_subsection : Result (List ℕ × List ℕ) (List ℕ) → Result (List ℕ × List ℕ) (ℕ × FileFault)
 close_subsection (Ok p) = close p.0 p.1
@@ -55,12 +34,16 @@ line_end_no_bracket b (c ∷ rest) (inr (is, next)) = rw is
 
 close_late : (raw rest : List ℕ) → IsAtLineEnd rest → Err (1, BadLine) ≡ close raw rest
 close_late raw [] h = refl
-close_late raw (b ∷ rest) h = rw (line_end_no_bracket b rest h, at_line_end (b ∷ rest) h)
+close_late raw (b ∷ rest) h =
+    let late = chosen (line_end_decided (b ∷ rest)) (Err (1, BadLine)) (Err (0, fault_at (b ∷ rest))) h in
+    rw (line_end_no_bracket b rest h) (sym late)
 
 close_wrong : (raw rest : List ℕ) → BeginsWithout 93 rest → (IsAtLineEnd rest → ⊥)
     → Err (0, fault_at rest) ≡ close raw rest
 close_wrong raw [] other h = absurd (h tt)
-close_wrong raw (b ∷ rest) other h = rw (test_false b 93 other, not_at_line_end (b ∷ rest) h)
+close_wrong raw (b ∷ rest) other h =
+    let wrong = not_chosen (line_end_decided (b ∷ rest)) (Err (1, BadLine)) (Err (0, fault_at (b ∷ rest))) h in
+    rw (test_false b 93 other) (sym wrong)
 
 abbrev closing_of : List ℕ → Result (List ℕ × List ℕ) (ℕ × FileFault)
 closing_of text = close_subsection (subsection_of text)

@@ -14,7 +14,8 @@ use Rattle.config_file.specs.Value as value
 use Rattle.config_file.specs.Value.{Ending, outside, inside, at_backslash, Spells, TakesValue, ValueStops}
 use Rattle.config_file.specs.Value.{IsPart, EndsValue, IsNoEscape, line_feeds, escape}
 use Rattle.config_file.specs.Reading.Scans.{goes_on}
-use Rattle.config_file.proofs.OneSubsection.{long_enough, ends_text_byte}
+use Rattle.config_file.proofs.OneSubsection.{ends_text_byte}
+use Rattle.config_file.proofs.Scan.{Step, stop, Scans, ends, goes, before_stop, stops_after, stops_within}
 
 abbrev step_return : Bool → ℕ → List ℕ → Option (Bool × List ℕ)
 step_return q e [] = None
@@ -28,18 +29,9 @@ step_escape q (e ∷ rest) =
 abbrev step_byte : Bool → ℕ → List ℕ → Option (Bool × List ℕ)
 step_byte q b text = if goes_on q b then Some (q, text) else None
 
-abbrev step : Bool → List ℕ → Option (Bool × List ℕ)
+abbrev step : Step Bool
 step q [] = None
 step q (b ∷ text) = pick (b == 34) (b == 92) (Some (not q, text)) (step_escape q text) (step_byte q b text)
-
-abbrev after_step : (Bool → List ℕ → Bool × List ℕ) → Bool → List ℕ → Option (Bool × List ℕ) → Bool × List ℕ
-after_step more q text None = (q, text)
-after_step more q text (Some p) = more p.0 p.1
-
--- whether the scan is in quotes, and what is left, after n steps or fewer if it stops before
-abbrev stop : ℕ → Bool → List ℕ → Bool × List ℕ
-stop zero q text = (q, text)
-stop (suc n) q text = after_step (stop n) q text (step q text)
 
 abbrev state : Ending → Bool
 state outside = false
@@ -50,32 +42,6 @@ abbrev tail : Ending → List ℕ
 tail outside = []
 tail inside = []
 tail at_backslash = 92 ∷ []
-
-stops_at_once : (n : ℕ) (q : Bool) (text : List ℕ) → step q text ≡ None → stop n q text ≡ (q, text)
-stops_at_once zero q text none = refl
-stops_at_once (suc n) q text none = ap (after_step (stop n) q text) none
-
--- the scan of these bytes goes on piece by piece, whatever follows them, up to these last bytes
-data Scans : Bool → List ℕ → Bool → List ℕ → Type 0 where
-  ends : {q : Bool} {at : List ℕ} → Scans q at q at
-  goes : {q r s : Bool} {b : ℕ} {raw at : List ℕ} (piece : List ℕ) → Scans r raw s at
-      → ((rest : List ℕ) → step q (b ∷ piece ++ rest) ≡ Some (r, rest))
-      → Scans q (b ∷ piece ++ raw) s at
-
-before_stop : {q s : Bool} {raw at : List ℕ} → Scans q raw s at → (front : List ℕ) × (raw ≡ front ++ at)
-before_stop ends = ([], refl)
-before_stop (goes {b = b} {at = at} piece more on) =
-    let (front, e) = before_stop more in
-    (b ∷ piece ++ front, ap (λ x. b ∷ piece ++ x) e ∙ ap (◌∷◌ b) (sym (append_assoc piece front at)))
-
-stops_after : {q s : Bool} {raw at : List ℕ} → Scans q raw s at → (rest : List ℕ) (n : ℕ) → length raw ≤ n
-    → step s (at ++ rest) ≡ None → stop n q (raw ++ rest) ≡ (s, at ++ rest)
-stops_after (ends {q = q} {at = at}) rest n room none = stops_at_once n q (at ++ rest) none
-stops_after (goes piece more on) rest zero room none = absurd (omega arith)
-stops_after (goes {q = q} {b = b} {raw = raw} piece more on) rest (suc n) room none =
-    ap (λ t. stop (suc n) q (b ∷ t)) (append_assoc piece raw rest)
-    ∙ ap (after_step (stop n) q (b ∷ piece ++ (raw ++ rest))) (on (raw ++ rest))
-    ∙ stops_after more rest n (omega (arith, length-append piece raw)) none
 
 abbrev Passes : Bool → ℕ → Type 0
 Passes q b = (goes_on q b ≡ true) × ((b == 34) ≡ false) × ((b == 92) ≡ false)
@@ -92,7 +58,7 @@ step_byte_on q b text (on, no_quote, no_backslash) = rw (no_quote, no_backslash,
 
 -- the scan of the bytes of a value stops after them, or before their last backslash
 scans : {w : ℕ → ℕ} {q : Bool} {so_far raw spelled held : List ℕ} {e : Ending}
-    → Spells w q so_far held raw spelled e → Scans q raw (state e) (tail e)
+    → Spells w q so_far held raw spelled e → Scans step q raw (state e) (tail e)
 scans value.ends_outside = ends
 scans value.ends_inside = ends
 scans (value.ends_at_backslash is) = rw is ends
@@ -135,23 +101,22 @@ abbrev finish_at : List ℕ → Bool × List ℕ → Outcome
 finish_at text place = finish (before text place.1) place.0 place.1
 
 abbrev pub value_of : List ℕ → Outcome
-value_of text = finish_at text (stop (length text) false text)
+value_of text = finish_at text (stop step (length text) false text)
 
 outcome_at : {text : List ℕ} (q : Bool) (raw at : List ℕ) → text ≡ raw ++ at
-    → stop (length text) false text ≡ (q, at) → finish raw q at ≡ value_of text
+    → stop step (length text) false text ≡ (q, at) → finish raw q at ≡ value_of text
 outcome_at {text = text} q raw at joined stops =
     ap (λ x. finish x q at) (before_is raw at text joined) ∙ ap (finish_at text) (sym stops)
 
-part_scans : (q : Bool) (raw : List ℕ) → IsPart q raw → Scans false raw q []
+part_scans : (q : Bool) (raw : List ℕ) → IsPart q raw → Scans step false raw q []
 part_scans true raw (spelled, s) = scans s
 part_scans false raw (spelled, s) = scans s
 
 -- the scan stops after a part of a value if no step goes on there
 outcome_after : {text : List ℕ} (q : Bool) (raw rest : List ℕ) → text ≡ raw ++ rest → IsPart q raw
     → step q rest ≡ None → finish raw q rest ≡ value_of text
-outcome_after {text = text} q raw rest joined part none =
-    let ran = stops_after (part_scans q raw part) rest (length text) (long_enough raw rest joined) none in
-    outcome_at q raw rest joined (subst (λ t. stop (length text) false t ≡ (q, rest)) (sym joined) ran)
+outcome_after q raw rest joined part none =
+    outcome_at q raw rest joined (stops_within rest joined (part_scans q raw part) none)
 
 ends_value_byte : (b : ℕ) → (b ≡ 10) ⊎ (is_comment_sign b ≡ true)
     → ((b == 34) ≡ false) × ((b == 92) ≡ false) × (goes_on false b ≡ false) × ((b == 0) ≡ false)

@@ -2,7 +2,9 @@
 use Rattle.std.proofs.Common.{◌≡◌, ◌==◌, ℕ, Bool, true, false, if◌then◌else◌, ◌⊎◌, inl, inr, refl, Option}
 use Rattle.std.proofs.Common.{Some, None, eqb-true, ◌≢◌, arith}
 use Rattle.std.proofs.lemmas.Bool.Decides.{nat_tests}
+use Rattle.std.proofs.Common.{List, [], ◌∷◌}
 use Rattle.std.proofs.lemmas.Bool.{eqb-false}
+use Rattle.config_file.specs.Bytes.{IsAtLineEnd}
 
 -- a test passes or fails, and an option has a value or none; both compute if the bytes are known
 abbrev pub cases : (b : Bool) → (b ≡ true) ⊎ (b ≡ false)
@@ -32,6 +34,24 @@ abbrev pub either : {P Q : Type 0} → Decided P → Decided Q → Decided (P �
 either (inl p) q = inl (inl p)
 either (inr none) (inl q) = inl (inr q)
 either (inr none) (inr neither) = inr (λ h. elim h [ inl p ↦ none p | inr q ↦ neither q ])
+
+-- one of two values, by whether the claim holds
+abbrev pub choose : {P T : Type 0} → Decided P → T → T → T
+choose (inl is) a b = a
+choose (inr none) a b = b
+
+pub chosen : {P T : Type 0} (d : Decided P) (a b : T) → P → choose d a b ≡ a
+chosen (inl is) a b p = refl
+chosen (inr none) a b p = absurd (none p)
+
+pub not_chosen : {P T : Type 0} (d : Decided P) (a b : T) → (P → ⊥) → choose d a b ≡ b
+not_chosen (inl is) a b off = absurd (off is)
+not_chosen (inr none) a b off = refl
+
+abbrev pub line_end_decided : (rest : List ℕ) → Decided (IsAtLineEnd rest)
+line_end_decided [] = inl tt
+line_end_decided (a ∷ []) = equal a 10
+line_end_decided (a ∷ b ∷ rest) = either (equal a 10) (both (equal a 13) (equal b 10))
 
 abbrev pub pick : {T : Type 0} → Bool → Bool → T → T → T → T
 pick x y a b c = if x then a else if y then b else c

@@ -133,26 +133,28 @@ to_later (inr more) = further_later refl more
 
 -- ---- the next star: what matches from an earlier star's later places matches from this star too
 
-star_from : {i c starts : Bool} {pattern more rest text : List ℕ} → Run is_star pattern more rest
-    → crosses starts more rest ≡ false
-    → Matches i starts (star ∷ pattern) text → FromHere i c false rest text
-star_from {c = c} run short match =
-    elim (stars_inv run match) [
-      | inl (after, crossing, at, m) ↦ absurd (true≢false (sym crossing ∙ short))
-      | inr (left, passed, m) ↦ from_passes (λ b is. passed_any c b is) (rw short at passed) m
-    ]
+module _ {starts : Bool} {pattern more rest : List ℕ} (run : Run is_star pattern more rest) (short : crosses starts more rest ≡ false) where
+  star_from : {i c : Bool} {text : List ℕ} → Matches i starts (star ∷ pattern) text
+      → FromHere i c false rest text
+  star_from {c = c} match =
+      elim (stars_inv run match) [
+        | inl (after, crossing, at, m) ↦ absurd (true≢false (sym crossing ∙ short))
+        | inr (left, passed, m) ↦ from_passes (λ b is. passed_any c b is) (rw short at passed) m
+      ]
 
-star_further : {i c starts : Bool} {pattern more rest text : List ℕ} → Run is_star pattern more rest
-    → crosses starts more rest ≡ false
-    → Further i c starts (star ∷ pattern) text → Further i c false rest text
-star_further run short (next is slashes match) = from_step is (star_from run short match)
-star_further run short (beyond is more) = beyond is (star_further run short more)
+  star_further : {i c : Bool} {text : List ℕ} → Further i c starts (star ∷ pattern) text
+      → Further i c false rest text
+  star_further (next is slashes match) = from_step is (star_from match)
+  star_further (beyond is more) = beyond is (star_further more)
 
-pub star_all : {i c starts : Bool} {pattern more rest text : List ℕ} → Run is_star pattern more rest
-    → crosses starts more rest ≡ false
-    → FromHere i c starts (star ∷ pattern) text → FromHere i c false rest text
-star_all run short (inl m) = star_from run short m
-star_all run short (inr more) = inr (star_further run short more)
+  pub star_all : {i c : Bool} {text : List ℕ} → FromHere i c starts (star ∷ pattern) text
+      → FromHere i c false rest text
+  star_all (inl m) = star_from m
+  star_all (inr more) = inr (star_further more)
+
+  pub short_back : {i : Bool} {text : List ℕ} → MatchesLater i false rest text
+      → MatchesStars i starts pattern text
+  short_back m = stars_later run (rw short m)
 
 -- ---- the next stars that cross directories
 
@@ -161,39 +163,31 @@ slash_here : {i : Bool} {b : ℕ} {rest after text : List ℕ} → rest ≡ slas
     → Matches i false rest (b ∷ text)
 slash_here {i = i} {after = after} at e match = rw (at, e) (one after (byte (slash_stands i)) match)
 
-deep_further : {i starts : Bool} {pattern more rest text : List ℕ} → Run is_star pattern more rest
-    → crosses starts more rest ≡ true
-    → starts ≡ true → Further i true starts (star ∷ pattern) text → MatchesLater i true rest text
-deep_further run long name (next {b = b} {text = text} is slashes match) =
-    elim (stars_inv run match) [
-      | inl (after, crossing, at, m) ↦ (b ∷ text, no_more, slash_here at (slashes name) m)
-      | inr (left, passed, m) ↦ (left, passes refl (rw long at passed), m)
-    ]
-deep_further run long name (beyond is further) =
-    let (left, passed, m) = deep_further run long name further in (left, passes refl passed, m)
-
 crosses_starts : (starts : Bool) (more rest : List ℕ) → crosses starts more rest ≡ true → starts ≡ true
 crosses_starts starts [] rest e = never e
 crosses_starts true (c ∷ more) rest e = refl
 crosses_starts false (c ∷ more) rest e = never e
 
-pub deep_all : {i starts : Bool} {pattern more rest text : List ℕ} → Run is_star pattern more rest
-    → crosses starts more rest ≡ true
-    → FromHere i true starts (star ∷ pattern) text → MatchesDeep i rest text
-deep_all run long (inl m) = rw long at (stars_inv run m)
-deep_all {starts = starts} {more = more} {rest = rest} run long (inr further) =
-    inr (deep_further run long (crosses_starts starts more rest long) further)
+module _ {starts : Bool} {pattern more rest : List ℕ} (run : Run is_star pattern more rest) (long : crosses starts more rest ≡ true) where
+  deep_further : {i : Bool} {text : List ℕ} → Further i true starts (star ∷ pattern) text
+      → MatchesLater i true rest text
+  deep_further (next {b = b} {text = text} is slashes match) =
+      elim (stars_inv run match) [
+        | inl (after, crossing, at, m) ↦
+            (b ∷ text, no_more, slash_here at (slashes (crosses_starts starts more rest long)) m)
+        | inr (left, passed, m) ↦ (left, passes refl (rw long at passed), m)
+      ]
+  deep_further (beyond is further) =
+      let (left, passed, m) = deep_further further in (left, passes refl passed, m)
 
-pub deep_back : {i starts : Bool} {pattern more rest text : List ℕ} → Run is_star pattern more rest
-    → crosses starts more rest ≡ true
-    → MatchesDeep i rest text → MatchesStars i starts pattern text
-deep_back {rest = rest} run long (inl m) = stars_no_directory rest run (rw long m)
-deep_back run long (inr m) = stars_later run (rw long m)
+  pub deep_all : {i : Bool} {text : List ℕ} → FromHere i true starts (star ∷ pattern) text
+      → MatchesDeep i rest text
+  deep_all (inl m) = rw long at (stars_inv run m)
+  deep_all (inr further) = inr (deep_further further)
 
-pub short_back : {i starts : Bool} {pattern more rest text : List ℕ} → Run is_star pattern more rest
-    → crosses starts more rest ≡ false
-    → MatchesLater i false rest text → MatchesStars i starts pattern text
-short_back run short m = stars_later run (rw short m)
+  pub deep_back : {i : Bool} {text : List ℕ} → MatchesDeep i rest text → MatchesStars i starts pattern text
+  deep_back (inl m) = stars_no_directory rest run (rw long m)
+  deep_back (inr m) = stars_later run (rw long m)
 
 -- ---- `/` after stars that cross directories
 

@@ -15,25 +15,12 @@ use Rattle.config_file.specs.Left.{HasLeft, GivesEntry}
 use Rattle.config_file.specs.Views.{entry_of}
 
 -- a text that is refused with an error of this line and this fault is refused with an equal error
-refused_as : {section : Option Section} {line at_line : ℕ} {fault : FileFault} {text : List ℕ} (error : FileError)
+pub refused_as : {section : Option Section} {line at_line : ℕ} {fault : FileFault} {text : List ℕ} (error : FileError)
     → error.line ≡ at_line → error.fault ≡ fault
     → Reads section line text [] (Some (record { line = at_line; fault = fault })) → Reads section line text [] (Some error)
 refused_as error same_line same_fault h = rw (← same_line, ← same_fault) at h
 
 module _ {section : Option Section} {line : ℕ} (error : FileError) where
-  pub header_refused : {b lines : ℕ} {fault : FileFault} {rest : List ℕ} (at : List ℕ) → at ≡ b ∷ rest
-      → b ≡ 91
-      → HeaderStops rest lines fault
-      → error.line ≡ line + lines → error.fault ≡ fault → Reads section line at [] (Some error)
-  header_refused at e is stops same_line same_fault =
-      refused_as error same_line same_fault (rw e (file.header_refused is stops))
-
-  pub entry_refused : {b lines : ℕ} {fault : FileFault} {rest : List ℕ} (at : List ℕ) → at ≡ b ∷ rest
-      → is_ascii_alphabetic b ≡ true → EntryStops at lines fault
-      → error.line ≡ line + lines → error.fault ≡ fault → Reads section line at [] (Some error)
-  entry_refused at e letter stops same_line same_fault =
-      refused_as error same_line same_fault (rw e (file.entry_refused letter (rw e at stops)))
-
   pub no_item : {b : ℕ} {rest : List ℕ} (at : List ℕ) → at ≡ b ∷ rest → begins_item b ≡ false
       → error.line ≡ line + 0 → error.fault ≡ fault_at at → Reads section line at [] (Some error)
   no_item {b = b} at e other same_line same_fault =

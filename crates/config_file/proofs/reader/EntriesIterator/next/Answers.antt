@@ -1,7 +1,7 @@
 use Rattle.std.proofs.Common.{arith, rules, length, ap, ◌∙◌, []}
 use Rattle.config_file.specs.File as file
 use Rattle.config_file.proofs.Bounds.{header_shortens, header_stops_soon, run_shortens}
-use Rattle.config_file.proofs.Readings.{header_refused, no_item}
+use Rattle.config_file.proofs.Readings.{refused_as, no_item}
 use Rattle.config_file.proofs.Readings.{none_left, gives_from, begins_none}
 use Rattle.config_file.proofs.reader.EntriesIterator.next.Goals as goal
 
@@ -54,8 +54,11 @@ pub refused-requires : goal.refused-requires
 refused-requires c = omega (arith, header_stops_soon c.in-Err.ensures, c.items.self.line_fits)
 
 pub returns-in-Err-clause-steps : goal.returns-in-Err-clause-steps
-returns-in-Err-clause-steps c =
-    (c.items.invariant.same _ _ (header_refused _ _ c.in-Some.ensures c.if-byte-eq91.true c.in-Err.ensures c.refused.ensures.line c.refused.ensures.fault), c.refused.ensures.left)
+returns-in-Err-clause-steps c = (
+  c.items.invariant.same _ _ (refused_as _ c.refused.ensures.line c.refused.ensures.fault
+      (rw c.in-Some.ensures (file.header_refused c.if-byte-eq91.true c.in-Err.ensures))),
+  c.refused.ensures.left,
+)
 
 pub returns-then-is_ascii_alphabetic-clause-steps : goal.returns-then-is_ascii_alphabetic-clause-steps
 returns-then-is_ascii_alphabetic-clause-steps c =
