@@ -59,9 +59,7 @@ value_stays : (value : List ℕ) → is_continued (git_spelled value) ≡ false
 value_stays value =
     elim (cases_Bool (needs_quotes value)) [
       | inl is ↦
-          let no_backslash : 34 ≢ 92 = omega arith in
-          let no_return : 34 ≢ 13 = omega arith in
-          rw is (continued_by_last (34 ∷ flat_map spelled_byte value) 34 [] no_backslash no_return refl)
+          rw is (continued_by_last (34 ∷ flat_map spelled_byte value) 34 [] (omega arith) (omega arith) refl)
       | inr other ↦ rw other (bytes_stay value)
     ]
 
@@ -87,15 +85,13 @@ after_key_ends : (value : Option (List ℕ))
     → (line : List ℕ) × (after_key value ≡ line ++ 10 ∷ []) × (is_continued line ≡ false)
 after_key_ends None = ([], refl, refl)
 after_key_ends (Some value) =
-    let no_backslash : 61 ≢ 92 = omega arith in
-    (61 ∷ git_spelled value, refl, continued_tail 61 (git_spelled value) no_backslash ∙ value_stays value)
+    (61 ∷ git_spelled value, refl, continued_tail 61 (git_spelled value) (omega arith) ∙ value_stays value)
 
 line_ends : (front key : List ℕ) (value : Option (List ℕ)) → is_key key ≡ true
     → HasLineEnd (front ++ spelled_line key value)
 line_ends front [] value is = cc
 line_ends front (k ∷ key) value is =
-    let letter : is_ascii_alphabetic k ≡ true = grind (arith, nat_tests) in
-    let all : list_all is_key_byte (k ∷ key) ≡ true = grind (arith, nat_tests) in
+    let (letter, all) = and_parts (is_ascii_alphabetic k) (list_all is_key_byte (k ∷ key)) is in
     let no_backslash : k ≢ 92 = grind (arith, nat_tests) in
     let no_return : k ≢ 13 = grind (arith, nat_tests) in
     let (line, e, h) = after_key_ends value in
@@ -121,20 +117,15 @@ key_then k key rest b all no_key no_space =
       space_run = record { joined = refl; pass = refl; longest = no_space };
     }
 
-line_taken : (k : ℕ) (key : List ℕ) (value : Option (List ℕ)) → is_key (k ∷ key) ≡ true
+line_taken : (k : ℕ) (key : List ℕ) (value : Option (List ℕ)) → list_all is_key_byte (k ∷ key) ≡ true
     → is_spellable_or_absent value ≡ true
     → TakesEntry ((k ∷ key) ++ after_key value) (k ∷ key) (value_of value) 0 (10 ∷ [])
-line_taken k key None is spellable =
-    let all : list_all is_key_byte (k ∷ key) ≡ true = grind (arith, nat_tests) in
-    alone (key_then k key [] 10 all refl refl) refl
-line_taken k key (Some value) is spellable =
-    let all : list_all is_key_byte (k ∷ key) ≡ true = grind (arith, nat_tests) in
+line_taken k key None all spellable = alone (key_then k key [] 10 all refl refl) refl
+line_taken k key (Some value) all spellable =
     let raw = git_spelled value in
-    let after = raw ++ 10 ∷ [] in
-    let taken : TakesValue after raw (line_feeds raw) (10 ∷ []) =
+    let taken : TakesValue (raw ++ 10 ∷ []) raw (line_feeds raw) (10 ∷ []) =
     closed refl (git_spelling value spellable).0 (inl refl) in
-    let none = value_lines value in
-    valued (key_then k key after 61 all refl refl) refl (subst (λ l. TakesValue after raw l (10 ∷ [])) none taken)
+    valued (key_then k key (raw ++ 10 ∷ []) 61 all refl refl) refl (rw (value_lines value) at taken)
 
 value_spells : (value : Option (List ℕ)) → is_spellable_or_absent value ≡ true
     → SpellsOptional IsSpelling (value_of value) value
@@ -149,11 +140,11 @@ line_reads : (section : Section) (key : List ℕ) (value : Option (List ℕ)) (l
     → Reads (Some section) line (spelled_line key value) (entry_on section key value line ∷ []) None
 line_reads section [] value line is spellable = cc
 line_reads section (k ∷ key) value line is spellable =
-    let letter : is_ascii_alphabetic k ≡ true = grind (arith, nat_tests) in
+    let (letter, all) = and_parts (is_ascii_alphabetic k) (list_all is_key_byte (k ∷ key)) is in
     let same : line + 0 ≡ line = omega arith in
     let left : Reads (Some section) (line + 0) (10 ∷ []) [] None = file.line_end refl file.ends in
     let read =
-    file.entry {section = Some section} {line = line} letter (line_taken k key value is spellable) left in
+    file.entry {section = Some section} {line = line} letter (line_taken k key value all spellable) left in
     rw (line_is (k ∷ key) value) (rw same at read)
 
 -- how a text begins, and how it begins after bytes are appended to it
@@ -195,8 +186,7 @@ marked_ends : {text : List ℕ} (rest : List ℕ) → text ≡ 0xef ∷ 0xbb ∷
     → EndsLine rest
 marked_ends rest same (inl none) = cc
 marked_ends rest same (inr h) =
-    let other : 0xbf ≢ 92 = omega arith in
-    ends_line (after_front (0xef ∷ 0xbb ∷ []) 0xbf rest other same h)
+    ends_line (after_front (0xef ∷ 0xbb ∷ []) 0xbf rest (omega arith) same h)
 
 module _ (bytes : List ℕ) (last : List Entry) (end : ℕ) (reads : (section : Option Section) → Reads section end (91 ∷ bytes) last None) where
   begun_more : {text rest : List ℕ} {line : ℕ} {entries : List Entry} → Begins text line rest
@@ -215,11 +205,10 @@ module _ (bytes : List ℕ) (last : List Entry) (end : ℕ) (reads : (section : 
   begun_more (part_of_mark {text = b ∷ text} part) h ends e =
       absurd (no_part_of_mark b text (begins_no_mark h) part)
   begun_more (unmarked {text = []} none other) h ends e =
-      let bracket : 91 ≢ 0xef = omega arith in
       record {
         line = 1;
         rest = 91 ∷ bytes;
-        begins = begins_unmarked 91 bytes bracket;
+        begins = begins_unmarked 91 bytes (omega arith);
         reads = reads_more (91 ∷ bytes) last end reads h ends e;
       }
   begun_more (unmarked {text = b ∷ text} none other) h ends e =

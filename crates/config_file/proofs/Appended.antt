@@ -235,9 +235,8 @@ module _ (more : List ℕ) (last : List Entry) (end : ℕ) (then : (section : Op
       let joined_too : b ∷ text ≡ (b ∷ front) ++ 93 ∷ rest = ap (λ t. b ∷ t) joined in
       let f = line_feeds_after (b ∷ front) (93 ∷ rest) joined_too first in
       let g = line_feeds_after (93 ∷ []) rest refl refl in
-      let bracket : 93 ≢ 92 = omega arith in
       file.header is (header_more more header)
-      (reads_more h (ends_line (after_front (b ∷ front) 93 rest bracket joined_too (has_end b text ends))) (omega arith))
+      (reads_more h (ends_line (after_front (b ∷ front) 93 rest (omega arith) joined_too (has_end b text ends))) (omega arith))
   reads_more (file.entry {b = b} {text = text} letter takes h) ends e =
       let has = has_end b text ends in
       let (f, ends_rest) = entry_lines has takes in

@@ -71,11 +71,8 @@ module _ (w : ℕ → ℕ) (reads : w 32 ≡ 32) where
   blank_next : {raw : List ℕ} (before rest held : List ℕ) (first : ℕ)
       → Spells w false (first ∷ before) (held ++ 32 ∷ []) raw (kept (first ∷ before) (held ++ 32 ∷ []) ++ rest) outside
       → Spells w false (first ∷ before) held (32 ∷ raw) (kept (first ∷ before) held ++ 32 ∷ rest) outside
-  blank_next {raw = raw} before rest held first h =
-      let text = kept (first ∷ before) held ++ 32 ∷ rest in
-      let more : Spells w false (first ∷ before) (held ++ 32 ∷ []) raw text outside =
-      subst (λ x. Spells w false (first ∷ before) (held ++ 32 ∷ []) raw x outside) (pushed_before (first ∷ before) held rest 32) h in
-      blank refl (subst (λ c. Spells w false (first ∷ before) (held ++ c ∷ []) raw text outside) (sym reads) more)
+  blank_next before rest held first h =
+      blank refl (rw reads (rw (pushed_before (first ∷ before) held rest 32) at h))
 
   spelled_after : (value before held : List ℕ) (first : ℕ) → is_spellable value ≡ true
       → list_any is_lost value ≡ false
