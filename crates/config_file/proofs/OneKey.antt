@@ -17,21 +17,18 @@ use Rattle.config_file.specs.Listing.{IsListedSection, IsListed, alone, in_secti
 use Rattle.config_file.specs.Key as spec
 use Rattle.config_file.specs.Key.{Key, key, dotted, stem, listed, HasKey, IsCut, IsAccepted, IsWrong, IsKey}
 use Rattle.config_file.specs.Key.{RefusesKey, is_no_dot, has_section, is_section, is_one_line, is_name}
-use Rattle.std.proofs.lemmas.List.Folds.{list_all-map}
+use Rattle.std.proofs.lemmas.List.Folds.{list_all-append, list_all-map}
 use Rattle.config_file.proofs.LineEnds.{all_more}
 use Rattle.config_file.proofs.OneRun.{run_same}
 use Rattle.config_file.proofs.Keys.{is_dot, no_dot, not_dot, lower_dot, dotted_same, listed_as}
 
 -- ---- one cut
 
-dot_within : (front rest : List ℕ) → list_all is_no_dot (front ++ 46 ∷ rest) ≡ true → ⊥
-dot_within [] rest e = true≢false (sym e)
-dot_within (b ∷ front) rest e =
-    dot_within front rest (and_parts (is_no_dot b) (list_all is_no_dot (front ++ 46 ∷ rest)) e).1
-
 no_dot_within : {text : List ℕ} (front rest : List ℕ) → list_all is_no_dot text ≡ true
     → text ≡ front ++ 46 ∷ rest → ⊥
-no_dot_within front rest none e = dot_within front rest (subst (λ t. list_all is_no_dot t ≡ true) e none)
+no_dot_within front rest none e =
+    let whole = sym (list_all-append is_no_dot front (46 ∷ rest)) ∙ (rw e at none) in
+    true≢false (sym (and_parts (list_all is_no_dot front) _ whole).1)
 
 -- a text has at most one last dot
 pub last_same : (a b m n : List ℕ) → list_all is_no_dot m ≡ true → list_all is_no_dot n ≡ true

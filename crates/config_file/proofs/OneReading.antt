@@ -5,6 +5,7 @@ use Rattle.std.proofs.Common.{◌⊎◌, if◌then◌else◌, eqb-true}
 use Rattle.std.proofs.lemmas.Bool.{cases_Bool}
 use Rattle.std.proofs.lemmas.Bool.Decides.{nat_tests}
 use Rattle.std.specs.Char.{is_ascii_alphabetic}
+use Rattle.config_file.proofs.Pick.{equal}
 use Rattle.config_file.proofs.OneRun.{run_only}
 use Rattle.config_file.proofs.AddedEntries.{mark_is}
 use Rattle.config_file.proofs.OneHeader as one_header
@@ -43,12 +44,9 @@ kind_line_end b is = rw is
 pub kind_header : (b : ℕ) → b ≡ 91 → kind b ≡ header
 kind_header b is = rw is
 
-sign_cases : (b : ℕ) → is_comment_sign b ≡ true → (b ≡ 35) ⊎ (b ≡ 59)
-sign_cases b is =
-    elim (cases_Bool (b == 35)) [ inl hash ↦ inl (eqb-true b 35 hash) | inr other ↦ inr (grind (arith, nat_tests)) ]
-
 pub kind_comment : (b : ℕ) → is_comment_sign b ≡ true → kind b ≡ comment
-kind_comment b is = elim (sign_cases b is) [ inl e ↦ rw e | inr e ↦ rw e ]
+kind_comment b is =
+    elim (equal b 35) [ inl e ↦ rw e | inr other ↦ let e : b ≡ 59 = grind (arith, nat_tests) in rw e ]
 
 chosen_last : (p q r s t : Bool) → (p ≡ false) × (q ≡ false) × (r ≡ false) × (s ≡ false)
     → choose p q r s t ≡ (if t then entry else nothing)

@@ -13,6 +13,7 @@ use Rattle.config_file.specs.Value.{ends_at_backslash, quote, escaped, continued
 use Rattle.config_file.specs.Value.{blank, plain, kept, escape}
 use Rattle.config_file.specs.Spelling.{IsSpelling, HasNoSpelling, letter_of, after_backslash, spelled_byte}
 use Rattle.config_file.specs.Spelling.{is_lost, begins_with_space, ends_with_space, needs_quotes, git_spelled}
+use Rattle.config_file.proofs.Pick.{equal}
 use Rattle.config_file.proofs.Spelled.{kept_none, blank_inner, plain_inner}
 use Rattle.config_file.specs.Reading.Spellings.{is_spellable}
 
@@ -86,14 +87,12 @@ module _ (w : ℕ → ℕ) (reads : w 32 ≡ 32) where
       let not_lost : is_lost b ≡ false = grind (arith, nat_tests) in
       let no_others : list_any is_lost rest ≡ false = grind (arith, nat_tests) in
       let last_other = last_is_no_space b rest last in
-      elim (cases_Bool (b == 32)) [
+      elim (equal b 32) [
         | inl is ↦
-            let same : b ≡ 32 = grind (arith, nat_tests) in
             let more = spelled_after rest before (held ++ 32 ∷ []) first others no_others last_other
-            (λ e. absurd (last_alone_is_no_space b rest last same e)) in
-            rw same (blank_next before rest held first more)
-        | inr other ↦
-            let no_space : b ≢ 32 = grind (arith, nat_tests) in
+            (λ e. absurd (last_alone_is_no_space b rest last is e)) in
+            rw is (blank_next before rest held first more)
+        | inr no_space ↦
             let now = before ++ held ++ b ∷ [] in
             let more = spelled_after rest now [] first others no_others last_other (λ e. refl) in
             let same : kept (first ∷ now) [] ++ rest ≡ kept (first ∷ before) held ++ b ∷ rest =
