@@ -1,9 +1,10 @@
 -- Entries that are added to a configuration file.
-use Rattle.std.proofs.Common.{◌≡◌, ◌≢◌, ℕ, ◌+◌, Bool, true, false, List, [], ◌∷◌, ◌++◌, Option, Some, None}
-use Rattle.std.proofs.Common.{refl, sym, ap, ◌∙◌, subst, append_assoc, arith, inl, inr, ◌⊎◌, ◌==◌, ◌&&◌, ◌||◌}
+use Rattle.std.proofs.Common.{◌≡◌, ◌≢◌, ℕ, ◌+◌, true, false, List, [], ◌∷◌, ◌++◌, Option, Some, None}
+use Rattle.std.proofs.Common.{option_map, refl, ◌∙◌, subst, append_assoc, arith, inl, inr, ◌⊎◌}
+use Rattle.std.proofs.Common.{◌==◌, ◌&&◌, ◌||◌}
 use Rattle.std.specs.List.{list_all, flat_map}
 use Rattle.std.specs.Char.{is_ascii_alphabetic}
-use Rattle.std.proofs.lemmas.Bool.{cases_Bool, true≢false}
+use Rattle.std.proofs.lemmas.Bool.{cases_Bool, true≢false, and_parts}
 use Rattle.std.proofs.lemmas.Bool.Decides.{nat_tests}
 use Rattle.config_file.specs.Bytes.{is_comment_byte, is_key_byte}
 use Rattle.config_file.specs.Header.{Section}
@@ -16,7 +17,7 @@ use Rattle.config_file.specs.Spelling.{SpellsOptional, IsEntry}
 use Rattle.config_file.specs.Spelling.{AddsEntry, IsLine, HasNoHeader, IsNoKey, LacksSpelling, letter_of}
 use Rattle.config_file.specs.Spelling.{after_backslash}
 use Rattle.config_file.specs.Spelling.{spelled_byte, needs_quotes, git_spelled, spelled_section}
-use Rattle.config_file.specs.Reading.Spellings.{is_spellable, is_spellable_or_absent, is_key, spelled_line}
+use Rattle.config_file.specs.Reading.Spellings.{is_spellable_or_absent, is_key, spelled_line}
 use Rattle.config_file.specs.Reading.Spellings.{is_section, is_writable}
 use Rattle.config_file.proofs.LineEnds.{line_feeds_after, line_feeds_none, after_front, ends_line}
 use Rattle.config_file.proofs.LineEnds.{continued_tail, continued_by_last, pair_continued}
@@ -25,15 +26,9 @@ use Rattle.config_file.proofs.SpelledHeaders.{header_spelled, no_header, no_key}
 use Rattle.config_file.proofs.Appended.{reads_more, both_other}
 
 -- a spelling has no LF
-letter_other : (b l : ℕ) → letter_of b ≡ Some l → is_comment_byte l ≡ true
-letter_other b l e = grind (arith, nat_tests)
-
-no_letter_other : (b : ℕ) → letter_of b ≡ None → is_comment_byte b ≡ true
-no_letter_other b e = grind (arith, nat_tests)
-
 byte_other : (b : ℕ) (o : Option ℕ) → letter_of b ≡ o → list_all is_comment_byte (after_backslash b o) ≡ true
-byte_other b (Some l) is = rw (letter_other b l is)
-byte_other b None is = rw (no_letter_other b is)
+byte_other b (Some l) is = let other : is_comment_byte l ≡ true = grind (arith, nat_tests) in rw other
+byte_other b None is = let other : is_comment_byte b ≡ true = grind (arith, nat_tests) in rw other
 
 bytes_other : (value : List ℕ) → list_all is_comment_byte (flat_map spelled_byte value) ≡ true
 bytes_other [] = refl
@@ -50,16 +45,11 @@ value_lines value =
     ]
 
 -- no spelling is continued: it does not end in a backslash that is not escaped
-letter_stays : (b l : ℕ) → letter_of b ≡ Some l → l ≢ 13
-letter_stays b l e is = grind (arith, nat_tests)
-
-no_letter_stays : (b : ℕ) → letter_of b ≡ None → b ≢ 92
-no_letter_stays b e is = grind (arith, nat_tests)
-
 byte_stays : (b : ℕ) (o : Option ℕ) (line : List ℕ) → letter_of b ≡ o → is_continued line ≡ false
     → is_continued (after_backslash b o ++ line) ≡ false
-byte_stays b (Some l) line is h = pair_continued l line (letter_stays b l is) ∙ h
-byte_stays b None line is h = continued_tail b line (no_letter_stays b is) ∙ h
+byte_stays b (Some l) line is h =
+    let other : l ≢ 13 = grind (arith, nat_tests) in pair_continued l line other ∙ h
+byte_stays b None line is h = let other : b ≢ 92 = grind (arith, nat_tests) in continued_tail b line other ∙ h
 
 bytes_stay : (value : List ℕ) → is_continued (flat_map spelled_byte value) ≡ false
 bytes_stay [] = refl
@@ -69,56 +59,52 @@ value_stays : (value : List ℕ) → is_continued (git_spelled value) ≡ false
 value_stays value =
     elim (cases_Bool (needs_quotes value)) [
       | inl is ↦
-          let no_backslash : 34 ≢ 92 = omega arith in
-          let no_return : 34 ≢ 13 = omega arith in
-          rw is (continued_by_last (34 ∷ flat_map spelled_byte value) 34 [] no_backslash no_return refl)
+          rw is (continued_by_last (34 ∷ flat_map spelled_byte value) 34 [] (omega arith) (omega arith) refl)
       | inr other ↦ rw other (bytes_stay value)
     ]
 
-key_stays : (key : List ℕ) → list_all is_key_byte key ≡ true → is_continued key ≡ false
-key_stays [] all = refl
-key_stays (b ∷ key) all =
+key_stays : (key line : List ℕ) → list_all is_key_byte key ≡ true → is_continued line ≡ false
+    → is_continued (key ++ line) ≡ false
+key_stays [] line all h = h
+key_stays (b ∷ key) line all h =
     let others : list_all is_key_byte key ≡ true = grind (arith, nat_tests) in
     let first : is_key_byte b ≡ true = grind (arith, nat_tests) in
     let other : b ≢ 92 = grind (arith, nat_tests) in
-    continued_tail b key other ∙ key_stays key others
+    continued_tail b (key ++ line) other ∙ key_stays key line others h
 
-line_stays : (front : List ℕ) (k : ℕ) (key : List ℕ) → is_ascii_alphabetic k ≡ true
-    → is_continued (k ∷ key) ≡ false → is_continued (front ++ k ∷ key) ≡ false
-line_stays front k key letter h =
-    let no_backslash : k ≢ 92 = grind (arith, nat_tests) in
-    let no_return : k ≢ 13 = grind (arith, nat_tests) in
-    continued_by_last front k key no_backslash no_return h
+-- what a line has after its key
+abbrev after_key : Option (List ℕ) → List ℕ
+after_key None = 10 ∷ []
+after_key (Some value) = 61 ∷ (git_spelled value ++ 10 ∷ [])
+
+line_is : (key : List ℕ) (value : Option (List ℕ)) → spelled_line key value ≡ key ++ after_key value
+line_is key None = refl
+line_is key (Some value) = refl
+
+after_key_ends : (value : Option (List ℕ))
+    → (line : List ℕ) × (after_key value ≡ line ++ 10 ∷ []) × (is_continued line ≡ false)
+after_key_ends None = ([], refl, refl)
+after_key_ends (Some value) =
+    (61 ∷ git_spelled value, refl, continued_tail 61 (git_spelled value) (omega arith) ∙ value_stays value)
 
 line_ends : (front key : List ℕ) (value : Option (List ℕ)) → is_key key ≡ true
     → HasLineEnd (front ++ spelled_line key value)
 line_ends front [] value is = cc
-line_ends front (k ∷ key) None is =
-    let letter : is_ascii_alphabetic k ≡ true = grind (arith, nat_tests) in
-    let all : list_all is_key_byte (k ∷ key) ≡ true = grind (arith, nat_tests) in
+line_ends front (k ∷ key) value is =
+    let (letter, all) = and_parts (is_ascii_alphabetic k) (list_all is_key_byte (k ∷ key)) is in
+    let no_backslash : k ≢ 92 = grind (arith, nat_tests) in
+    let no_return : k ≢ 13 = grind (arith, nat_tests) in
+    let (line, e, h) = after_key_ends value in
     record {
-      line = front ++ k ∷ key;
-      joined = sym (append_assoc front (k ∷ key) (10 ∷ []));
-      not_continued = line_stays front k key letter (key_stays (k ∷ key) all);
-    }
-line_ends front (k ∷ key) (Some value) is =
-    let letter : is_ascii_alphabetic k ≡ true = grind (arith, nat_tests) in
-    let raw = git_spelled value in
-    let no_backslash : 61 ≢ 92 = omega arith in
-    let no_return : 61 ≢ 13 = omega arith in
-    let after = continued_tail 61 raw no_backslash ∙ value_stays value in
-    let stays = continued_by_last (k ∷ key) 61 raw no_backslash no_return after in
-    record {
-      line = front ++ (k ∷ key ++ 61 ∷ raw);
-      joined =
-          ap (λ l. front ++ l) (sym (append_assoc (k ∷ key) (61 ∷ raw) (10 ∷ []))) ∙ sym (append_assoc front (k ∷ key ++ 61 ∷ raw) (10 ∷ []));
-      not_continued = line_stays front k (key ++ 61 ∷ raw) letter stays;
+      line = front ++ (k ∷ key ++ line);
+      joined = rw (line_is (k ∷ key) value, e) (simp append_assoc);
+      not_continued =
+          continued_by_last front k (key ++ line) no_backslash no_return (key_stays (k ∷ key) line all h);
     }
 
 -- a line with a key, and with a value if there is one
-value_of : Option (List ℕ) → Option (List ℕ)
-value_of None = None
-value_of (Some value) = Some (git_spelled value)
+abbrev value_of : Option (List ℕ) → Option (List ℕ)
+value_of value = option_map (λ v. git_spelled v) value
 
 key_then : (k : ℕ) (key rest : List ℕ) (b : ℕ) → list_all is_key_byte (k ∷ key) ≡ true
     → is_key_byte b ≡ false → (b == 32 || b == 9) ≡ false
@@ -131,50 +117,35 @@ key_then k key rest b all no_key no_space =
       space_run = record { joined = refl; pass = refl; longest = no_space };
     }
 
-line_taken : (k : ℕ) (key : List ℕ) (value : Option (List ℕ)) → is_key (k ∷ key) ≡ true
+line_taken : (k : ℕ) (key : List ℕ) (value : Option (List ℕ)) → list_all is_key_byte (k ∷ key) ≡ true
     → is_spellable_or_absent value ≡ true
-    → TakesEntry (spelled_line (k ∷ key) value) (k ∷ key) (value_of value) 0 (10 ∷ [])
-unfolding value_of
-line_taken k key None is spellable =
-    let all : list_all is_key_byte (k ∷ key) ≡ true = grind (arith, nat_tests) in
-    alone (key_then k key [] 10 all refl refl) refl
-line_taken k key (Some value) is spellable =
-    let all : list_all is_key_byte (k ∷ key) ≡ true = grind (arith, nat_tests) in
+    → TakesEntry ((k ∷ key) ++ after_key value) (k ∷ key) (value_of value) 0 (10 ∷ [])
+line_taken k key None all spellable = alone (key_then k key [] 10 all refl refl) refl
+line_taken k key (Some value) all spellable =
     let raw = git_spelled value in
-    let after = raw ++ 10 ∷ [] in
-    let taken : TakesValue after raw (line_feeds raw) (10 ∷ []) =
+    let taken : TakesValue (raw ++ 10 ∷ []) raw (line_feeds raw) (10 ∷ []) =
     closed refl (git_spelling value spellable).0 (inl refl) in
-    let none = value_lines value in
-    valued (key_then k key after 61 all refl refl) refl (subst (λ l. TakesValue after raw l (10 ∷ [])) none taken)
+    valued (key_then k key (raw ++ 10 ∷ []) 61 all refl refl) refl (rw (value_lines value) at taken)
 
 value_spells : (value : Option (List ℕ)) → is_spellable_or_absent value ≡ true
     → SpellsOptional IsSpelling (value_of value) value
-unfolding value_of
 value_spells None is = tt
 value_spells (Some value) is = git_spelling value is
 
-entry_on : Section → List ℕ → Option (List ℕ) → ℕ → Entry
+abbrev entry_on : Section → List ℕ → Option (List ℕ) → ℕ → Entry
 entry_on section key value line = record { section = Some section; key = key; value = value_of value; line = line }
 
 line_reads : (section : Section) (key : List ℕ) (value : Option (List ℕ)) (line : ℕ) → is_key key ≡ true
     → is_spellable_or_absent value ≡ true
     → Reads (Some section) line (spelled_line key value) (entry_on section key value line ∷ []) None
-unfolding entry_on
 line_reads section [] value line is spellable = cc
-line_reads section (k ∷ key) None line is spellable =
-    let letter : is_ascii_alphabetic k ≡ true = grind (arith, nat_tests) in
+line_reads section (k ∷ key) value line is spellable =
+    let (letter, all) = and_parts (is_ascii_alphabetic k) (list_all is_key_byte (k ∷ key)) is in
     let same : line + 0 ≡ line = omega arith in
     let left : Reads (Some section) (line + 0) (10 ∷ []) [] None = file.line_end refl file.ends in
     let read =
-    file.entry {section = Some section} {line = line} letter (line_taken k key None is spellable) left in
-    rw same at read
-line_reads section (k ∷ key) (Some value) line is spellable =
-    let letter : is_ascii_alphabetic k ≡ true = grind (arith, nat_tests) in
-    let same : line + 0 ≡ line = omega arith in
-    let left : Reads (Some section) (line + 0) (10 ∷ []) [] None = file.line_end refl file.ends in
-    let read =
-    file.entry {section = Some section} {line = line} letter (line_taken k key (Some value) is spellable) left in
-    rw same at read
+    file.entry {section = Some section} {line = line} letter (line_taken k key value all spellable) left in
+    rw (line_is (k ∷ key) value) (rw same at read)
 
 -- how a text begins, and how it begins after bytes are appended to it
 pub begins_no_mark : {section : Option Section} {line b : ℕ} {text : List ℕ} {entries : List Entry}
@@ -198,9 +169,6 @@ pub begins_unmarked : (b : ℕ) (text : List ℕ) → b ≢ 0xef → Begins (b �
 begins_unmarked b text other = unmarked (no_mark b text other) (no_part_of_mark b text other)
 
 pub mark_is : (text rest : List ℕ) → after_mark text ≡ Some rest → text ≡ 0xef ∷ 0xbb ∷ 0xbf ∷ rest
-mark_is [] rest e = cc
-mark_is (a ∷ []) rest e = cc
-mark_is (a ∷ b ∷ []) rest e = cc
 mark_is (a ∷ b ∷ c ∷ text) rest e =
     elim (cases_Bool ((a == 0xef && b == 0xbb) && c == 0xbf)) [
       | inl is ↦
@@ -212,33 +180,19 @@ mark_is (a ∷ b ∷ c ∷ text) rest e =
           rw (same, first, second, third)
       | inr other ↦ let none : None ≡ Some rest = rw other at e in cc
     ]
+mark_is _ rest e = cc
 
 marked_ends : {text : List ℕ} (rest : List ℕ) → text ≡ 0xef ∷ 0xbb ∷ 0xbf ∷ rest → EndsLine text
     → EndsLine rest
 marked_ends rest same (inl none) = cc
 marked_ends rest same (inr h) =
-    let other : 0xbf ≢ 92 = omega arith in
-    ends_line (after_front (0xef ∷ 0xbb ∷ []) 0xbf rest other same h)
+    ends_line (after_front (0xef ∷ 0xbb ∷ []) 0xbf rest (omega arith) same h)
 
 module _ (bytes : List ℕ) (last : List Entry) (end : ℕ) (reads : (section : Option Section) → Reads section end (91 ∷ bytes) last None) where
-  unmarked_more : (text : List ℕ) (entries : List Entry) → Reads None 1 text entries None → EndsLine text
-      → 1 + line_feeds text ≡ end
-      → IsFile (text ++ 91 ∷ bytes) (entries ++ last) None
-  unmarked_more [] entries h ends e =
-      let bracket : 91 ≢ 0xef = omega arith in
-      record { line = 1; rest = 91 ∷ bytes; begins = begins_unmarked 91 bytes bracket; reads = reads_more (91 ∷ bytes) last end reads h ends e }
-  unmarked_more (b ∷ text) entries h ends e =
-      record {
-        line = 1;
-        rest = (b ∷ text) ++ 91 ∷ bytes;
-        begins = begins_unmarked b (text ++ 91 ∷ bytes) (begins_no_mark h);
-        reads = reads_more (91 ∷ bytes) last end reads h ends e;
-      }
-
   begun_more : {text rest : List ℕ} {line : ℕ} {entries : List Entry} → Begins text line rest
       → Reads None line rest entries None → EndsLine text
       → 1 + line_feeds text ≡ end → IsFile (text ++ 91 ∷ bytes) (entries ++ last) None
-  begun_more {entries = entries} (marked {text = text} {rest = rest} mark) h ends e =
+  begun_more (marked {text = text} {rest = rest} mark) h ends e =
       let same = mark_is text rest mark in
       let f = line_feeds_after (0xef ∷ 0xbb ∷ 0xbf ∷ []) rest same refl in
       record {
@@ -248,16 +202,27 @@ module _ (bytes : List ℕ) (last : List Entry) (end : ℕ) (reads : (section : 
         reads = reads_more (91 ∷ bytes) last end reads h (marked_ends rest same ends) (omega arith);
       }
   begun_more (part_of_mark {text = []} part) h ends e = absurd part
-  begun_more (part_of_mark {text = b ∷ []} part) h ends e = absurd (begins_no_mark h part)
-  begun_more (part_of_mark {text = b ∷ c ∷ text} part) h ends e = absurd (begins_no_mark h part.0)
-  begun_more {entries = entries} (unmarked {text = text} none other) h ends e =
-      unmarked_more text entries h ends e
+  begun_more (part_of_mark {text = b ∷ text} part) h ends e =
+      absurd (no_part_of_mark b text (begins_no_mark h) part)
+  begun_more (unmarked {text = []} none other) h ends e =
+      record {
+        line = 1;
+        rest = 91 ∷ bytes;
+        begins = begins_unmarked 91 bytes (omega arith);
+        reads = reads_more (91 ∷ bytes) last end reads h ends e;
+      }
+  begun_more (unmarked {text = b ∷ text} none other) h ends e =
+      record {
+        line = 1;
+        rest = (b ∷ text) ++ 91 ∷ bytes;
+        begins = begins_unmarked b (text ++ 91 ∷ bytes) (begins_no_mark h);
+        reads = reads_more (91 ∷ bytes) last end reads h ends e;
+      }
 
 pub entry_added : (bytes name : List ℕ) (text : Option (List ℕ)) (key : List ℕ) (value : Option (List ℕ))
     → IsHeader bytes name text
     → is_key key ≡ true → is_spellable_or_absent value ≡ true
     → AddsEntry (bytes ++ spelled_line key value) name text key value
-unfolding entry_on
 entry_added bytes name text key value (inner, section, same, names, header) is spellable file_text entries is_file ends =
     let end = 1 + line_feeds file_text in
     let entry = entry_on section key value end in
@@ -291,35 +256,29 @@ not_writable name text key value refused =
       ]
     ]
 
-and_left : (a b : Bool) → (a && b) ≡ true → a ≡ true
-and_left true b e = refl
-and_left false b e = e
-
-and_right : (a b : Bool) → (a && b) ≡ true → b ≡ true
-and_right true b e = e
-and_right false b e = absurd (true≢false (sym e))
+writable_parts : (name : List ℕ) (text : Option (List ℕ)) (key : List ℕ) (value : Option (List ℕ))
+    → is_writable name text key value ≡ true
+    → (is_section name text ≡ true) × (is_key key ≡ true) × (is_spellable_or_absent value ≡ true)
+writable_parts name text key value all =
+    let (front, spellable) = and_parts (is_section name text && is_key key) _ all in
+    let (section, is) = and_parts (is_section name text) (is_key key) front in
+    (section, is, spellable)
 
 pub writable_added : (name : List ℕ) (text : Option (List ℕ)) (key : List ℕ) (value : Option (List ℕ))
     → is_writable name text key value ≡ true
     → AddsEntry ((91 ∷ spelled_section name text) ++ spelled_line key value) name text key value
 writable_added name text key value all =
-    let first = and_left _ (is_spellable_or_absent value) all in
-    let section : is_section name text ≡ true = and_left _ (is_key key) first in
-    let is : is_key key ≡ true = and_right (is_section name text) _ first in
-    let spellable : is_spellable_or_absent value ≡ true =
-    and_right (is_section name text && is_key key) _ all in
+    let (section, is, spellable) = writable_parts name text key value all in
     entry_added (91 ∷ spelled_section name text) name text key value (header_spelled name text section) is spellable
 
 pub writable_line : (name : List ℕ) (text : Option (List ℕ)) (key : List ℕ) (value : Option (List ℕ))
     → is_writable name text key value ≡ true
     → IsLine ((91 ∷ spelled_section name text) ++ spelled_line key value) name text key value
 writable_line name text key None all =
-    let section : is_section name text ≡ true = and_left _ (is_key key) (and_left _ true all) in
+    let (section, is, spellable) = writable_parts name text key None all in
     (91 ∷ spelled_section name text, (header_spelled name text section, refl), refl)
 writable_line name text key (Some value) all =
-    let section : is_section name text ≡ true =
-    and_left _ (is_key key) (and_left _ (is_spellable value) all) in
-    let spellable : is_spellable value ≡ true = and_right (is_section name text && is_key key) _ all in (
+    let (section, is, spellable) = writable_parts name text key (Some value) all in (
       91 ∷ spelled_section name text,
       git_spelled value,
       (header_spelled name text section, refl),

@@ -1,15 +1,15 @@
 -- A configuration file, and a line that is appended to it.
 use Rattle.std.proofs.Common.{◌≡◌, ◌≢◌, ℕ, ◌+◌, Bool, true, List, [], ◌∷◌, ◌++◌, Option, None, refl, sym, ap}
-use Rattle.std.proofs.Common.{◌∙◌, subst, append_assoc, append-nil, arith, inl, inr, ◌⊎◌}
+use Rattle.std.proofs.Common.{◌∙◌, subst, append_assoc, append-nil, arith, inl, inr}
 use Rattle.std.specs.List.{list_all}
 use Rattle.std.proofs.lemmas.List.Folds.{list_all-append}
 use Rattle.std.proofs.lemmas.Bool.Decides.{nat_tests}
 use Rattle.config_file.specs.Bytes.{is_comment_byte, is_comment_sign, is_name_byte, is_blank, is_key_byte}
-use Rattle.config_file.specs.Bytes.{is_space, is_text_byte, is_plain_in_quotes, IsAtLineEnd}
+use Rattle.config_file.specs.Bytes.{is_space, IsAtLineEnd}
 use Rattle.config_file.specs.Runs.{Run, StopsRun}
 use Rattle.config_file.specs.Subsection as sub
 use Rattle.config_file.specs.Subsection.{SpellsSubsection}
-use Rattle.config_file.specs.Header.{Section, Header, plain, quoted, closes}
+use Rattle.config_file.specs.Header.{Section, Header, BeginsWithout, plain, quoted, closes}
 use Rattle.config_file.specs.Value.{TakesValue, closed, open_end, EndsValue, line_feeds}
 use Rattle.config_file.specs.File as file
 use Rattle.config_file.specs.File.{Entry, TakesKey, TakesEntry, alone, valued, Reads}
@@ -25,22 +25,12 @@ name_other b is = grind (arith, nat_tests)
 blank_other : (b : ℕ) → is_blank b ≡ true → is_comment_byte b ≡ true
 blank_other b is = grind (arith, nat_tests)
 
-key_other : (b : ℕ) → is_key_byte b ≡ true → is_comment_byte b ≡ true
-key_other b is = grind (arith, nat_tests)
-
-space_other : (b : ℕ) → is_space b ≡ true → is_comment_byte b ≡ true
-space_other b is = grind (arith, nat_tests)
-
-text_other : (b : ℕ) → is_text_byte b ≡ true → is_comment_byte b ≡ true
-text_other b is = grind (arith, nat_tests)
-
-plain_other : (b : ℕ) → is_plain_in_quotes b ≡ true → is_comment_byte b ≡ true
-plain_other b is = grind (arith, nat_tests)
-
 subsection_other : {raw text : List ℕ} → SpellsSubsection raw text → list_all is_comment_byte raw ≡ true
 subsection_other sub.ends = refl
-subsection_other (sub.escaped {e = e} b t s) = rw (b, text_other e t, subsection_other s)
-subsection_other (sub.plain {b = b} p s) = rw (plain_other b p, subsection_other s)
+subsection_other (sub.escaped {e = e} b t s) =
+    let other : is_comment_byte e ≡ true = grind (arith, nat_tests) in rw (b, other, subsection_other s)
+subsection_other (sub.plain {b = b} p s) =
+    let other : is_comment_byte b ≡ true = grind (arith, nat_tests) in rw (other, subsection_other s)
 
 pub both_other : (front rest : List ℕ) → list_all is_comment_byte front ≡ true
     → list_all is_comment_byte rest ≡ true → list_all is_comment_byte (front ++ rest) ≡ true
@@ -101,8 +91,9 @@ key_bytes : {text key : List ℕ} (rest : List ℕ) → (takes : TakesKey text k
     → (text ≡ (key ++ takes.spaces) ++ rest) × (list_all is_comment_byte (key ++ takes.spaces) ≡ true)
 key_bytes {key = key} rest takes = (
   takes.key_run.joined ∙ rw takes.space_run.joined (sym (append_assoc key takes.spaces rest)),
-  both_other key takes.spaces (all_more is_key_byte is_comment_byte key_other key takes.key_run.pass)
-      (all_more is_space is_comment_byte space_other takes.spaces takes.space_run.pass),
+  both_other key takes.spaces
+      (all_more is_key_byte is_comment_byte (λ b is. grind (arith, nat_tests)) key takes.key_run.pass)
+      (all_more is_space is_comment_byte (λ b e. grind (arith, nat_tests)) takes.spaces takes.space_run.pass),
 )
 
 key_more : {text key : List ℕ} (rest more : List ℕ) → rest ≢ [] → TakesKey text key rest
@@ -135,21 +126,31 @@ value_more more h (closed {raw = raw} {rest = rest} joined spells ends) =
     closed (rw joined (append_assoc raw rest more)) spells (ends_value_more rest more some ends)
 value_more more h (open_end spells) = absurd (value_has_no_end spells h)
 
-value_end_is_no_backslash : (b : ℕ) → (b ≡ 10) ⊎ (is_comment_sign b ≡ true) → b ≢ 92
-value_end_is_no_backslash b (inl is) e = omega arith
-value_end_is_no_backslash b (inr is) e = grind (arith, nat_tests)
+ends_after : {text : List ℕ} (front rest : List ℕ) → BeginsWithout 92 rest → text ≡ front ++ rest
+    → HasLineEnd text → EndsLine rest
+ends_after front [] other joined h = inl refl
+ends_after front (b ∷ rest) other joined h = inr (ends_at_byte front b rest other joined h)
 
-value_ends : {after : List ℕ} (raw rest : List ℕ) → rest ≢ [] → EndsValue rest → after ≡ raw ++ rest
-    → HasLineEnd after → EndsLine rest
-value_ends raw [] some ends joined h = inl refl
-value_ends raw (b ∷ rest) some ends joined h =
-    inr (ends_at_byte raw b rest (value_end_is_no_backslash b ends) joined h)
+value_end_other : (rest : List ℕ) → EndsValue rest → BeginsWithout 92 rest
+value_end_other [] ends = tt
+value_end_other (b ∷ rest) (inl is) = λ e. omega arith
+value_end_other (b ∷ rest) (inr is) = λ e. grind (arith, nat_tests)
+
+line_end_other : (rest : List ℕ) → IsAtLineEnd rest → BeginsWithout 92 rest
+line_end_other [] end = tt
+line_end_other (a ∷ []) end = λ e. omega arith
+line_end_other (a ∷ b ∷ rest) (inl is) = λ e. omega arith
+line_end_other (a ∷ b ∷ rest) (inr (is, next)) = λ e. omega arith
+
+comment_end_other : (rest : List ℕ) → StopsRun is_comment_byte rest → BeginsWithout 92 rest
+comment_end_other [] stops = tt
+comment_end_other (b ∷ rest) stops = λ e. grind (arith, nat_tests)
 
 value_lines : {after raw rest : List ℕ} {lines : ℕ} → HasLineEnd after → TakesValue after raw lines rest
     → (line_feeds after ≡ lines + line_feeds rest) × EndsLine rest
 value_lines h (closed {raw = raw} {rest = rest} joined spells ends) =
-    let some = value_some h (closed joined spells ends) in
-    (ap line_feeds joined ∙ line_feeds_append raw rest, value_ends raw rest some ends joined h)
+    let ends_rest = ends_after raw rest (value_end_other rest ends) joined h in
+    (ap line_feeds joined ∙ line_feeds_append raw rest, ends_rest)
 value_lines h (open_end spells) = absurd (value_has_no_end spells h)
 
 -- if the text has a line end over which it is not continued, so has what follows the `=`
@@ -162,10 +163,10 @@ after_equals {key = key} {after = after} {b = b} h takes is =
       | inr k ↦ k
     ]
 
-alone_some : {text key : List ℕ} (rest : List ℕ) → HasLineEnd text → TakesKey text key rest → rest ≢ []
-alone_some {key = key} rest h takes none =
-    let bytes = key_bytes rest takes in
-    no_line_end (key ++ takes.spaces) bytes.1 (subst HasLineEnd (bytes.0 ∙ ap (λ r. (key ++ takes.spaces) ++ r) none ∙ append-nil (key ++ takes.spaces)) h)
+some_after : {text : List ℕ} (front rest : List ℕ) → list_all is_comment_byte front ≡ true
+    → text ≡ front ++ rest → HasLineEnd text → rest ≢ []
+some_after front rest all joined h none =
+    no_line_end front all (subst HasLineEnd (joined ∙ rw none (append-nil front)) h)
 
 at_line_end_more : (rest more : List ℕ) → rest ≢ [] → IsAtLineEnd rest → IsAtLineEnd (rest ++ more)
 at_line_end_more [] more some end = absurd (some refl)
@@ -176,27 +177,12 @@ at_line_end_more (a ∷ b ∷ rest) more some end = end
 entry_more : {text key rest : List ℕ} {value : Option (List ℕ)} {lines : ℕ} (more : List ℕ)
     → HasLineEnd text → TakesEntry text key value lines rest
     → TakesEntry (text ++ more) key value lines (rest ++ more)
-entry_more more h (alone {rest = rest} takes end) =
-    let some = alone_some rest h takes in
+entry_more more h (alone {key = key} {rest = rest} takes end) =
+    let bytes = key_bytes rest takes in
+    let some = some_after (key ++ takes.spaces) rest bytes.1 bytes.0 h in
     alone (key_more rest more some takes) (at_line_end_more rest more some end)
 entry_more more h (valued {b = b} {after = after} takes e taken) =
     valued (key_more (b ∷ after) more (λ no. cc) takes) e (value_more more (after_equals h takes e) taken)
-
-line_ends : {text : List ℕ} (front rest : List ℕ) → IsAtLineEnd rest → text ≡ front ++ rest
-    → HasLineEnd text → EndsLine rest
-line_ends front [] end joined h = inl refl
-line_ends front (a ∷ []) end joined h = inr (ends_at_byte front a [] (omega arith) joined h)
-line_ends front (a ∷ b ∷ rest) (inl is) joined h =
-    inr (ends_at_byte front a (b ∷ rest) (omega arith) joined h)
-line_ends front (a ∷ b ∷ rest) (inr is) joined h =
-    let e = is.0 in
-    inr (ends_at_byte front a (b ∷ rest) (omega arith) joined h)
-
-comment_ends : {text : List ℕ} (front rest : List ℕ) → StopsRun is_comment_byte rest → text ≡ front ++ rest
-    → HasLineEnd text → EndsLine rest
-comment_ends front [] stops joined h = inl refl
-comment_ends front (b ∷ rest) stops joined h =
-    let other : b ≢ 92 = grind (arith, nat_tests) in inr (ends_at_byte front b rest other joined h)
 
 entry_lines : {text key rest : List ℕ} {value : Option (List ℕ)} {lines : ℕ} → HasLineEnd text
     → TakesEntry text key value lines rest
@@ -204,7 +190,7 @@ entry_lines : {text key rest : List ℕ} {value : Option (List ℕ)} {lines : �
 entry_lines h (alone {key = key} {rest = rest} takes end) =
     let bytes = key_bytes rest takes in
     let e = line_feeds_after (key ++ takes.spaces) rest bytes.0 bytes.1 in
-    (omega arith, line_ends (key ++ takes.spaces) rest end bytes.0 h)
+    (omega arith, ends_after (key ++ takes.spaces) rest (line_end_other rest end) bytes.0 h)
 entry_lines h (valued {b = b} {key = key} {after = after} takes is taken) =
     let bytes = key_bytes (b ∷ after) takes in
     let e = line_feeds_after (key ++ takes.spaces) (b ∷ after) bytes.0 bytes.1 in
@@ -213,14 +199,10 @@ entry_lines h (valued {b = b} {key = key} {after = after} takes is taken) =
     let (g, ends) = value_lines (after_equals h takes is) taken in
     (omega arith, ends)
 
-comment_some : (b : ℕ) (text comment rest : List ℕ) → is_comment_sign b ≡ true
-    → Run is_comment_byte text comment rest → HasLineEnd (b ∷ text) → rest ≢ []
-comment_some b text comment rest is run h none =
-    let first : is_comment_byte b ≡ true = grind (arith, nat_tests) in
-    let same : text ≡ comment = run.joined ∙ ap (λ r. comment ++ r) none ∙ append-nil comment in
-    let pass = run.pass in
-    let all : list_all is_comment_byte (b ∷ comment) ≡ true = rw (first, pass) in
-    no_line_end (b ∷ comment) all (subst (λ t. HasLineEnd (b ∷ t)) same h)
+comment_bytes : (b : ℕ) (comment : List ℕ) → is_comment_sign b ≡ true
+    → list_all is_comment_byte comment ≡ true → list_all is_comment_byte (b ∷ comment) ≡ true
+comment_bytes b comment is pass =
+    let first : is_comment_byte b ≡ true = grind (arith, nat_tests) in rw (first, pass)
 
 blank_alone : (b : ℕ) → is_blank b ≡ true → list_all is_comment_byte (b ∷ []) ≡ true
 blank_alone b is = rw (blank_other b is)
@@ -240,22 +222,21 @@ module _ (more : List ℕ) (last : List Entry) (end : ℕ) (then : (section : Op
       let f = line_feeds_more b text is in
       file.line_end is (reads_more h (ends_line (tail_or_last b text (omega arith) (has_end b text ends))) (omega arith))
   reads_more (file.comment {b = b} {text = text} {comment = comment} {rest = rest} is run h) ends e =
-      let some = comment_some b text comment rest is run (has_end b text ends) in
-      let first : is_comment_byte b ≡ true = grind (arith, nat_tests) in
-      let pass = run.pass in
-      let all : list_all is_comment_byte (b ∷ comment) ≡ true = rw (first, pass) in
-      let joined : b ∷ text ≡ (b ∷ comment) ++ rest = ap (λ t. b ∷ t) run.joined in
+      let has = has_end b text ends in
+      let all = comment_bytes b comment is run.pass in
+      let joined : b ∷ text ≡ (b ∷ comment) ++ rest = ap (◌∷◌ b) run.joined in
       let f = line_feeds_after (b ∷ comment) rest joined all in
-      file.comment is (run_more rest more some run) (reads_more h (comment_ends (b ∷ comment) rest run.longest joined (has_end b text ends)) (omega arith))
+      let ends_rest = ends_after (b ∷ comment) rest (comment_end_other rest run.longest) joined has in
+      let some = some_after (b ∷ comment) rest all joined has in
+      file.comment is (run_more rest more some run) (reads_more h ends_rest (omega arith))
   reads_more (file.header {b = b} {text = text} {rest = rest} is header h) ends e =
       let (front, joined, all) = header_bytes header in
       let first : list_all is_comment_byte (b ∷ front) ≡ true = rw is all in
       let joined_too : b ∷ text ≡ (b ∷ front) ++ 93 ∷ rest = ap (λ t. b ∷ t) joined in
       let f = line_feeds_after (b ∷ front) (93 ∷ rest) joined_too first in
       let g = line_feeds_after (93 ∷ []) rest refl refl in
-      let bracket : 93 ≢ 92 = omega arith in
       file.header is (header_more more header)
-      (reads_more h (ends_line (after_front (b ∷ front) 93 rest bracket joined_too (has_end b text ends))) (omega arith))
+      (reads_more h (ends_line (after_front (b ∷ front) 93 rest (omega arith) joined_too (has_end b text ends))) (omega arith))
   reads_more (file.entry {b = b} {text = text} letter takes h) ends e =
       let has = has_end b text ends in
       let (f, ends_rest) = entry_lines has takes in

@@ -54,22 +54,16 @@ value_bound (value.closed {raw = raw} {text = text} {rest = rest} joined spells 
     omega (arith, line_feeds_fit raw)
 value_bound (value.open_end {raw = raw} spells) = omega (arith, line_feeds_fit raw)
 
-value_shortens : {text raw rest : List ℕ} {lines : ℕ} → TakesValue text raw lines rest
-    → length rest ≤ length text
-value_shortens (value.closed {raw = raw} {text = text} {rest = rest} joined spells ends) =
-    omega (arith, length_joined text raw rest joined)
-value_shortens (value.open_end {raw = raw} spells) = omega arith
-
 pub value_stops_bound : {text : List ℕ} {lines : ℕ} {fault : FileFault} → ValueStops text lines fault
     → lines ≤ length text
 value_stops_bound (value.nul {b = b} {text = text} raw rest joined part e) =
-    let f = length_joined text raw (b ∷ rest) joined in omega (arith, line_feeds_fit raw)
+    omega (arith, length_joined text raw (b ∷ rest) joined, line_feeds_fit raw)
 value_stops_bound (value.unclosed {text = text} raw rest joined part e) =
     let f = length_joined text raw rest joined in omega (arith, line_feeds_fit raw)
 value_stops_bound (value.unclosed_open_end {b = b} {text = text} raw joined part e) =
     let f = length_joined text raw (b ∷ []) joined in omega (arith, line_feeds_fit raw)
 value_stops_bound (value.no_escape {b = b} {text = text} q raw rest joined part e is_none) =
-    let f = length_joined text raw (b ∷ rest) joined in omega (arith, line_feeds_fit raw)
+    omega (arith, length_joined text raw (b ∷ rest) joined, line_feeds_fit raw)
 
 pub key_shortens : {text key rest : List ℕ} → TakesKey text key rest → length rest ≤ length text
 key_shortens takes = let f = run_shortens takes.key_run in let g = run_shortens takes.space_run in omega arith
@@ -96,18 +90,6 @@ entry_bound {b = b} letter (file.valued {key = key} takes e taken) =
     let g = run_shortens takes.space_run in
     omega (arith, value_bound taken)
 
-entry_shorter : {b lines : ℕ} {text key rest : List ℕ} {v : Option (List ℕ)} → is_ascii_alphabetic b ≡ true
-    → TakesEntry (b ∷ text) key v lines rest
-    → length rest < length (b ∷ text)
-entry_shorter {b = b} letter (file.alone {key = key} takes end) =
-    let f = key_taken key (letter_is_key_byte b letter) takes.key_run in
-    let g = run_shortens takes.space_run in
-    omega arith
-entry_shorter {b = b} letter (file.valued {key = key} takes e taken) =
-    let f = key_taken key (letter_is_key_byte b letter) takes.key_run in
-    let g = run_shortens takes.space_run in
-    omega (arith, value_shortens taken)
-
 pub entry_stops_bound : {text : List ℕ} {lines : ℕ} {fault : FileFault} → EntryStops text lines fault
     → lines ≤ length text
 entry_stops_bound (file.key takes h l) = omega arith
@@ -118,12 +100,9 @@ entry_stops_bound (file.value takes e stops) =
 pub entry_bound_at : {b lines : ℕ} {text key rest : List ℕ} {v : Option (List ℕ)} (at : List ℕ)
     → at ≡ b ∷ text → is_ascii_alphabetic b ≡ true → TakesEntry at key v lines rest
     → lines + length rest ≤ length at
-entry_bound_at {b = b} {lines = lines} {text = text} {key = key} {rest = rest} {v = v} at e letter taken =
-    let bound = entry_bound letter (subst (λ t. TakesEntry t key v lines rest) e taken) in
-    rw e (omega arith)
+entry_bound_at at e letter taken = let bound = entry_bound letter (rw e at taken) in rw e (omega arith)
 
 pub entry_shortens : {b lines : ℕ} {text key rest : List ℕ} {v : Option (List ℕ)} (at : List ℕ)
     → at ≡ b ∷ text → is_ascii_alphabetic b ≡ true → TakesEntry at key v lines rest
     → length rest < length at
-entry_shortens {b = b} {lines = lines} {text = text} {key = key} {rest = rest} {v = v} at e letter taken =
-    rw e (entry_shorter letter (subst (λ t. TakesEntry t key v lines rest) e taken))
+entry_shortens at e letter taken = let bound = entry_bound letter (rw e at taken) in rw e (omega arith)

@@ -1,5 +1,5 @@
 -- The settings of a command.
-use Rattle.std.proofs.Common.{◌≡◌, ◌≢◌, ℕ, ◌+◌, ◌-◌, ◌*◌, ◌^◌, ◌<◌, ◌≤◌, Bool, true, false, not, ◌||◌, List}
+use Rattle.std.proofs.Common.{◌≡◌, ◌≢◌, ℕ, ◌+◌, ◌-◌, ◌*◌, ◌^◌, ◌<◌, ◌≤◌, Bool, true, false, not, List}
 use Rattle.std.proofs.Common.{[], ◌∷◌, ◌++◌, Option, Some, None, take, drop, get_or, Result, Ok, Err}
 use Rattle.std.proofs.Common.{MatchResult, IsTrue, ◌↔◌, length, refl, sym, ap, ◌∙◌, subst, append_assoc}
 use Rattle.std.proofs.Common.{append-nil, arith, inl, inr, ◌⊎◌, ◌==◌}
@@ -15,15 +15,14 @@ use Rattle.config_file.specs.declared.command.CommandError.{CommandError}
 use Rattle.config_file.specs.declared.command.CommandError.TheVariants as error
 use Rattle.config_file.specs.Command as command
 use Rattle.std.proofs.lemmas.List.Folds.{list_any-append}
-use Rattle.std.proofs.lemmas.Bool.{true≢false, and_parts}
+use Rattle.std.proofs.lemmas.Bool.{true≢false, and_parts, or_parts}
+use Rattle.config_file.proofs.LineEnds.{all_more}
 use Rattle.std.proofs.lemmas.Bool.Decides.{nat_tests}
 use Rattle.config_file.specs.Bytes.{is_key_byte, is_name_byte, is_text_byte}
 use Rattle.config_file.specs.Runs.{Run}
-use Rattle.config_file.specs.Header.{Section, BeginsWithout}
-use Rattle.config_file.specs.File.{IsFile}
+use Rattle.config_file.specs.Header.{BeginsWithout}
 use Rattle.config_file.specs.Key.{Key, key, IsKey, IsAccepted, dotted, is_name}
-use Rattle.config_file.specs.Spelling.{SpellsSection, HasNoHeader, IsNoKey, LacksSpelling, IsEntry, AddsEntry}
-use Rattle.config_file.specs.Spelling.{EndsLine}
+use Rattle.config_file.specs.Spelling.{HasNoHeader, IsNoKey, LacksSpelling, IsEntry, AddsEntry}
 use Rattle.config_file.specs.Reading.Spellings.{is_section, is_key, is_spellable, is_spellable_or_absent}
 use Rattle.config_file.specs.Command.{goes_on, Quotes, closes, escaped, plain, TakesQuoted, opens}
 use Rattle.config_file.specs.Command.{EndsParameter, AfterEquals, absent, present, TakesParameter, text_alone}
@@ -73,46 +72,34 @@ after_escape is on (plain other more) = absurd (other is)
 none_quoted : {q r : List ℕ} → ¬ (Quotes [] q r)
 none_quoted h = elim h [ ]
 
-pub piece_plain : (text rest : List ℕ) (b : ℕ) → text ≡ b ∷ rest → b ≢ 39
+pub piece_plain : {text rest : List ℕ} {b : ℕ} → text ≡ b ∷ rest → b ≢ 39
     → (length rest < length text)
     × ((quoted after : List ℕ) → Quotes rest quoted after → Quotes text (b ∷ quoted) after)
     × ((quoted after : List ℕ) → Quotes text quoted after → (more : List ℕ) × Quotes rest more after)
-piece_plain text rest b e other = (
-  omega (arith, ap length e),
-  λ q r h. subst (λ t. Quotes t (b ∷ q) r) (sym e) (plain other h),
-  λ q r h. after_plain other (subst (λ t. Quotes t q r) e h),
-)
+piece_plain e other = rw e (omega arith, λ q r h. plain other h, λ q r h. after_plain other h)
 
-pub piece_escaped : (text next rest : List ℕ) (a c : ℕ) → text ≡ a ∷ next → a ≡ 39 → GoesOn next c rest
+pub piece_escaped : {text next rest : List ℕ} {a c : ℕ} → text ≡ a ∷ next → a ≡ 39 → GoesOn next c rest
     → (length rest < length text)
     × ((quoted after : List ℕ) → Quotes rest quoted after → Quotes text (c ∷ quoted) after)
     × ((quoted after : List ℕ) → Quotes text quoted after → (more : List ℕ) × Quotes rest more after)
-piece_escaped text next rest a c e is goes =
+piece_escaped {text = text} {rest = rest} {a = a} {c = c} e is goes =
     let whole : text ≡ a ∷ 92 ∷ c ∷ 39 ∷ rest = e ∙ ap (◌∷◌ a) goes.joined in
-    let on : goes_on (92 ∷ c ∷ 39 ∷ rest) ≡ true = ap goes_on (sym goes.joined) ∙ goes.goes_on in (
-      omega (arith, ap length whole),
-      λ q r h. subst (λ t. Quotes t (c ∷ q) r) (sym whole) (escaped is on h),
-      λ q r h. after_escape is on (subst (λ t. Quotes t q r) whole h),
-    )
+    let on : goes_on (92 ∷ c ∷ 39 ∷ rest) ≡ true = ap goes_on (sym goes.joined) ∙ goes.goes_on in
+    rw whole (omega arith, λ q r h. escaped is on h, λ q r h. after_escape is on h)
 
 -- what follows the longest run
-pub run_after : (test : ℕ → Bool) (text rest : List ℕ) (n : ℕ) → n ≡ prefix_len test text → rest ≡ drop n text
+pub run_after : {test : ℕ → Bool} {text rest : List ℕ} {n : ℕ} → n ≡ prefix_len test text → rest ≡ drop n text
     → (front : List ℕ) × Run test text front rest
-run_after test text rest n e f = (take n text, rw (f, e) (run_split test text))
+run_after {test = test} {text = text} {n = n} e f = (take n text, rw (f, e) (run_split test text))
 
-pub run_both : (test : ℕ → Bool) (text front rest : List ℕ) (n : ℕ) → n ≡ prefix_len test text
+pub run_both : {test : ℕ → Bool} {text front rest : List ℕ} {n : ℕ} → n ≡ prefix_len test text
     → front ≡ take n text
     → rest ≡ drop n text → Run test text front rest
-run_both test text front rest n e f g = rw (f, g, e) (run_split test text)
+run_both {test = test} {text = text} e f g = rw (f, g, e) (run_split test text)
 
 -- the settings that lines add
 pub adds_none : AddsSettings [] []
-adds_none text entries file ends = (
-  [],
-  tt,
-  subst (λ t. IsFile t (entries ++ []) None) (sym (append-nil text)) (subst (λ e. IsFile text e None) (sym (append-nil entries)) file),
-  subst EndsLine (sym (append-nil text)) ends,
-)
+adds_none text entries file ends = ([], tt, simp append-nil file, simp append-nil ends)
 
 pub adds_both : (first second : List ℕ) (some more : List KeyValue) → AddsSettings first some
     → AddsSettings second more
@@ -122,57 +109,46 @@ adds_both first second some more adds also text entries file ends =
     let (others, too, then, last) = also (text ++ first) (entries ++ added) now end in (
       added ++ others,
       zip_append IsSetting some more added others are too,
-      subst (λ t. IsFile t (entries ++ (added ++ others)) None) (append_assoc text first second)
-          (subst (λ e. IsFile ((text ++ first) ++ second) e None) (append_assoc entries added others) then),
-      subst EndsLine (append_assoc text first second) last,
+      rw (append_assoc text first second, append_assoc entries added others) at then,
+      rw (append_assoc text first second) at last,
     )
 
-pub adds_one : (setting : KeyValue) (k : Key) (bytes section name : List ℕ) (subsection : Option (List ℕ))
-    → IsKey setting.0 k → section ≡ k.section → subsection ≡ k.subsection → name ≡ k.name
+pub adds_one : (setting : KeyValue) {k : Key} (bytes : List ℕ) {section name : List ℕ}
+    {subsection : Option (List ℕ)} → IsKey setting.0 k → section ≡ k.section → subsection ≡ k.subsection
+    → name ≡ k.name
     → AddsEntry bytes section subsection name setting.1 → AddsSettings bytes (setting ∷ [])
-adds_one setting k bytes section name subsection is e f g adds text entries file ends =
+adds_one setting {k = k} bytes is e f g adds text entries file ends =
     let (entry, parts, now, end) = adds text entries file ends in
     let same : IsEntry k.section k.subsection k.name setting.1 entry.line entry = record {
-      section = subst (λ x. (s : Section) × (entry.section ≡ Some s) × SpellsSection s x k.subsection) e
-          (subst (λ x. (s : Section) × (entry.section ≡ Some s) × SpellsSection s section x) f parts.section);
+      section = rw (e, f) at parts.section;
       same_key = parts.same_key ∙ g;
       spells = parts.spells;
       same_line = refl;
     } in (entry ∷ [], (record { key = k; is_key = is; is_entry = same }, tt), now, end)
 
 -- a key that is accepted can be written, without a NUL
-or_false : (a b : Bool) → (a || b) ≡ false → (a ≡ false) × (b ≡ false)
-or_false true b e = absurd (true≢false e)
-or_false false b e = (refl, e)
-
-pub or_none : (a b : Bool) → a ≡ false → b ≡ false → (a || b) ≡ false
-or_none a b e f = rw (e, f) refl
-
 not_true : (a : Bool) → not a ≡ true → a ≡ false
 not_true true e = absurd (true≢false (sym e))
 not_true false e = refl
 
 nul_parts : (a b : List ℕ) → has_nul (a ++ b) ≡ false → (has_nul a ≡ false) × (has_nul b ≡ false)
-nul_parts a b e = or_false (has_nul a) (has_nul b) (sym (list_any-append (λ c. c == 0) a b) ∙ e)
+nul_parts a b e = or_parts (has_nul a) (has_nul b) (sym (list_any-append (λ c. c == 0) a b) ∙ e)
 
-name_bytes : (bytes : List ℕ) → list_all is_key_byte bytes ≡ true → list_all is_name_byte bytes ≡ true
-name_bytes [] all = refl
-name_bytes (b ∷ bytes) all =
-    let (here, rest) = and_parts (is_key_byte b) (list_all is_key_byte bytes) all in
-    let more = name_bytes bytes rest in rw (here, more) refl
+name_byte : (b : ℕ) → is_key_byte b ≡ true → is_name_byte b ≡ true
+name_byte b is = rw is
 
 text_bytes : (bytes : List ℕ) → not (list_any (λ b. b == 10) bytes) ≡ true → has_nul bytes ≡ false
     → list_all is_text_byte bytes ≡ true
 text_bytes [] lines nul = refl
 text_bytes (b ∷ bytes) lines nul =
-    let (here, rest) = or_false (b == 0) (has_nul bytes) nul in
-    let (feed, others) = or_false (b == 10) (list_any (λ c. c == 10) bytes) (not_true _ lines) in
+    let (here, rest) = or_parts (b == 0) (has_nul bytes) nul in
+    let (feed, others) = or_parts (b == 10) (list_any (λ c. c == 10) bytes) (not_true _ lines) in
     let more = text_bytes bytes (rw others refl) rest in rw (here, feed, more) refl
 
 spellable : (bytes : List ℕ) → has_nul bytes ≡ false → is_spellable bytes ≡ true
 spellable [] nul = refl
 spellable (b ∷ bytes) nul =
-    let (here, rest) = or_false (b == 0) (has_nul bytes) nul in
+    let (here, rest) = or_parts (b == 0) (has_nul bytes) nul in
     let more = spellable bytes rest in rw (here, more) refl
 
 value_spellable : (value : Option (List ℕ)) → some_has_nul value ≡ false → is_spellable_or_absent value ≡ true
@@ -190,9 +166,9 @@ section_writable : (section : List ℕ) (subsection : Option (List ℕ)) (name :
     → is_section section subsection ≡ true
 section_writable section None name is nul =
     let some = is.some_section in
-    let bytes = name_bytes section is.section in rw (bytes, some) refl
+    let bytes = all_more is_key_byte is_name_byte name_byte section is.section in rw (bytes, some) refl
 section_writable section (Some subsection) name is nul =
-    let bytes = name_bytes section is.section in
+    let bytes = all_more is_key_byte is_name_byte name_byte section is.section in
     let text = text_bytes subsection is.subsection nul in rw (bytes, text) refl
 
 never_lacks : (value : Option (List ℕ)) → is_spellable_or_absent value ≡ true → ¬ (LacksSpelling value)
@@ -212,19 +188,20 @@ never_no_key (b ∷ name) is lacks =
     let (letter, all) = and_parts (is_ascii_alphabetic b) (list_all is_key_byte (b ∷ name)) is in
     lacks b name [] letter (record { joined = sym (append-nil (b ∷ name)); pass = all; longest = tt })
 
-pub never_refused : (text : List ℕ) (value : Option (List ℕ)) (k : Key) (section name : List ℕ) (subsection : Option (List ℕ))
-    → IsKey text k → section ≡ k.section → subsection ≡ k.subsection → name ≡ k.name
+pub never_refused : {text : List ℕ} (value : Option (List ℕ)) {k : Key} {section name : List ℕ}
+    {subsection : Option (List ℕ)} → IsKey text k → section ≡ k.section → subsection ≡ k.subsection
+    → name ≡ k.name
     → has_nul text ≡ false → some_has_nul value ≡ false
     → ¬ (HasNoHeader section subsection ⊎ IsNoKey name ⊎ LacksSpelling value)
-never_refused text value k section name subsection is e f g nul also refused =
+never_refused value {k = k} {section = section} {name = name} {subsection = sub} is e f g nul also refused =
     let (front, last) =
     nul_parts (k.section ++ dotted k.subsection) (46 ∷ k.name) (sym (ap has_nul is.cut.joined) ∙ nul) in
     let (first, middle) = nul_parts k.section (dotted k.subsection) front in
-    let header : is_section section subsection ≡ true =
+    let header : is_section section sub ≡ true =
     rw (e, f) (section_writable k.section k.subsection k.name is.accepted middle) in
     let named : is_key name ≡ true = rw g (key_writable k.name is.accepted.name) in
     elim refused [
-      | inl no_header ↦ never_without_header section subsection header no_header
+      | inl no_header ↦ never_without_header section sub header no_header
       | inr other ↦ elim other [
         | inl no_name ↦ never_no_key name named no_name
         | inr no_spelling ↦ never_lacks value (value_spellable value also) no_spelling
@@ -232,12 +209,6 @@ never_refused text value k section name subsection is e f g nul also refused =
     ]
 
 -- digits
-digit_small : (b : ℕ) → is_ascii_digit b ≡ true → digit_value b < 10
-digit_small b is = grind (arith, nat_tests)
-
-digit_tested : (b : ℕ) → digit_value b < 10 → is_ascii_digit b ≡ true
-digit_tested b is = grind (arith, nat_tests)
-
 digit_is : (b : ℕ) → IsInRange 48 57 b → digit_value b ≡ b - 48
 digit_is b is = grind (arith, nat_tests)
 
@@ -245,13 +216,12 @@ all_digits : (text : List ℕ) → list_all is_ascii_digit text ≡ true → All
 all_digits [] all = tt
 all_digits (b ∷ text) all =
     let (here, rest) = and_parts (is_ascii_digit b) (list_all is_ascii_digit text) all in
-    (digit_small b here, all_digits text rest)
+    (grind (arith, nat_tests), all_digits text rest)
 
 digits_pass : (text : List ℕ) → AllDigits 10 text → list_all is_ascii_digit text ≡ true
 digits_pass [] all = refl
 digits_pass (b ∷ text) (here, rest) =
-    let more = digits_pass text rest in
-    let this = digit_tested b here in rw (this, more) refl
+    let this : is_ascii_digit b ≡ true = grind (arith, nat_tests) in rw (this, digits_pass text rest) refl
 
 pub numeral_tested : (text : List ℕ) (test : Bool) → test ≡ list_all is_ascii_digit text → 0 < length text
     → IsTrue test ↔ (IsNumeral 10 text)
@@ -296,72 +266,55 @@ sign_cut (after_plus is) = command.after_plus is
 sign_cut empty = command.no_sign
 sign_cut (no_sign other others) = command.no_sign
 
-pub number_here : (text rest digits : List ℕ) (is_negative : Bool)
+pub number_here : {text rest digits : List ℕ} {is_negative : Bool}
     → (spaces : List ℕ) × Run is_c_space text spaces rest
     → CutsSign rest is_negative digits → IsNumeral 10 digits → IsNumber text is_negative digits
-number_here text rest digits is_negative (spaces, run) cuts numeral =
+number_here {rest = rest} (spaces, run) cuts numeral =
     record { spaces = spaces; signed = rest; space_run = run; sign = sign_cut cuts; numeral = numeral }
 
-pub no_number : (text rest digits : List ℕ) (is_negative : Bool)
+pub no_number : {text rest digits : List ℕ} {is_negative : Bool}
     → (spaces : List ℕ) × Run is_c_space text spaces rest
     → CutsSign rest is_negative digits → ¬ (IsNumeral 10 digits)
     → (other : Bool) (others : List ℕ) → ¬ (IsNumber text other others)
-no_number text rest digits is_negative (spaces, run) cuts none other others number =
+no_number (spaces, run) cuts none other others number =
     let (same, e) = run_only run number.space_run in
-    let cut : CutsSign number.signed is_negative digits = subst (λ r. CutsSign r is_negative digits) e cuts in
-    let (sign, f) = sign_only cut number.sign number.numeral in
-    none (subst (λ d. IsNumeral 10 d) (sym f) number.numeral)
+    let (sign, f) = sign_only (rw e at cuts) number.sign number.numeral in none (rw f number.numeral)
 
-pub counted : (text digits : List ℕ) (is_negative : Bool) (number count : ℕ) (result : Result ℕ CommandError)
+pub counted : {text digits : List ℕ} {is_negative : Bool} {number count : ℕ} (result : Result ℕ CommandError)
     → IsNumber text is_negative digits → number ≡ digits_value 10 digits → number < 2 ^ 64
     → count ≡ in_64_bits is_negative number → Limits count result → Counts text result
-counted text digits is_negative number count (Ok given) is e small f (same, few) =
-    inr (
-      is_negative,
-      digits,
-      is,
-      subst (λ n. n < 2 ^ 64) e small,
-      same ∙ f ∙ ap (in_64_bits is_negative) e,
-      subst (λ n. n ≤ 2147483647) (sym same) few,
-    )
-counted text digits is_negative number count (Err error.TooMany) is e small f many =
+counted {digits = digits} {is_negative = is_negative} (Ok given) is e small f (same, few) =
+    inr (is_negative, digits, is, omega arith, same ∙ f ∙ ap (in_64_bits is_negative) e, omega arith)
+counted {digits = digits} {is_negative = is_negative} (Err error.TooMany) is e small f many =
     (is_negative, digits, is, λ small. subst (λ n. 2147483647 < n) (f ∙ ap (in_64_bits is_negative) e) many)
-counted text digits is_negative number count (Err error.BadCount) is e small f many = absurd many
-counted text digits is_negative number count (Err (error.MissingKey n)) is e small f many = absurd many
-counted text digits is_negative number count (Err (error.MissingValue n)) is e small f many = absurd many
-counted text digits is_negative number count (Err error.BadFormat) is e small f many = absurd many
-counted text digits is_negative number count (Err (error.NoKey shown)) is e small f many = absurd many
-counted text digits is_negative number count (Err error.EmptyKey) is e small f many = absurd many
-counted text digits is_negative number count (Err (error.Key shown reason)) is e small f many = absurd many
-counted text digits is_negative number count (Err error.Nul) is e small f many = absurd many
-counted text digits is_negative number count (Err (error.Memory refused)) is e small f many = absurd many
+counted (Err _) is e small f many = absurd many
 
 -- quoted texts and parameters
 closed_inner : {b : ℕ} (inner : List ℕ) → Lacks Quotes inner → (q r : List ℕ)
     → ¬ (TakesQuoted (b ∷ inner) q r)
 closed_inner inner lacks q r (opens is more) = lacks q r more
 
-pub nothing_quoted : (text q r : List ℕ) → text ≡ [] → ¬ (Quotes text q r)
-nothing_quoted text q r e h = none_quoted (subst (λ t. Quotes t q r) e h)
+pub nothing_quoted : {text q r : List ℕ} → text ≡ [] → ¬ (Quotes text q r)
+nothing_quoted e h = none_quoted (rw e at h)
 
 pub not_opened : (text inner : List ℕ) → text ≡ 39 ∷ inner → Lacks Quotes inner → Lacks TakesQuoted text
 not_opened text inner e lacks q r takes =
-    closed_inner inner lacks q r (subst (λ t. TakesQuoted t q r) e takes)
+    closed_inner inner lacks q r (rw e at takes)
 
-pub no_value : (text value rest : List ℕ) → ¬ (EndsParameter text) → TakesQuoted text value rest
+pub no_value : {text value rest : List ℕ} → TakesQuoted text value rest → ¬ (EndsParameter text)
     → ¬ (EndsParameter rest)
     → Lacks AfterEquals text
-no_value text value rest going taken other _ _ (absent ends) = going ends
-no_value text value rest going taken other _ _ (present also ends) =
+no_value taken going other _ _ (absent ends) = going ends
+no_value taken going other _ _ (present also ends) =
     let (e, f) = quoted_only taken also in other (subst EndsParameter (sym f) ends)
 
-pub no_parameter : (text key rest : List ℕ) → TakesQuoted text key rest → ¬ (EndsParameter rest)
+pub no_parameter : {text key rest : List ℕ} → TakesQuoted text key rest → ¬ (EndsParameter rest)
     → ((b : ℕ) (after next : List ℕ) (value : Option (List ℕ)) → rest ≡ b ∷ after → b ≡ 61 → ¬ (AfterEquals after value next))
     → LacksParameter text
-no_parameter text key rest taken going lacks _ _ (text_alone also ends) =
+no_parameter taken going lacks _ _ (text_alone also ends) =
     let (e, f) = quoted_only taken also in going (subst EndsParameter (sym f) ends)
-no_parameter text key rest taken going lacks _ _ (key_and_value {b = b} {after = after} {rest = next} {value = value} also is follows) =
-    let (e, f) = quoted_only taken also in lacks b after next value f is follows
+no_parameter taken going lacks _ _ (key_and_value also is follows) =
+    let (e, f) = quoted_only taken also in lacks _ _ _ _ f is follows
 
 pub no_equals : (rest : List ℕ) → BeginsWithout 61 rest
     → (b : ℕ) (after next : List ℕ) (value : Option (List ℕ)) → rest ≡ b ∷ after → b ≡ 61
@@ -372,7 +325,7 @@ pub no_value_after : (rest here : List ℕ) → rest ≡ 61 ∷ here → Lacks A
     → (b : ℕ) (after next : List ℕ) (value : Option (List ℕ)) → rest ≡ b ∷ after → b ≡ 61
     → ¬ (AfterEquals after value next)
 no_value_after rest here e lacks b after next value f is follows =
-    let same : after ≡ here = cc in lacks value next (subst (λ t. AfterEquals t value next) same follows)
+    let same : after ≡ here = cc in lacks value next (rw same at follows)
 
 -- what a parameter appends
 pub pair_pushed : (key old new : List ℕ) (value : Option (List ℕ)) (result : Result (Unit {0}) CommandError)
@@ -384,23 +337,22 @@ pair_pushed key old new value (Ok done) (accepts, (line, adds, e)) =
     (key_value key value, as_given, accepts, (line, adds, e))
 pair_pushed key old new value (Err error) (refuses, same) = of_pair refuses
 
-pub whole_pushed : (text key rest old new : List ℕ) (value : Option (List ℕ)) (result : Result (Unit {0}) CommandError)
-    → Run is_no_equals text key rest → value ≡ value_after rest → key ≢ []
+pub whole_pushed : {text key rest : List ℕ} (old new : List ℕ) (value : Option (List ℕ))
+    (result : Result (Unit {0}) CommandError) → Run is_no_equals text key rest → value ≡ value_after rest
+    → key ≢ []
     → MatchResult result
     (λ _. Accepts (key_value key value) × ((line : List ℕ) × AddsSettings line (key_value key value ∷ []) × (new ≡ old ++ line)))
     (λ error. RefusesSetting (key_value key value) error × (new ≡ old))
     → PushesParameter (whole text) old new result
-whole_pushed text key rest old new value (Ok done) run is some (accepts, (line, adds, e)) =
-    let says : Says (whole text) (key_value key value) =
-    subst (λ v. Says (whole text) (key_value key v)) (sym is) (cut run) in
-    (key_value key value, says, accepts, (line, adds, e))
-whole_pushed text key rest old new value (Err error) run is some (refuses, same) =
-    of_text run some (subst (λ v. RefusesSetting (key_value key v) error) is refuses)
+whole_pushed {key = key} old new value (Ok done) run is some (accepts, (line, adds, e)) =
+    (key_value key value, rw is (cut run), accepts, (line, adds, e))
+whole_pushed old new value (Err error) run is some (refuses, same) =
+    of_text run some (rw is at refuses)
 
-pub keyless : (text key rest bytes : List ℕ) → Run is_no_equals bytes key rest → key ≡ [] → bytes ≡ text
+pub keyless : {text key rest bytes : List ℕ} → Run is_no_equals bytes key rest → key ≡ [] → bytes ≡ text
     → Run is_no_equals text [] rest
-keyless text key rest bytes run e f =
-    subst (λ b. Run is_no_equals b [] rest) f (subst (λ k. Run is_no_equals bytes k rest) e run)
+keyless run e f =
+    rw (e, f) at run
 
 -- each parameter shortens what is left
 quotes_shorten : {text q r : List ℕ} → Quotes text q r → length r < length text
@@ -424,7 +376,9 @@ parameter_shortens (key_and_value takes is follows) =
     let second = value_shortens follows in omega (arith, first, second)
 
 -- a parameter and what follows it
-module _ (text at rest white next : List ℕ) (parameter : Parameter) (takes : TakesParameter at parameter rest) (run : Run is_white rest white next) where
+module _
+    (text : List ℕ) {at rest white next : List ℕ} {parameter : Parameter}
+    (takes : TakesParameter at parameter rest) (run : Run is_white rest white next) where
   pub settings_next : (lines new : List ℕ)
       → (settings : List KeyValue) × AddsSettings lines settings
       × ((more : List KeyValue) → SettingsOf at more → SettingsOf text (settings ++ more))
@@ -434,8 +388,8 @@ module _ (text at rest white next : List ℕ) (parameter : Parameter) (takes : T
       × ((more : List KeyValue) → SettingsOf next more → SettingsOf text (settings ++ more))
   settings_next lines new (settings, adds, spells) (setting, says, accepts, (line, also, e)) = (
     settings ++ setting ∷ [],
-    subst (λ b. AddsSettings b (settings ++ setting ∷ [])) (sym e) (adds_both lines line settings (setting ∷ []) adds also),
-    λ others h. subst (λ s. SettingsOf text s) (sym (append_assoc settings (setting ∷ []) others)) (spells (setting ∷ others) (command.more takes says run h)),
+    rw e (adds_both lines line settings (setting ∷ []) adds also),
+    λ others h. rw append_assoc (spells (setting ∷ others) (command.more takes says run h)),
   )
 
   pub refused_later : (old new : List ℕ)
@@ -449,17 +403,10 @@ pub all_settings : (text at lines : List ℕ) → at ≡ []
     → (settings : List KeyValue) × AddsSettings lines settings
     × ((more : List KeyValue) → SettingsOf at more → SettingsOf text (settings ++ more))
     → (settings : List KeyValue) × SettingsOf text settings × AddsSettings lines settings
-all_settings text at lines e (settings, adds, spells) = (
-  settings,
-  subst (λ s. SettingsOf text s) (append-nil settings) (spells [] (subst (λ t. SettingsOf t []) (sym e) command.none)),
-  adds,
-)
+all_settings text at lines e (settings, adds, spells) =
+    (settings, rw append-nil at (spells [] (rw e command.none)), adds)
 
 -- tests of lengths
-pub none_left : (bytes : List ℕ) → length bytes ≡ 0 → bytes ≡ []
-none_left [] e = refl
-none_left (b ∷ bytes) e = absurd (omega (arith, e))
-
 pub some_left : (bytes : List ℕ) → 0 < length bytes → bytes ≢ []
 some_left [] some none = absurd (omega (arith, some))
 some_left (b ∷ bytes) some none = cc

@@ -1,14 +1,14 @@
 -- Each text has a reading.
-use Rattle.std.proofs.Common.{◌≡◌, ◌≢◌, ℕ, zero, suc, ◌+◌, ◌≤◌, true, ◌==◌, List, [], ◌∷◌, Option, Some, None}
-use Rattle.std.proofs.Common.{Result, Ok, Err, length, take, drop, refl, arith, eqb-true, inl, inr, ◌⊎◌}
+use Rattle.std.proofs.Common.{◌≡◌, ◌≢◌, ℕ, zero, suc, ◌+◌, ◌≤◌, true, List, [], ◌∷◌, Option, Some, None}
+use Rattle.std.proofs.Common.{Result, Ok, Err, length, take, drop, refl, arith, inl, inr}
 use Rattle.std.specs.List.{prefix_len}
 use Rattle.std.specs.Char.{is_ascii_alphabetic}
 use Rattle.config_file.proofs.Runs.{run_split}
-use Rattle.config_file.proofs.Pick.{cases, option_cases}
-use Rattle.config_file.proofs.Headers.{no_blanks}
+use Rattle.config_file.proofs.Pick.{cases, option_cases, Decided, equal, both, either, line_end_decided}
+use Rattle.config_file.proofs.Headers.{no_blanks, opened}
 use Rattle.config_file.proofs.Readings.{begins_none}
 use Rattle.config_file.proofs.Bounds.{header_shortens, entry_shortens, run_shortens}
-use Rattle.config_file.proofs.EachValue.{value_holds, subsection_holds, test_not}
+use Rattle.config_file.proofs.EachValue.{value_holds, subsection_holds}
 use Rattle.config_file.proofs.OneSubsection.{SubsectionHas, subsection_of}
 use Rattle.config_file.proofs.OneValue as one_value
 use Rattle.config_file.proofs.OneValue.{ValueHas, value_of}
@@ -30,24 +30,6 @@ use Rattle.config_file.specs.File.{Entry, TakesKey, Reads, IsFile, Begins, after
 pub not_empty : (b : ℕ) (rest : List ℕ) → b ∷ rest ≢ []
 not_empty b rest e = cc
 
-abbrev line_end_decided : (rest : List ℕ) → IsAtLineEnd rest ⊎ (IsAtLineEnd rest → ⊥)
-line_end_decided [] = inl tt
-line_end_decided (a ∷ []) =
-    elim (cases (a == 10)) [ inl is ↦ inl (eqb-true a 10 is) | inr off ↦ inr (test_not a 10 off) ]
-line_end_decided (a ∷ b ∷ rest) =
-    elim (cases (a == 10)) [
-      | inl is ↦ inl (inl (eqb-true a 10 is))
-      | inr off ↦ elim (cases (a == 13)) [
-        | inl return ↦ elim (cases (b == 10)) [
-          | inl next ↦ inl (inr (eqb-true a 13 return, eqb-true b 10 next))
-          | inr no_line ↦
-              inr (λ h. elim h [ inl is ↦ test_not a 10 off is | inr both ↦ test_not b 10 no_line both.1 ])
-        ]
-        | inr no_return ↦
-            inr (λ h. elim h [ inl is ↦ test_not a 10 off is | inr both ↦ test_not a 13 no_return both.0 ])
-      ]
-    ]
-
 abbrev ClosingIs : List ℕ → Result (List ℕ × List ℕ) (ℕ × FileFault) → Type 0
 ClosingIs text (Ok p) = ClosesSubsection text p.0 p.1
 ClosingIs text (Err stop) = SubsectionStops text stop.0 stop.1
@@ -57,11 +39,11 @@ abbrev closing_of : (text : List ℕ) (o : Result (List ℕ × List ℕ) (List �
 closing_of text (Err rest) place = (Err (0, fault_at rest), header.within place)
 closing_of text (Ok (raw, [])) takes = (Err (1, BadLine), header.closed_at_line_end takes tt)
 closing_of text (Ok (raw, b ∷ rest)) takes =
-    elim (cases (b == 93)) [
-      | inl is ↦ (Ok (raw, rest), header.closes takes (eqb-true b 93 is))
+    elim (equal b 93) [
+      | inl is ↦ (Ok (raw, rest), header.closes takes is)
       | inr other ↦ elim (line_end_decided (b ∷ rest)) [
         | inl end ↦ (Err (1, BadLine), header.closed_at_line_end takes end)
-        | inr not_end ↦ (Err (0, fault_at (b ∷ rest)), header.closed takes (test_not b 93 other) not_end)
+        | inr not_end ↦ (Err (0, fault_at (b ∷ rest)), header.closed takes other not_end)
       ]
     ]
 
@@ -73,10 +55,10 @@ abbrev named : {text : List ℕ} (name after : List ℕ) → Run is_name_byte te
 named name [] run none = (Err (1, BadLine), header.name run none header.at_end)
 named [] (b ∷ rest) run none = (Err (0, fault_at (b ∷ rest)), header.name run none header.empty)
 named (n ∷ name) (b ∷ rest) run none =
-    elim (cases (b == 93)) [
-      | inl is ↦ (Ok ((n ∷ name, None), rest), header.plain run (not_empty n name) (eqb-true b 93 is))
+    elim (equal b 93) [
+      | inl is ↦ (Ok ((n ∷ name, None), rest), header.plain run (not_empty n name) is)
       | inr other ↦
-          (Err (0, fault_at (b ∷ rest)), header.name run none (header.not_closed (test_not b 93 other)))
+          (Err (0, fault_at (b ∷ rest)), header.name run none (header.not_closed other))
     ]
 
 abbrev with_subsection : {text inner : List ℕ} (name : List ℕ) → header.OpensSubsection text name inner
@@ -91,13 +73,14 @@ blanked name after [] more run blank_run = named name after run (no_blanks [] bl
 blanked name after (x ∷ blanks) [] run blank_run =
     (Err (0, BadLine), header.blanks run blank_run (not_empty x blanks) tt)
 blanked name after (x ∷ blanks) (b ∷ inner) run blank_run =
-    elim (cases (b == 34)) [
+    elim (equal b 34) [
       | inl is ↦
           let o = subsection_of inner in
           let (c, closing) = closing_of inner o (subsection_holds inner) in
-          with_subsection name (record { blanks = x ∷ blanks; blanked = after; quote = b; name_run = run; blank_run = blank_run; some_blank = (not_empty x blanks); is_quote = eqb-true b 34 is }) c closing
+          let opens = opened after (x ∷ blanks) (b ∷ inner) run blank_run (not_empty x blanks) (rw is) in
+          with_subsection name opens c closing
       | inr other ↦
-          (Err (0, fault_at (b ∷ inner)), header.blanks run blank_run (not_empty x blanks) (test_not b 34 other))
+          (Err (0, fault_at (b ∷ inner)), header.blanks run blank_run (not_empty x blanks) other)
     ]
 
 abbrev each_header : (text : List ℕ) → HasHeader text
@@ -118,13 +101,13 @@ with_value key b after takes is (Err (lines, fault)) stopped =
     (Err (lines, fault), file.value takes is stopped)
 
 abbrev after_key : {text : List ℕ} (key rest : List ℕ) → TakesKey text key rest
-    → IsAtLineEnd rest ⊎ (IsAtLineEnd rest → ⊥) → HasEntry text
+    → Decided (IsAtLineEnd rest) → HasEntry text
 after_key key rest takes (inl end) = (Ok (key, None, 0, rest), file.alone takes end)
 after_key key [] takes (inr not_end) = absurd (not_end tt)
 after_key key (b ∷ after) takes (inr not_end) =
-    elim (cases (b == 61)) [
-      | inl is ↦ with_value key b after takes (eqb-true b 61 is) (value_of after) (value_holds after)
-      | inr other ↦ (Err (0, fault_at (b ∷ after)), file.key takes (test_not b 61 other) not_end)
+    elim (equal b 61) [
+      | inl is ↦ with_value key b after takes is (value_of after) (value_holds after)
+      | inr other ↦ (Err (0, fault_at (b ∷ after)), file.key takes other not_end)
     ]
 
 abbrev each_entry : (text : List ℕ) → HasEntry text
@@ -171,10 +154,10 @@ after_byte n more section line b text room =
       | inl is ↦
           let (entries, error, reads) = more section line text room in
           (entries, error, file.blank is reads)
-      | inr not_blank ↦ elim (cases (b == 10)) [
+      | inr not_blank ↦ elim (equal b 10) [
         | inl is ↦
             let (entries, error, reads) = more section (line + 1) text room in
-            (entries, error, file.line_end (eqb-true b 10 is) reads)
+            (entries, error, file.line_end is reads)
         | inr not_line ↦ elim (cases (is_comment_sign b)) [
           | inl is ↦
               let run = run_split is_comment_byte text in
@@ -182,17 +165,17 @@ after_byte n more section line b text room =
               let (entries, error, reads) =
               more section line (drop (prefix_len is_comment_byte text) text) (omega arith) in
               (entries, error, file.comment is run reads)
-          | inr not_sign ↦ elim (cases (b == 91)) [
+          | inr not_sign ↦ elim (equal b 91) [
             | inl is ↦
                 let (o, has) = each_header text in
-                after_header n more section line b text room (eqb-true b 91 is) o has
+                after_header n more section line b text room is o has
             | inr not_bracket ↦ elim (cases (is_ascii_alphabetic b)) [
               | inl is ↦
                   let (o, has) = each_entry (b ∷ text) in
                   after_entry n more section line b text room is o has
               | inr not_letter ↦
                   let none =
-                  begins_none b not_blank (test_not b 10 not_line) not_sign (test_not b 91 not_bracket) not_letter in
+                  begins_none b not_blank not_line not_sign not_bracket not_letter in
                   ([], Some (file.error_at line (fault_at (b ∷ text))), file.no_item none)
             ]
           ]
@@ -205,25 +188,11 @@ are_read n section line [] room = ([], None, file.ends)
 are_read zero section line (b ∷ text) room = absurd (omega arith)
 are_read (suc n) section line (b ∷ text) room = after_byte n (are_read n) section line b text (omega arith)
 
-abbrev part_decided : (text : List ℕ) → IsPartOfMark text ⊎ (IsPartOfMark text → ⊥)
+abbrev part_decided : (text : List ℕ) → Decided (IsPartOfMark text)
 part_decided [] = inr (λ h. h)
-part_decided (a ∷ []) =
-    elim (cases (a == 0xef)) [ inl is ↦ inl (eqb-true a 0xef is) | inr off ↦ inr (test_not a 0xef off) ]
+part_decided (a ∷ []) = equal a 0xef
 part_decided (a ∷ b ∷ rest) =
-    elim (cases (a == 0xef)) [
-      | inr off ↦ inr (λ h. test_not a 0xef off h.0)
-      | inl is ↦ elim (line_end_decided (b ∷ rest)) [
-        | inl end ↦ inl (eqb-true a 0xef is, inl end)
-        | inr not_end ↦ elim (cases (b == 0xbb)) [
-          | inr other ↦
-              inr (λ h. elim h.1 [ inl end ↦ not_end end | inr both ↦ test_not b 0xbb other both.0 ])
-          | inl next ↦ elim (line_end_decided rest) [
-            | inl end ↦ inl (eqb-true a 0xef is, inr (eqb-true b 0xbb next, end))
-            | inr no_end ↦ inr (λ h. elim h.1 [ inl end ↦ not_end end | inr both ↦ no_end both.1 ])
-          ]
-        ]
-      ]
-    ]
+    both (equal a 0xef) (either (line_end_decided (b ∷ rest)) (both (equal b 0xbb) (line_end_decided rest)))
 
 abbrev HasBeginning : List ℕ → Type 0
 HasBeginning text = (line : ℕ) × (rest : List ℕ) × Begins text line rest

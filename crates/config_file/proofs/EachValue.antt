@@ -1,10 +1,9 @@
 -- After an `=`, each text has a value or a place at which the reading stops. The same holds after a quote.
 use Rattle.std.proofs.Common.{◌≡◌, ◌≢◌, ℕ, zero, suc, ◌+◌, ◌≤◌, Bool, true, false, not, ◌==◌, List, [], ◌∷◌}
-use Rattle.std.proofs.Common.{None, Result, Ok, Err, length, refl, ap, subst, arith, eqb-true, if◌then◌else◌}
+use Rattle.std.proofs.Common.{None, Result, Ok, Err, length, refl, ap, subst, arith, if◌then◌else◌}
 use Rattle.std.proofs.Common.{inl, inr}
-use Rattle.std.proofs.lemmas.Bool.{cases_Bool}
-use Rattle.std.proofs.lemmas.Bool.Decides.{nat_tests}
-use Rattle.config_file.proofs.Pick.{option_cases}
+use Rattle.std.proofs.lemmas.Bool.{cases_Bool, eqb-false}
+use Rattle.config_file.proofs.Pick.{option_cases, equal, both}
 use Rattle.config_file.proofs.Values as values
 use Rattle.config_file.proofs.Subsections as subsections
 use Rattle.config_file.proofs.OneValue as one_value
@@ -18,7 +17,7 @@ use Rattle.config_file.specs.Reading.Scans.{PassedValue, PassedSubsection, Escap
 use Rattle.config_file.specs.Reading.Scans.{line_after_return, goes_on, EndsScan}
 
 pub test_not : (b c : ℕ) → (b == c) ≡ false → b ≢ c
-test_not b c off = grind (arith, nat_tests)
+test_not b c off = eqb-false b c off
 
 abbrev HasValue : List ℕ → Type 0
 HasValue text = (o : one_value.Outcome) × ValueHas text o
@@ -47,12 +46,9 @@ data AfterBackslash (rest : List ℕ) : Type 0 where
 after_return : (e : ℕ) (rest : List ℕ) → escape e ≡ None → e ≢ 10 → AfterBackslash (e ∷ rest)
 after_return e [] none other = stops (none, other)
 after_return e (f ∷ rest) none other =
-    elim (cases_Bool (e == 13)) [
-      | inl is ↦ elim (cases_Bool (f == 10)) [
-        | inl next ↦ goes rest (line_after_return refl (eqb-true e 13 is) (eqb-true f 10 next)) (omega arith)
-        | inr no_line ↦ stops (none, other, λ ret. test_not f 10 no_line)
-      ]
-      | inr no_return ↦ stops (none, other, λ ret. absurd (test_not e 13 no_return ret))
+    elim (both (equal e 13) (equal f 10)) [
+      | inl is ↦ goes rest (line_after_return refl is.0 is.1) (omega arith)
+      | inr off ↦ stops (none, other, λ return next. off (return, next))
     ]
 
 after_backslash : (rest : List ℕ) → AfterBackslash rest
@@ -60,9 +56,9 @@ after_backslash [] = ends refl
 after_backslash (e ∷ rest) =
     elim (option_cases (escape e)) [
       | inl found ↦ goes rest (letter refl found.1) (omega arith)
-      | inr none ↦ elim (cases_Bool (e == 10)) [
-        | inl is ↦ goes rest (line refl (eqb-true e 10 is)) (omega arith)
-        | inr other ↦ after_return e rest none (test_not e 10 other)
+      | inr none ↦ elim (equal e 10) [
+        | inl is ↦ goes rest (line refl is) (omega arith)
+        | inr other ↦ after_return e rest none other
       ]
     ]
 
@@ -89,13 +85,12 @@ value_backslash n more q b rest room passed is (stops none) =
 value_turn : (n : ℕ) {text : List ℕ} → Finds n text → (q : Bool) (b : ℕ) (rest : List ℕ) → length rest ≤ n
     → PassedValue text q (b ∷ rest) → HasValue text
 value_turn n more q b rest room passed =
-    elim (cases_Bool (b == 34)) [
-      | inl is ↦ more (not q) rest room (values.passed_quote (b ∷ rest) passed refl (eqb-true b 34 is))
-      | inr no_quote ↦ elim (cases_Bool (b == 92)) [
-        | inl is ↦ value_backslash n more q b rest room passed (eqb-true b 92 is) (after_backslash rest)
+    elim (equal b 34) [
+      | inl is ↦ more (not q) rest room (values.passed_quote (b ∷ rest) passed refl is)
+      | inr no_quote ↦ elim (equal b 92) [
+        | inl is ↦ value_backslash n more q b rest room passed is (after_backslash rest)
         | inr no_backslash ↦ elim (cases_Bool (goes_on q b)) [
-          | inl on ↦
-              more q rest room (values.passed_byte q (b ∷ rest) passed refl on (test_not b 34 no_quote) (test_not b 92 no_backslash))
+          | inl on ↦ more q rest room (values.passed_byte q (b ∷ rest) passed refl on no_quote no_backslash)
           | inr off ↦ value_ends q (b ∷ rest) passed off
         ]
       ]
@@ -132,14 +127,14 @@ subsection_escaped n more b (e ∷ after) room passed is =
 subsection_turn : (n : ℕ) {text : List ℕ} → FindsSubsection n text → (b : ℕ) (rest : List ℕ) → length rest ≤ n
     → PassedSubsection text (b ∷ rest) → HasSubsection text
 subsection_turn n more b rest room passed =
-    elim (cases_Bool (b == 34)) [
-      | inl is ↦
-          (Ok (passed.raw, rest), subsections.takes (b ∷ rest) passed.raw passed refl (eqb-true b 34 is) passed.joined)
+    elim (equal b 34) [
+      | inl is ↦ (Ok (passed.raw, rest), subsections.takes (b ∷ rest) passed.raw passed refl is passed.joined)
       | inr no_quote ↦ elim (cases_Bool (is_text_byte b)) [
-        | inl text ↦ elim (cases_Bool (b == 92)) [
-          | inl is ↦ subsection_escaped n more b rest room passed (eqb-true b 92 is)
+        | inl text ↦ elim (equal b 92) [
+          | inl is ↦ subsection_escaped n more b rest room passed is
           | inr no_backslash ↦
-              more rest room (subsections.passed_plain (b ∷ rest) passed refl (subsections.plain_byte b text (test_not b 34 no_quote) (test_not b 92 no_backslash)))
+              let plain = subsections.plain_byte b text no_quote no_backslash in
+              more rest room (subsections.passed_plain (b ∷ rest) passed refl plain)
         ]
         | inr off ↦ (Err (b ∷ rest), subsections.stops_here (b ∷ rest) passed off)
       ]

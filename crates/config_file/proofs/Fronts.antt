@@ -1,5 +1,5 @@
 -- What a text begins with.
-use Rattle.std.proofs.Common.{◌≡◌, ◌≢◌, ◌<◌, ◌++◌, ◌∙◌, ◌==◌, ◌&&◌, Bool, true, false, ℕ, zero, suc, List, []}
+use Rattle.std.proofs.Common.{◌≡◌, ◌<◌, ◌++◌, ◌∙◌, ◌==◌, ◌&&◌, Bool, true, false, ℕ, zero, suc, List, []}
 use Rattle.std.proofs.Common.{◌∷◌, length, take, drop, get_or, sym, ap, refl, arith}
 use Rattle.std.proofs.lemmas.Bool.{true≢false, eq-eqb}
 use Rattle.config_text.specs.Bytes.{LacksFront}

@@ -1,18 +1,9 @@
 -- Headers, from the parts that the reader takes.
-use Rattle.std.proofs.Common.{◌≡◌, ◌≢◌, ℕ, List, [], ◌∷◌, refl, subst, None}
-use Rattle.config_file.specs.declared.errors.FileFault.TheVariants.{BadLine}
+use Rattle.std.proofs.Common.{◌≡◌, ◌≢◌, ℕ, List, [], ◌∷◌, refl}
 use Rattle.config_file.specs.Bytes.{is_name_byte, is_blank}
 use Rattle.config_file.specs.Runs.{Run, StopsRun}
-use Rattle.config_file.specs.Subsection.{TakesSubsection}
-use Rattle.config_file.specs.Header.{fault_at, BeginsWithout, ClosesSubsection, closes, OpensSubsection}
-use Rattle.config_file.specs.Header.{Header, plain, NameStops, at_end, empty, not_closed}
-
-pub closes_at : {text raw rest : List ℕ} (at : List ℕ) → TakesSubsection text raw at → at ≡ 93 ∷ rest
-    → ClosesSubsection text raw rest
-closes_at {text = text} {raw = raw} at takes e = closes (subst (λ x. TakesSubsection text raw x) e takes) refl
-
-pub name_stops_at_end : {name after : List ℕ} → after ≡ [] → NameStops name after 1 BadLine
-name_stops_at_end e = rw e at_end
+use Rattle.config_file.specs.Header.{fault_at, BeginsWithout, OpensSubsection}
+use Rattle.config_file.specs.Header.{NameStops, empty, not_closed}
 
 pub name_stops_empty : (name after : List ℕ) → after ≢ [] → name ≡ []
     → NameStops name after 0 (fault_at after)
@@ -30,11 +21,6 @@ pub no_blanks : {after quoted : List ℕ} (run : List ℕ) → Run is_blank afte
 no_blanks [] h e = rw h.joined h.longest
 no_blanks (b ∷ run) h e = cc
 
-pub named : {text name rest : List ℕ} (after : List ℕ) → Run is_name_byte text name after → name ≢ []
-    → after ≡ 93 ∷ rest → Header text (name, None) rest
-named {text = text} {name = name} after run some e =
-    plain (subst (λ x. Run is_name_byte text name x) e run) some refl
-
 pub opened : {text name inner : List ℕ} (after blanks quoted : List ℕ) → Run is_name_byte text name after
     → Run is_blank after blanks quoted
     → blanks ≢ [] → quoted ≡ 34 ∷ inner → OpensSubsection text name inner
@@ -44,7 +30,7 @@ opened {inner = inner} after blanks quoted name_run blank_run some e =
       blanked = after;
       quote = 34;
       name_run = name_run;
-      blank_run = subst (λ x. Run is_blank after blanks x) e blank_run;
+      blank_run = rw e at blank_run;
       some_blank = some;
       is_quote = refl;
     }

@@ -1,3 +1,4 @@
+pub mod ListsA
 pub mod Runs
 pub mod Subsections
 pub mod Headers
@@ -11,6 +12,7 @@ pub mod Keys
 pub mod OneKey
 pub mod EachListed
 pub mod OneRun
+pub mod Scan
 pub mod OneSubsection
 pub mod Pick
 pub mod OneValue

@@ -3,12 +3,14 @@ use Rattle.std.proofs.Common.{◌≡◌, ◌≢◌, ℕ, ◌+◌, Bool, true, fa
 use Rattle.std.proofs.Common.{◌∙◌, arith, inl, inr, ◌⊎◌, ◌==◌}
 use Rattle.std.specs.List.{list_all}
 use Rattle.std.proofs.lemmas.List.Sums.{sum_by-cons, sum_by-append}
-use Rattle.std.proofs.lemmas.Bool.{cases_Bool, true≢false}
+use Rattle.std.proofs.lemmas.Bool.{true≢false}
 use Rattle.std.proofs.lemmas.Bool.Decides.{nat_tests}
-use Rattle.config_file.specs.Bytes.{is_comment_byte, is_plain, is_blank}
+use Rattle.config_file.specs.Bytes.{is_comment_byte}
 use Rattle.config_file.specs.Value.{Ending, Spells, ends_outside, ends_inside, ends_at_backslash, quote}
 use Rattle.config_file.specs.Value.{escaped, continued, continued_after_return, blank, plain, line_feeds}
 use Rattle.config_file.specs.Spelling.{is_continued, HasLineEnd, EndsLine}
+use Rattle.config_file.proofs.Pick.{equal, test_false}
+use Rattle.config_file.proofs.Spelled.{blank_inner, plain_inner}
 
 -- how many LFs a text has, by its parts
 pub line_feeds_append : (xs ys : List ℕ) → line_feeds (xs ++ ys) ≡ line_feeds xs + line_feeds ys
@@ -55,12 +57,8 @@ rest_none (x ∷ front) rest e = cc
 -- lines that are continued
 pub continued_tail : (a : ℕ) (line : List ℕ) → a ≢ 92 → is_continued (a ∷ line) ≡ is_continued line
 continued_tail a [] other = grind (arith, nat_tests)
-continued_tail a (b ∷ []) other =
-    let no_backslash : (a == 92) ≡ false = grind (arith, nat_tests) in
-    rw no_backslash
-continued_tail a (b ∷ c ∷ line) other =
-    let no_backslash : (a == 92) ≡ false = grind (arith, nat_tests) in
-    rw no_backslash
+continued_tail a (b ∷ []) other = rw (test_false a 92 other)
+continued_tail a (b ∷ c ∷ line) other = rw (test_false a 92 other)
 
 continued_pair : (a e : ℕ) (line : List ℕ) → a ≡ 92 → is_continued (a ∷ e ∷ line) ≡ false
     → is_continued line ≡ false
@@ -71,18 +69,14 @@ continued_after_front : (front : List ℕ) (b : ℕ) (line : List ℕ) → b ≢
     → is_continued (front ++ b ∷ line) ≡ false → is_continued line ≡ false
 continued_after_front [] b line other h = sym (continued_tail b line other) ∙ h
 continued_after_front (x ∷ []) b line other h =
-    elim (cases_Bool (x == 92)) [
-      | inl is ↦ continued_pair x b line (grind (arith, nat_tests)) h
-      | inr no_backslash ↦
-          let no_escape : x ≢ 92 = grind (arith, nat_tests) in
-          sym (continued_tail b line other) ∙ sym (continued_tail x (b ∷ line) no_escape) ∙ h
+    elim (equal x 92) [
+      | inl is ↦ continued_pair x b line is h
+      | inr no_escape ↦ sym (continued_tail b line other) ∙ sym (continued_tail x (b ∷ line) no_escape) ∙ h
     ]
 continued_after_front (x ∷ y ∷ front) b line other h =
-    elim (cases_Bool (x == 92)) [
-      | inl is ↦
-          continued_after_front front b line other (continued_pair x y (front ++ b ∷ line) (grind (arith, nat_tests)) h)
-      | inr no_backslash ↦
-          let no_escape : x ≢ 92 = grind (arith, nat_tests) in
+    elim (equal x 92) [
+      | inl is ↦ continued_after_front front b line other (continued_pair x y (front ++ b ∷ line) is h)
+      | inr no_escape ↦
           continued_after_front (y ∷ front) b line other (sym (continued_tail x (y ∷ (front ++ b ∷ line)) no_escape) ∙ h)
     ]
 
@@ -94,19 +88,21 @@ pub continued_by_last : (front : List ℕ) (b : ℕ) (line : List ℕ) → b ≢
     → is_continued (b ∷ line) ≡ false → is_continued (front ++ b ∷ line) ≡ false
 continued_by_last [] b line other no_return h = h
 continued_by_last (x ∷ []) b [] other no_return h =
-    let no_backslash : (b == 92) ≡ false = grind (arith, nat_tests) in
-    let no_carriage_return : (b == 13) ≡ false = grind (arith, nat_tests) in
-    elim (cases_Bool (x == 92)) [ inl is ↦ rw (is, no_carriage_return) | inr no_escape ↦ rw (no_escape, no_backslash) ]
+    elim (equal x 92) [
+      | inl is ↦ rw (is, test_false b 13 no_return)
+      | inr no_escape ↦ rw (test_false x 92 no_escape, test_false b 92 other)
+    ]
 continued_by_last (x ∷ []) b (c ∷ line) other no_return h =
-    let tail = continued_tail b (c ∷ line) other in
-    elim (cases_Bool (x == 92)) [ inl is ↦ rw is (sym tail ∙ h) | inr no_escape ↦ rw no_escape h ]
+    elim (equal x 92) [
+      | inl is ↦ rw is (sym (continued_tail b (c ∷ line) other) ∙ h)
+      | inr no_escape ↦ rw (test_false x 92 no_escape) h
+    ]
 continued_by_last (x ∷ y ∷ front) b line other no_return h =
-    elim (cases_Bool (x == 92)) [
+    elim (equal x 92) [
       | inl is ↦
-          let same : x ≡ 92 = grind (arith, nat_tests) in
-          pair_before x y (front ++ b ∷ line) (not_none front line b) same ∙ continued_by_last front b line other no_return h
-      | inr no_backslash ↦
-          let no_escape : x ≢ 92 = grind (arith, nat_tests) in
+          pair_before x y (front ++ b ∷ line) (not_none front line b) is
+          ∙ continued_by_last front b line other no_return h
+      | inr no_escape ↦
           continued_tail x (y ∷ (front ++ b ∷ line)) no_escape ∙ continued_by_last (y ∷ front) b line other no_return h
     ]
 
@@ -115,68 +111,43 @@ pub pair_continued : (letter : ℕ) (line : List ℕ) → letter ≢ 13
 pair_continued letter [] no_return = grind (arith, nat_tests)
 pair_continued letter (c ∷ line) no_return = refl
 
-tail_of : (b : ℕ) (rest line : List ℕ) → b ≢ 92 → b ∷ rest ≡ line ++ 10 ∷ [] → is_continued line ≡ false
-    → ((rest ≡ []) × (b ≡ 10)) ⊎ HasLineEnd rest
-tail_of b rest [] other e h =
-    let none : rest ≡ [] = cc in let is : b ≡ 10 = cc in inl (none, is)
-tail_of b rest (x ∷ line) other e h =
-    let joined : rest ≡ line ++ 10 ∷ [] = cc in
-    let same : b ≡ x = cc in
-    let no_backslash : x ≢ 92 = rw same at other in
-    inr (record { line = line; joined = joined; not_continued = sym (continued_tail x line no_backslash) ∙ h })
-
-pub tail_or_last : (b : ℕ) (rest : List ℕ) → b ≢ 92 → HasLineEnd (b ∷ rest)
-    → ((rest ≡ []) × (b ≡ 10)) ⊎ HasLineEnd rest
-tail_or_last b rest other h = tail_of b rest h.line other h.joined h.not_continued
-
-pair_of : (b e : ℕ) (rest line : List ℕ) → b ≡ 92 → b ∷ e ∷ rest ≡ line ++ 10 ∷ []
-    → is_continued line ≡ false → HasLineEnd rest
-pair_of b e rest [] is joined h = cc
-pair_of b e rest (x ∷ []) is joined h =
-    let same : b ≡ x = cc in
-    let backslash : x ≡ 92 = rw same at is in
-    let yes : true ≡ false = rw backslash at h in
-    absurd (true≢false yes)
-pair_of b e rest (x ∷ y ∷ line) is joined h =
-    let more : rest ≡ line ++ 10 ∷ [] = cc in
-    let same : b ≡ x = cc in let backslash : x ≡ 92 = rw same at is in
-    record { line = line; joined = more; not_continued = continued_pair x y line backslash h }
-
-after_pair : (b e : ℕ) (rest : List ℕ) → b ≡ 92 → HasLineEnd (b ∷ e ∷ rest) → HasLineEnd rest
-after_pair b e rest is h = pair_of b e rest h.line is h.joined h.not_continued
-
 -- a text that ends in LF, split after these first bytes and one more byte
 splits : (front : List ℕ) (b : ℕ) (rest line : List ℕ) → front ++ b ∷ rest ≡ line ++ 10 ∷ []
-    → ((rest ≡ []) × (b ≡ 10)) ⊎ ((more : List ℕ) × (rest ≡ more ++ 10 ∷ []) × (line ≡ front ++ b ∷ more))
-splits [] b rest [] e = let none : rest ≡ [] = cc in let is : b ≡ 10 = cc in inl (none, is)
-splits [] b rest (x ∷ line) e =
-    let joined : rest ≡ line ++ 10 ∷ [] = cc in
-    let same : x ∷ line ≡ b ∷ line = cc in
-    inr (line, joined, same)
+    → ((rest ≡ []) × (b ≡ 10) × (line ≡ front))
+    ⊎ ((more : List ℕ) × (rest ≡ more ++ 10 ∷ []) × (line ≡ front ++ b ∷ more))
+splits [] b rest [] e = inl (cc, cc, refl)
+splits [] b rest (x ∷ line) e = inr (line, cc, cc)
 splits (f ∷ front) b rest [] e = let none : front ++ b ∷ rest ≡ [] = cc in absurd (not_none front rest b none)
 splits (f ∷ front) b rest (x ∷ line) e =
     let tails : front ++ b ∷ rest ≡ line ++ 10 ∷ [] = cc in
     let same : x ≡ f = cc in
     elim (splits front b rest line tails) [
-      | inl p ↦ inl p
+      | inl p ↦ inl (p.0, p.1, rw (same, p.2))
       | inr p ↦ inr (p.0, p.1, rw (same, p.2))
-    ]
-
-after_front_of : (front : List ℕ) (b : ℕ) (rest line : List ℕ) → b ≢ 92
-    → front ++ b ∷ rest ≡ line ++ 10 ∷ [] → is_continued line ≡ false
-    → ((rest ≡ []) × (b ≡ 10)) ⊎ HasLineEnd rest
-after_front_of front b rest line other e h =
-    elim (splits front b rest line e) [
-      | inl p ↦ inl p
-      | inr p ↦
-          let whole : is_continued (front ++ b ∷ p.0) ≡ false = rw p.2 at h in
-          inr (record { line = p.0; joined = p.1; not_continued = continued_after_front front b p.0 other whole })
     ]
 
 pub after_front : {text : List ℕ} (front : List ℕ) (b : ℕ) (rest : List ℕ) → b ≢ 92
     → text ≡ front ++ b ∷ rest → HasLineEnd text → ((rest ≡ []) × (b ≡ 10)) ⊎ HasLineEnd rest
 after_front front b rest other joined h =
-    after_front_of front b rest h.line other (sym joined ∙ h.joined) h.not_continued
+    elim (splits front b rest h.line (sym joined ∙ h.joined)) [
+      | inl p ↦ inl (p.0, p.1)
+      | inr p ↦
+          let whole : is_continued (front ++ b ∷ p.0) ≡ false = rw p.2 at h.not_continued in
+          inr (record { line = p.0; joined = p.1; not_continued = continued_after_front front b p.0 other whole })
+    ]
+
+pub tail_or_last : (b : ℕ) (rest : List ℕ) → b ≢ 92 → HasLineEnd (b ∷ rest)
+    → ((rest ≡ []) × (b ≡ 10)) ⊎ HasLineEnd rest
+tail_or_last b rest other h = after_front [] b rest other refl h
+
+after_pair : (b e : ℕ) (rest : List ℕ) → b ≡ 92 → HasLineEnd (b ∷ e ∷ rest) → HasLineEnd rest
+after_pair b e rest is h =
+    elim (splits (b ∷ []) e rest h.line h.joined) [
+      | inl p ↦ let yes : true ≡ false = rw (p.2, is) at h.not_continued in absurd (true≢false yes)
+      | inr p ↦
+          let left = continued_pair b e p.0 is (rw p.2 at h.not_continued) in
+          record { line = p.0; joined = p.1; not_continued = left }
+    ]
 
 cons_end : (b : ℕ) (rest : List ℕ) → b ≢ 92 → ((rest ≡ []) × (b ≡ 10)) ⊎ HasLineEnd rest
     → HasLineEnd (b ∷ rest)
@@ -213,28 +184,16 @@ one_end b (x ∷ line) e = let none : line ++ 10 ∷ [] ≡ [] = cc in absurd (n
 
 return_end : (b e f : ℕ) (line : List ℕ) → b ∷ e ∷ f ∷ [] ≡ line ++ 10 ∷ [] → is_continued line ≡ false
     → b ≡ 92 → e ≡ 13 → ⊥
-return_end b e f [] joined h is next = cc
-return_end b e f (x ∷ []) joined h is next = cc
-return_end b e f (x ∷ y ∷ []) joined h is next =
-    let same : x ≡ 92 = cc in let same_next : y ≡ 13 = cc in
-    let yes : true ≡ false = rw (same, same_next) at h in true≢false yes
-return_end b e f (x ∷ y ∷ z ∷ line) joined h is next =
-    let more : line ++ 10 ∷ [] ≡ [] = cc in
-    not_none line [] 10 more
+return_end b e f line joined h is next =
+    elim (splits (b ∷ e ∷ []) f [] line joined) [
+      | inl p ↦ let yes : true ≡ false = rw (p.2, is, next) at h in true≢false yes
+      | inr p ↦ not_none p.0 [] 10 (sym p.1)
+    ]
 
-blank_is_no_backslash : (b : ℕ) → is_blank b ≡ true → b ≢ 92
-blank_is_no_backslash b is e = grind (arith, nat_tests)
-
-plain_is_no_backslash : (q : Bool) (b : ℕ) → is_plain q b ≡ true → b ≢ 92
-plain_is_no_backslash true b is e = grind (arith, nat_tests)
-plain_is_no_backslash false b is e = grind (arith, nat_tests)
-
-blank_is_no_line_end : (b : ℕ) → is_blank b ≡ true → b ≡ 10 → ⊥
-blank_is_no_line_end b is e = grind (arith, nat_tests)
-
-plain_is_no_line_end : (q : Bool) (b : ℕ) → is_plain q b ≡ true → b ≡ 10 → ⊥
-plain_is_no_line_end true b is e = grind (arith, nat_tests)
-plain_is_no_line_end false b is e = grind (arith, nat_tests)
+byte_has_no_end : (b : ℕ) (raw : List ℕ) → (b ≢ 92) × (b ≢ 10) → (HasLineEnd raw → ⊥)
+    → HasLineEnd (b ∷ raw) → ⊥
+byte_has_no_end b raw (no_backslash, no_line_feed) more h =
+    elim (tail_or_last b raw no_backslash h) [ inl p ↦ no_line_feed p.1 | inr k ↦ more k ]
 
 -- the bytes of a value do not end in an LF over which they are not continued
 pub value_has_no_end : {w : ℕ → ℕ} {q : Bool} {value held raw text : List ℕ} {ending : Ending}
@@ -243,7 +202,7 @@ value_has_no_end ends_outside h = none_ends h
 value_has_no_end ends_inside h = none_ends h
 value_has_no_end (ends_at_backslash {b = b} is) h = let e = one_end b h.line h.joined in omega arith
 value_has_no_end (quote {b = b} {raw = raw} is s) h =
-    elim (tail_or_last b raw (omega arith) h) [ inl p ↦ let e = p.1 in omega arith | inr k ↦ value_has_no_end s k ]
+    byte_has_no_end b raw (omega arith) (λ k. value_has_no_end s k) h
 value_has_no_end (escaped {b = b} {e = e} {raw = raw} is l s) h = value_has_no_end s (after_pair b e raw is h)
 value_has_no_end (continued {b = b} {e = e} {raw = raw} is l s) h =
     value_has_no_end s (after_pair b e raw is h)
@@ -253,6 +212,6 @@ value_has_no_end (continued_after_return {b = b} {e = e} {f = f} {raw = raw} is 
       | inr k ↦ value_has_no_end s k
     ]
 value_has_no_end (blank {b = b} {raw = raw} is s) h =
-    elim (tail_or_last b raw (blank_is_no_backslash b is) h) [ inl p ↦ blank_is_no_line_end b is p.1 | inr k ↦ value_has_no_end s k ]
+    let other = blank_inner b is in byte_has_no_end b raw (other.3, other.1) (λ k. value_has_no_end s k) h
 value_has_no_end (plain {quoted = q} {b = b} {raw = raw} is s) h =
-    elim (tail_or_last b raw (plain_is_no_backslash q b is) h) [ inl p ↦ plain_is_no_line_end q b is p.1 | inr k ↦ value_has_no_end s k ]
+    let other = plain_inner q b is in byte_has_no_end b raw (other.3, other.1) (λ k. value_has_no_end s k) h

@@ -1,10 +1,10 @@
 -- How Git lists the entries of a literal text: functions that compute it, with the proofs of what they
 -- return.
-use Rattle.std.proofs.Common.{◌≡◌, ℕ, suc, zero, Bool, true, false, not, ◌==◌, List, [], ◌∷◌, ◌++◌, Option}
-use Rattle.std.proofs.Common.{Some, None, map, length, refl, subst, eqb-true, inl, inr}
+use Rattle.std.proofs.Common.{◌≡◌, ℕ, suc, zero, Bool, true, false, not, List, [], ◌∷◌, ◌++◌, Option}
+use Rattle.std.proofs.Common.{Some, None, map, length, refl, subst, inl, inr}
 use Rattle.std.specs.Prelude.{⊤}
 use Rattle.std.specs.List.{AllByRecursion, AllZip}
-use Rattle.config_file.proofs.Pick.{cases, option_cases}
+use Rattle.config_file.proofs.Pick.{cases, option_cases, equal, both}
 use Rattle.config_file.proofs.EachReading.{each_is_read}
 use Rattle.config_file.specs.declared.errors.FileError.{FileError}
 use Rattle.config_file.specs.Bytes.{is_blank, is_plain, is_plain_in_quotes, is_text_byte}
@@ -36,14 +36,12 @@ Speller = (q : Bool) (so_far held raw : List ℕ) → Spelling q so_far held raw
 
 abbrev spell_return : Speller → (q : Bool) (so_far held : List ℕ) (b e : ℕ) (raw : List ℕ) → b ≡ 92
     → Spelling q so_far held (b ∷ e ∷ raw)
-spell_return go q v held b e [] is = None
-spell_return go q v held b e (f ∷ raw) is =
-    elim (cases (e == 13)) [
-      | inl return ↦ elim (cases (f == 10)) [
-        | inl line ↦
-            carry (λ x. x) (λ x s. value.continued_after_return is (eqb-true e 13 return) (eqb-true f 10 line) s) (go q (kept v held) [] raw)
-        | inr other ↦ None
-      ]
+spell_return go q v held b e [] is_backslash = None
+spell_return go q v held b e (f ∷ raw) is_backslash =
+    elim (both (equal e 13) (equal f 10)) [
+      | inl is ↦
+          carry (λ x. x) (λ x s. value.continued_after_return is_backslash is.0 is.1 s)
+          (go q (kept v held) [] raw)
       | inr other ↦ None
     ]
 
@@ -55,9 +53,9 @@ spell_escape go q v held b (e ∷ raw) is =
     elim (option_cases (escape e)) [
       | inl letter ↦
           carry (λ x. x) (λ x s. value.escaped is letter.1 s) (go q (kept v held ++ letter.0 ∷ []) [] raw)
-      | inr none ↦ elim (cases (e == 10)) [
+      | inr none ↦ elim (equal e 10) [
         | inl line ↦
-            carry (λ x. x) (λ x s. value.continued is (eqb-true e 10 line) s) (go q (kept v held) [] raw)
+            carry (λ x. x) (λ x s. value.continued is line s) (go q (kept v held) [] raw)
         | inr other ↦ spell_return go q v held b e raw is
       ]
     ]
@@ -85,11 +83,11 @@ spell n true v held [] = Some ((v, value.inside), value.ends_inside)
 spell n false v held [] = Some ((v, value.outside), value.ends_outside)
 spell zero q v held (b ∷ raw) = None
 spell (suc n) q v held (b ∷ raw) =
-    elim (cases (b == 34)) [
+    elim (equal b 34) [
       | inl is ↦
-          carry (λ x. x) (λ x s. value.quote (eqb-true b 34 is) s) (spell n (not q) (kept v held) [] raw)
-      | inr other ↦ elim (cases (b == 92)) [
-        | inl is ↦ spell_escape (spell n) q v held b raw (eqb-true b 92 is)
+          carry (λ x. x) (λ x s. value.quote is s) (spell n (not q) (kept v held) [] raw)
+      | inr other ↦ elim (equal b 92) [
+        | inl is ↦ spell_escape (spell n) q v held b raw is
         | inr plain ↦ spell_byte (spell n) q v held b raw
       ]
     ]
@@ -129,7 +127,7 @@ subsection_of (suc n) (b ∷ raw) =
     elim (cases (is_plain_in_quotes b)) [
       | inl is ↦ carry (λ t. b ∷ t) (λ t s. sub.plain is s) (subsection_of n raw)
       | inr other ↦
-          elim (cases (b == 92)) [ inl is ↦ escaped_of (subsection_of n) b raw (eqb-true b 92 is) | inr none ↦ None ]
+          elim (equal b 92) [ inl is ↦ escaped_of (subsection_of n) b raw is | inr none ↦ None ]
     ]
 
 abbrev section_of : (section : Section) → Known (IsListedSection section)

@@ -17,19 +17,18 @@ use Rattle.config_file.specs.Listing.{IsListedSection, IsListed, alone, in_secti
 use Rattle.config_file.specs.Key as spec
 use Rattle.config_file.specs.Key.{Key, key, dotted, stem, listed, HasKey, IsCut, IsAccepted, IsWrong, IsKey}
 use Rattle.config_file.specs.Key.{RefusesKey, is_no_dot, has_section, is_section, is_one_line, is_name}
+use Rattle.std.proofs.lemmas.List.Folds.{list_all-append, list_all-map}
+use Rattle.config_file.proofs.LineEnds.{all_more}
 use Rattle.config_file.proofs.OneRun.{run_same}
 use Rattle.config_file.proofs.Keys.{is_dot, no_dot, not_dot, lower_dot, dotted_same, listed_as}
 
 -- ---- one cut
 
-dot_within : (front rest : List ℕ) → list_all is_no_dot (front ++ 46 ∷ rest) ≡ true → ⊥
-dot_within [] rest e = true≢false (sym e)
-dot_within (b ∷ front) rest e =
-    dot_within front rest (and_parts (is_no_dot b) (list_all is_no_dot (front ++ 46 ∷ rest)) e).1
-
 no_dot_within : {text : List ℕ} (front rest : List ℕ) → list_all is_no_dot text ≡ true
     → text ≡ front ++ 46 ∷ rest → ⊥
-no_dot_within front rest none e = dot_within front rest (subst (λ t. list_all is_no_dot t ≡ true) e none)
+no_dot_within front rest none e =
+    let whole = sym (list_all-append is_no_dot front (46 ∷ rest)) ∙ (rw e at none) in
+    true≢false (sym (and_parts (list_all is_no_dot front) _ whole).1)
 
 -- a text has at most one last dot
 pub last_same : (a b m n : List ℕ) → list_all is_no_dot m ≡ true → list_all is_no_dot n ≡ true
@@ -111,12 +110,10 @@ name_not_empty : (name : List ℕ) → is_name name ≡ true → is_empty name �
 name_not_empty [] is = absurd (true≢false (sym is))
 name_not_empty (b ∷ name) is = refl
 
-is_nil : (text : List ℕ) → is_empty text ≡ true → text ≡ []
-is_nil [] e = refl
-is_nil (b ∷ text) e = absurd (true≢false (sym e))
-
-is_some_text : (text : List ℕ) → is_empty text ≡ false → text ≢ []
-is_some_text text e nil = true≢false (ap is_empty (sym nil) ∙ e)
+empty_cases : (text : List ℕ)
+    → ((is_empty text ≡ true) × (text ≡ [])) ⊎ ((is_empty text ≡ false) × (text ≢ []))
+empty_cases [] = inl (refl, refl)
+empty_cases (b ∷ text) = inr (refl, λ e. cc)
 
 abbrev answer : Key → Option KeyError
 answer k = cond (has_section k)
@@ -142,14 +139,14 @@ Answers k = IsAccepted k ⊎ ((error : KeyError) × IsWrong k error)
 answered : (k : Key) → Answers k
 answered k = elim (cases_Bool (has_section k)) [
   | inr h ↦ inr (NoSection, spec.no_section h)
-  | inl h ↦ elim (cases_Bool (is_empty k.name)) [
-    | inl nil ↦ inr (NoName, spec.no_name h (is_nil k.name nil))
+  | inl h ↦ elim (empty_cases k.name) [
+    | inl nil ↦ inr (NoName, spec.no_name h nil.1)
     | inr some ↦ elim (cases_Bool (is_section k.section)) [
-      | inr s ↦ inr (BadByte, spec.bad_section h (is_some_text k.name some) s)
+      | inr s ↦ inr (BadByte, spec.bad_section h some.1 s)
       | inl s ↦ elim (cases_Bool (is_one_line k.subsection)) [
-        | inr l ↦ inr (LineFeed, spec.many_lines h (is_some_text k.name some) s l)
+        | inr l ↦ inr (LineFeed, spec.many_lines h some.1 s l)
         | inl l ↦ elim (cases_Bool (is_name k.name)) [
-          | inr n ↦ inr (BadByte, spec.bad_name h (is_some_text k.name some) s l n)
+          | inr n ↦ inr (BadByte, spec.bad_name h some.1 s l n)
           | inl n ↦ inl (record { some_section = h; section = s; subsection = l; name = n })
         ]
       ]
@@ -201,31 +198,22 @@ lower_no_dot b h = no_dot (to_ascii_lowercase b) (λ e. not_dot b h (lower_dot b
 
 lower_no_dots : (text : List ℕ) → list_all is_no_dot text ≡ true
     → list_all is_no_dot (map to_ascii_lowercase text) ≡ true
-lower_no_dots [] e = refl
-lower_no_dots (b ∷ text) e =
-    let (here, more) = and_parts (is_no_dot b) (list_all is_no_dot text) e in
-    rw (lower_no_dot b here, lower_no_dots text more) refl
+lower_no_dots text e =
+    rw (list_all-map is_no_dot to_ascii_lowercase text)
+    (all_more is_no_dot (λ b. is_no_dot (to_ascii_lowercase b)) lower_no_dot text e)
 
 key_byte_no_dot : (b : ℕ) → is_key_byte b ≡ true → is_no_dot b ≡ true
 key_byte_no_dot b h = grind (arith, nat_tests)
 
 pub key_bytes_no_dot : (text : List ℕ) → list_all is_key_byte text ≡ true → list_all is_no_dot text ≡ true
-key_bytes_no_dot [] e = refl
-key_bytes_no_dot (b ∷ text) e =
-    let (here, more) = and_parts (is_key_byte b) (list_all is_key_byte text) e in
-    rw (key_byte_no_dot b here, key_bytes_no_dot text more) refl
+key_bytes_no_dot text e = all_more is_key_byte is_no_dot key_byte_no_dot text e
 
 -- the text that Git lists for an entry, cut at its last dot
-record ListedAs (section : Option Section) (key_text whole front name : List ℕ) : Type 0 where
-  of : Section
-  in_section : section ≡ Some of
-  front_listed : IsListedSection of (front ++ 46 ∷ [])
-  same_name : map to_ascii_lowercase key_text ≡ name
-
 listed_at : {section : Option Section} {key_text whole : List ℕ} (front name : List ℕ)
     → list_all is_no_dot key_text ≡ true → list_all is_no_dot name ≡ true → IsListed section key_text whole
     → whole ≡ front ++ 46 ∷ name
-    → ListedAs section key_text whole front name
+    → (of : Section) × (section ≡ Some of) × IsListedSection of (front ++ 46 ∷ [])
+    × (map to_ascii_lowercase key_text ≡ name)
 listed_at front name p q (alone {key = key}) e =
     absurd (no_dot_within front name (lower_no_dots key p) e)
 listed_at front name p q (in_section {section = section} {key = key} {listed = before} h) e =
@@ -235,8 +223,7 @@ listed_at front name p q (in_section {section = section} {key = key} {listed = b
     let moved : mine ++ 46 ∷ own ≡ before ++ own =
     sym (append_assoc mine (46 ∷ []) own) ∙ ap (λ t. t ++ own) (sym is) in
     let (fronts, names) = last_same mine front own name (lower_no_dots key p) q (moved ∙ e) in
-    let front_listed = subst (λ l. IsListedSection section l) (is ∙ ap (λ t. t ++ 46 ∷ []) fronts) h in
-    record { of = section; in_section = refl; front_listed = front_listed; same_name = names }
+    (section, refl, rw (is ∙ ap (λ t. t ++ 46 ∷ []) fronts) at h, names)
 
 pub has_key_as_listed : (entry : Entry) (k : Key) → list_all is_no_dot entry.key ≡ true
     → list_all is_no_dot k.name ≡ true
@@ -247,11 +234,7 @@ has_key_as_listed entry k p q = (
       append_assoc (stem k) (46 ∷ []) own ∙ ap (λ n. stem k ++ 46 ∷ n) has.same_name in
       rw has.in_section
       (subst (λ l. IsListed (Some has.section) entry.key l) whole (in_section has.stem_listed)),
-  λ h. let found = listed_at (stem k) (map to_ascii_lowercase k.name) p (lower_no_dots k.name q) h refl in
-      record {
-        section = found.of;
-        in_section = found.in_section;
-        stem_listed = found.front_listed;
-        same_name = found.same_name;
-      },
+  λ h. let (of, is, front, names) =
+      listed_at (stem k) (map to_ascii_lowercase k.name) p (lower_no_dots k.name q) h refl in
+      record { section = of; in_section = is; stem_listed = front; same_name = names },
 )

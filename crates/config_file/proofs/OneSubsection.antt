@@ -2,154 +2,78 @@
 use Rattle.std.proofs.Common.{◌≡◌, ℕ, zero, suc, ◌≤◌, true, false, ◌==◌, List, [], ◌∷◌, ◌++◌, Option, Some}
 use Rattle.std.proofs.Common.{None, Result, Ok, Err, length, refl, sym, ap, ◌∙◌, subst, arith, if◌then◌else◌}
 use Rattle.std.proofs.Common.{length-append}
-use Rattle.std.proofs.lemmas.List.{append_cancel_right}
 use Rattle.std.proofs.lemmas.Bool.Decides.{nat_tests}
 use Rattle.config_file.proofs.OneRun.{before, before_is}
-use Rattle.config_file.proofs.Pick.{pick, pick_first, pick_second, pick_third}
+use Rattle.config_file.proofs.Pick.{pick}
+use Rattle.std.proofs.Common.{option_map}
+use Rattle.config_file.proofs.Scan.{Step, stop, Scans, ends, goes, stops_within}
 use Rattle.config_file.specs.Bytes.{is_text_byte, is_plain_in_quotes, EndsText}
 use Rattle.config_file.specs.Subsection as sub
-use Rattle.config_file.specs.Subsection.{SpellsSubsection, TakesSubsection, StopsInSubsection}
+use Rattle.config_file.specs.Subsection.{SpellsSubsection, IsSubsection, TakesSubsection, StopsInSubsection}
 
 abbrev step_escaped : List ℕ → Option (List ℕ)
 step_escaped [] = None
 step_escaped (e ∷ rest) = if is_text_byte e then Some rest else None
 
-abbrev step : List ℕ → Option (List ℕ)
-step [] = None
-step (b ∷ text) = pick (b == 92) (is_plain_in_quotes b) (step_escaped text) (Some text) None
-
-abbrev after_step : (List ℕ → List ℕ) → List ℕ → Option (List ℕ) → List ℕ
-after_step more text None = text
-after_step more text (Some rest) = more rest
-
--- what is left of the text after n steps of the scan, or fewer if it stops before
-abbrev stop : ℕ → List ℕ → List ℕ
-stop zero text = text
-stop (suc n) text = after_step (stop n) text (step text)
+abbrev step : Step (Unit {0})
+step s [] = None
+step s (b ∷ text) =
+    pick (b == 92) (is_plain_in_quotes b) (option_map (λ rest. (s, rest)) (step_escaped text)) (Some (s, text)) None
 
 plain_is_no_backslash : (b : ℕ) → is_plain_in_quotes b ≡ true → (b == 92) ≡ false
 plain_is_no_backslash b is = grind (arith, nat_tests)
 
-stops_at_once : (n : ℕ) (text : List ℕ) → step text ≡ None → stop n text ≡ text
-stops_at_once zero text none = refl
-stops_at_once (suc n) text none = rw none
-
-stops_after : {raw spelled : List ℕ} → SpellsSubsection raw spelled → (rest : List ℕ) (n : ℕ) → length raw ≤ n
-    → step rest ≡ None → stop n (raw ++ rest) ≡ rest
-stops_after sub.ends rest n room none = stops_at_once n rest none
-stops_after (sub.escaped {b = b} is text s) rest zero room none = absurd (omega arith)
-stops_after (sub.escaped {b = b} {e = e} {raw = raw} is text s) rest (suc n) room none =
-    let first : step (b ∷ e ∷ raw ++ rest) ≡ step_escaped (e ∷ raw ++ rest) =
-    pick_first (b == 92) (is_plain_in_quotes b) (step_escaped (e ∷ raw ++ rest)) (Some (e ∷ raw ++ rest)) None (rw is refl) in
-    let next : step_escaped (e ∷ raw ++ rest) ≡ Some (raw ++ rest) = rw text in
-    ap (after_step (stop n) (b ∷ e ∷ raw ++ rest)) (first ∙ next) ∙ stops_after s rest n (omega arith) none
-stops_after (sub.plain {b = b} is s) rest zero room none = absurd (omega arith)
-stops_after (sub.plain {b = b} {raw = raw} is s) rest (suc n) room none =
-    let next =
-    pick_second _ _ (step_escaped (raw ++ rest)) (Some (raw ++ rest)) None (plain_is_no_backslash b is) is in
-    ap (after_step (stop n) (b ∷ raw ++ rest)) next ∙ stops_after s rest n (omega arith) none
+scans : {raw spelled : List ℕ} → SpellsSubsection raw spelled → Scans step tt raw tt []
+scans sub.ends = ends
+scans (sub.escaped {e = e} is text s) = goes (e ∷ []) (scans s) (λ rest. rw (is, text))
+scans (sub.plain {b = b} is s) = goes [] (scans s) (λ rest. rw (is, plain_is_no_backslash b is))
 
 -- the outcome of a scan that stops before this rest, after these bytes
 abbrev finish : List ℕ → List ℕ → Result (List ℕ × List ℕ) (List ℕ)
 finish raw [] = Err []
 finish raw (b ∷ rest) = pick (b == 34) (b == 92) (Ok (raw, rest)) (Err rest) (Err (b ∷ rest))
 
-record Found (text : List ℕ) (outcome : Result (List ℕ × List ℕ) (List ℕ)) : Type 0 where
-  raw : List ℕ
-  at : List ℕ
-  joined : text ≡ raw ++ at
-  stops : stop (length text) text ≡ at
-  is : outcome ≡ finish raw at
+-- the outcome of the scan, by how far it goes
+abbrev finish_at : List ℕ → List ℕ → Result (List ℕ × List ℕ) (List ℕ)
+finish_at text at = finish (before text at) at
 
-found_only : {text : List ℕ} {a b : Result (List ℕ × List ℕ) (List ℕ)} → Found text a → Found text b → a ≡ b
-found_only first second =
-    let places : first.at ≡ second.at = sym first.stops ∙ second.stops in
-    let fronts : first.raw ≡ second.raw =
-    append_cancel_right first.raw second.raw second.at (ap (◌++◌ first.raw) (sym places) ∙ sym first.joined ∙ second.joined) in
-    first.is ∙ rw (fronts, places) (sym second.is)
+abbrev pub subsection_of : List ℕ → Result (List ℕ × List ℕ) (List ℕ)
+subsection_of text = finish_at text (stop step (length text) tt text).1
 
-ends_text_byte : (b : ℕ) → is_text_byte b ≡ false → (b == 34) ≡ false
-ends_text_byte b h = grind (arith, nat_tests)
+-- the scan stops after a subsection if no step goes on there
+outcome_after : {text : List ℕ} (raw rest : List ℕ) → text ≡ raw ++ rest → IsSubsection raw
+    → step tt rest ≡ None → finish raw rest ≡ subsection_of text
+outcome_after {text = text} raw rest joined (spelled, s) none =
+    ap (λ x. finish x rest) (before_is raw rest text joined)
+    ∙ ap (λ p. finish_at text p.1) (sym (stops_within rest joined (scans s) none))
 
-ends_text_backslash : (b : ℕ) → is_text_byte b ≡ false → (b == 92) ≡ false
-ends_text_backslash b h = grind (arith, nat_tests)
+pub ends_text_byte : (b : ℕ) → is_text_byte b ≡ false
+    → ((b == 34) ≡ false) × ((b == 92) ≡ false) × (is_plain_in_quotes b ≡ false)
+ends_text_byte b h = (grind (arith, nat_tests), grind (arith, nat_tests), grind (arith, nat_tests))
 
-ends_text_plain : (b : ℕ) → is_text_byte b ≡ false → is_plain_in_quotes b ≡ false
-ends_text_plain b h = grind (arith, nat_tests)
-
-no_step : (rest : List ℕ) → EndsText rest → step rest ≡ None
+no_step : (rest : List ℕ) → EndsText rest → step tt rest ≡ None
 no_step [] h = refl
-no_step (b ∷ rest) h = pick_third _ _ _ _ _ (ends_text_backslash b h) (ends_text_plain b h)
+no_step (b ∷ rest) h =
+    let (no_quote, no_backslash, not_plain) = ends_text_byte b h in rw (not_plain, no_backslash)
 
-no_step_escaped : (rest : List ℕ) → EndsText rest → step (92 ∷ rest) ≡ None
+no_step_escaped : (rest : List ℕ) → EndsText rest → step tt (92 ∷ rest) ≡ None
 no_step_escaped [] h = refl
 no_step_escaped (b ∷ rest) h = rw h
 
 finish_ends : (raw rest : List ℕ) → EndsText rest → Err rest ≡ finish raw rest
 finish_ends raw [] h = refl
 finish_ends raw (b ∷ rest) h =
-    sym (pick_third _ _ (Ok (raw, rest)) (Err rest) (Err (b ∷ rest)) (ends_text_byte b h) (ends_text_backslash b h))
-
-pub long_enough : {text : List ℕ} (raw rest : List ℕ) → text ≡ raw ++ rest → length raw ≤ length text
-long_enough raw rest e = rw e (omega (arith, length-append raw rest))
-
-takes_found : {text raw rest : List ℕ} → TakesSubsection text raw rest → Found text (Ok (raw, rest))
-takes_found {text = text} {raw = raw} {rest = rest} h =
-    let (spelled, s) = h.is_subsection in
-    record {
-      raw = raw;
-      at = 34 ∷ rest;
-      joined = h.joined;
-      stops =
-          subst (λ t. stop (length text) t ≡ 34 ∷ rest) (sym h.joined) (stops_after s (34 ∷ rest) (length text) (long_enough raw (34 ∷ rest) h.joined) refl);
-      is = refl;
-    }
-
-stops_found : {text rest : List ℕ} → StopsInSubsection text rest → Found text (Err rest)
-stops_found (sub.stops {text = text} {raw = raw} {rest = rest} (spelled, s) joined h) =
-    record {
-      raw = raw;
-      at = rest;
-      joined = joined;
-      stops =
-          subst (λ t. stop (length text) t ≡ rest) (sym joined) (stops_after s rest (length text) (long_enough raw rest joined) (no_step rest h));
-      is = finish_ends raw rest h;
-    }
-stops_found (sub.stops_escaped {b = b} {text = text} {raw = raw} {rest = rest} (spelled, s) joined is h) =
-    let whole : text ≡ raw ++ 92 ∷ rest = joined ∙ rw is in
-    record {
-      raw = raw;
-      at = 92 ∷ rest;
-      joined = whole;
-      stops =
-          subst (λ t. stop (length text) t ≡ 92 ∷ rest) (sym whole) (stops_after s (92 ∷ rest) (length text) (long_enough raw (92 ∷ rest) whole) (no_step_escaped rest h));
-      is = refl;
-    }
+    let (no_quote, no_backslash, not_plain) = ends_text_byte b h in rw (no_quote, no_backslash)
 
 -- the text has this outcome
 abbrev pub SubsectionHas : List ℕ → Result (List ℕ × List ℕ) (List ℕ) → Type 0
 SubsectionHas text (Ok p) = TakesSubsection text p.0 p.1
 SubsectionHas text (Err rest) = StopsInSubsection text rest
 
-found : {text : List ℕ} (outcome : Result (List ℕ × List ℕ) (List ℕ)) → SubsectionHas text outcome
-    → Found text outcome
-found (Ok (raw, rest)) h = takes_found h
-found (Err rest) h = stops_found h
-
-pub subsection_only : (text : List ℕ) (a b : Result (List ℕ × List ℕ) (List ℕ)) → SubsectionHas text a
-    → SubsectionHas text b → a ≡ b
-subsection_only text a b first second = found_only (found a first) (found b second)
-
--- the outcome of the scan, by how far it goes
-abbrev finish_at : List ℕ → List ℕ → Result (List ℕ × List ℕ) (List ℕ)
-finish_at text at = finish (before text at) at
-
-abbrev pub subsection_of : List ℕ → Result (List ℕ × List ℕ) (List ℕ)
-subsection_of text = finish_at text (stop (length text) text)
-
 pub subsection_is : (text : List ℕ) (outcome : Result (List ℕ × List ℕ) (List ℕ)) → SubsectionHas text outcome
     → outcome ≡ subsection_of text
-subsection_is text outcome has =
-    let scan = found outcome has in
-    let front = before_is scan.raw scan.at text scan.joined in
-    scan.is ∙ ap (λ raw. finish raw scan.at) front ∙ ap (finish_at text) (sym scan.stops)
+subsection_is text (Ok (raw, rest)) h = outcome_after raw (34 ∷ rest) h.joined h.is_subsection refl
+subsection_is text (Err rest) (sub.stops {raw = raw} is joined h) =
+    finish_ends raw rest h ∙ outcome_after raw rest joined is (no_step rest h)
+subsection_is text (Err rest) (sub.stops_escaped {raw = raw} is joined e h) =
+    outcome_after raw (92 ∷ rest) (joined ∙ rw e) is (no_step_escaped rest h)

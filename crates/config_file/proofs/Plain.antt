@@ -9,7 +9,7 @@ use Rattle.config_file.proofs.Spelled.{after_held, after_blanks, after_plain, wo
 use Rattle.config_file.proofs.Spelled.{word_no_backslash}
 use Rattle.config_file.specs.Bytes.{is_blank}
 use Rattle.config_file.specs.Runs.{Run, StopsRun}
-use Rattle.config_file.specs.Value.{Spells, itself, kept}
+use Rattle.config_file.specs.Value.{kept}
 use Rattle.config_file.specs.Reading.Scans.{PassedPlain, is_word_byte}
 
 pub passed_start : {raw blanks start : List ℕ} → Run is_blank raw blanks start → PassedPlain raw start start 0
@@ -22,8 +22,7 @@ passed_start {raw = raw} {blanks = blanks} {start = start} run =
       begins = run.longest;
       blanks = refl;
       spells = λ spelled ending s.
-          let more =
-          after_blanks [] blanks start run.pass (subst (λ x. Spells itself false [] [] x spelled ending) run.joined s) in
+          let more = after_blanks [] blanks start run.pass (rw run.joined at s) in
           (ending, blanks, (λ some. absurd (some refl)), more);
     }
 
@@ -40,7 +39,7 @@ passed_blank {rest = rest} {b = b} at passed e is =
       blanks = rw (list_all-append is_blank passed.gap (b ∷ []), passed.blanks, is) refl;
       spells = λ spelled ending s.
           let (o, held, same, more) = passed.spells spelled ending s in
-          (o, held ++ b ∷ [], (λ some. ap (λ x. x ++ b ∷ []) (same some)), after_held (subst (λ x. Spells itself false passed.front held x spelled o) e more) is);
+          (o, held ++ b ∷ [], (λ some. ap (λ x. x ++ b ∷ []) (same some)), after_held (rw e at more) is);
     }
 
 kept_is : (front gap start at held : List ℕ) → StopsRun is_blank start → start ≡ (front ++ gap) ++ at
@@ -71,9 +70,8 @@ passed_text {start = start} {rest = rest} {b = b} at passed e is not_quote not_b
           let (o, held, same, more) = passed.spells spelled ending s in
           let text =
           kept_is passed.front passed.gap start at held passed.begins passed.joined passed.blanks same in
-          let next =
-          after_plain (subst (λ x. Spells itself false passed.front held x spelled o) e more) is not_quote not_backslash in
-          (o, [], (λ some. refl), subst (λ x. Spells itself false (x ++ b ∷ []) [] rest spelled o) text next);
+          let next = after_plain (rw e at more) is not_quote not_backslash in
+          (o, [], (λ some. refl), rw text at next);
     }
 
 word_is_no_blank : (b : ℕ) → is_word_byte b ≡ true → is_blank b ≡ false
@@ -84,8 +82,7 @@ pub passed_word : {raw start after : List ℕ} (at word : List ℕ)
     → PassedPlain raw start at (length start - length at)
     → at ≡ word ++ after → list_all is_word_byte word ≡ true
     → PassedPlain raw start after (length start - length after)
-passed_word {raw = raw} {start = start} at [] passed e all =
-    subst (λ x. PassedPlain raw start x (length start - length x)) e passed
+passed_word at [] passed e all = rw e at passed
 passed_word {after = after} at (b ∷ word) passed e all =
     let (here, more) = and_parts (is_word_byte b) (list_all is_word_byte word) all in
     passed_word (word ++ after) word (passed_text at passed e (word_is_no_blank b here) (word_no_quote b here) (word_no_backslash b here)) refl more

@@ -1,62 +1,26 @@
 -- The reader, item by item.
 use Rattle.std.proofs.Common.{◌≡◌, ◌≢◌, ℕ, ◌+◌, true, false, List, [], ◌∷◌, Option, Some, None, Result, Ok}
-use Rattle.std.proofs.Common.{Err, sym, ap, ◌∙◌, subst, arith}
+use Rattle.std.proofs.Common.{Err, ap, ◌∙◌, arith}
 use Rattle.std.proofs.lemmas.Bool.Decides.{nat_tests}
 use Rattle.std.specs.Char.{is_ascii_alphabetic}
 use Rattle.config_file.specs.declared.errors.FileError.{FileError}
 use Rattle.config_file.specs.declared.errors.FileFault.{FileFault}
 use Rattle.config_file.specs.declared.entry.Entry as code
 use Rattle.config_file.specs.declared.reader.Entries as reader
-use Rattle.config_file.specs.Bytes.{is_blank, is_comment_sign, is_comment_byte}
-use Rattle.config_file.specs.Runs.{Run}
-use Rattle.config_file.specs.Header.{Section, Header, HeaderStops, fault_at}
+use Rattle.config_file.specs.Bytes.{is_blank, is_comment_sign}
+use Rattle.config_file.specs.Header.{Section, HeaderStops, fault_at}
 use Rattle.config_file.specs.File as file
 use Rattle.config_file.specs.File.{Entry, TakesEntry, EntryStops, Reads, begins_item}
 use Rattle.config_file.specs.Left.{HasLeft, GivesEntry}
 use Rattle.config_file.specs.Views.{entry_of}
 
-module _ {section : Option Section} {line : ℕ} (left : List Entry) (error : Option FileError) where
-  pub at_blank : {b : ℕ} {rest : List ℕ} (at : List ℕ) → at ≡ b ∷ rest → is_blank b ≡ true
-      → Reads section line rest left error → Reads section line at left error
-  at_blank at e is h = rw e (file.blank is h)
-
-  pub at_line_end : {b : ℕ} {rest : List ℕ} (at : List ℕ) → at ≡ b ∷ rest → b ≡ 10
-      → Reads section (line + 1) rest left error → Reads section line at left error
-  at_line_end at e is h = rw e (file.line_end is h)
-
-  pub at_comment : {b : ℕ} {rest comment after : List ℕ} (at : List ℕ) → at ≡ b ∷ rest
-      → is_comment_sign b ≡ true → Run is_comment_byte rest comment after
-      → Reads section line after left error → Reads section line at left error
-  at_comment at e is run h = rw e (file.comment is run h)
-
-  pub at_header : {b : ℕ} {next : Section} {rest after : List ℕ} (at : List ℕ) → at ≡ b ∷ rest → b ≡ 91
-      → Header rest next after
-      → Reads (Some next) line after left error → Reads section line at left error
-  at_header at e is taken h = rw e (file.header is taken h)
-
 -- a text that is refused with an error of this line and this fault is refused with an equal error
-refused_as : {section : Option Section} {line at_line : ℕ} {fault : FileFault} {text : List ℕ} (error : FileError)
+pub refused_as : {section : Option Section} {line at_line : ℕ} {fault : FileFault} {text : List ℕ} (error : FileError)
     → error.line ≡ at_line → error.fault ≡ fault
     → Reads section line text [] (Some (record { line = at_line; fault = fault })) → Reads section line text [] (Some error)
-refused_as {section = section} {line = line} {fault = fault} {text = text} error same_line same_fault h =
-    let first =
-    subst (λ l. Reads section line text [] (Some (record { line = l; fault = fault }))) (sym same_line) h in
-    subst (λ f. Reads section line text [] (Some (record { line = error.line; fault = f }))) (sym same_fault) first
+refused_as error same_line same_fault h = rw (← same_line, ← same_fault) at h
 
 module _ {section : Option Section} {line : ℕ} (error : FileError) where
-  pub header_refused : {b lines : ℕ} {fault : FileFault} {rest : List ℕ} (at : List ℕ) → at ≡ b ∷ rest
-      → b ≡ 91
-      → HeaderStops rest lines fault
-      → error.line ≡ line + lines → error.fault ≡ fault → Reads section line at [] (Some error)
-  header_refused at e is stops same_line same_fault =
-      refused_as error same_line same_fault (rw e (file.header_refused is stops))
-
-  pub entry_refused : {b lines : ℕ} {fault : FileFault} {rest : List ℕ} (at : List ℕ) → at ≡ b ∷ rest
-      → is_ascii_alphabetic b ≡ true → EntryStops at lines fault
-      → error.line ≡ line + lines → error.fault ≡ fault → Reads section line at [] (Some error)
-  entry_refused {lines = lines} {fault = fault} at e letter stops same_line same_fault =
-      refused_as error same_line same_fault (rw e (file.entry_refused letter (subst (λ t. EntryStops t lines fault) e stops)))
-
   pub no_item : {b : ℕ} {rest : List ℕ} (at : List ℕ) → at ≡ b ∷ rest → begins_item b ≡ false
       → error.line ≡ line + 0 → error.fault ≡ fault_at at → Reads section line at [] (Some error)
   no_item {b = b} at e other same_line same_fault =
@@ -67,8 +31,7 @@ pub at_entry : {section : Option Section} {line b lines : ℕ} {rest key after :
     → at ≡ b ∷ rest → is_ascii_alphabetic b ≡ true → TakesEntry at key value lines after
     → Reads section (line + lines) after left error
     → Reads section line at (record { section = section; key = key; value = value; line = line + lines } ∷ left) error
-at_entry {lines = lines} {key = key} {after = after} {value = value} left error at e letter taken h =
-    rw e (file.entry letter (subst (λ t. TakesEntry t key value lines after) e taken) h)
+at_entry left error at e letter taken h = rw e (file.entry letter (rw e at taken) h)
 
 pub none_left : {section : Option Section} {line : ℕ} (at : List ℕ) → at ≡ [] → Reads section line at [] None
 none_left at e = rw e file.ends

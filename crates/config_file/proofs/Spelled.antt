@@ -4,7 +4,7 @@ use Rattle.std.proofs.Common.{sym, ap, refl, ◌∙◌, subst, arith, append_ass
 use Rattle.std.specs.List.{list_all}
 use Rattle.std.proofs.lemmas.Bool.{true≢false, and_parts}
 use Rattle.std.proofs.lemmas.Bool.Decides.{nat_tests}
-use Rattle.config_file.specs.Bytes.{is_blank, is_plain}
+use Rattle.config_file.specs.Bytes.{is_blank, is_plain, is_plain_in_quotes}
 use Rattle.config_file.specs.Runs.{Run, StopsRun}
 use Rattle.config_file.specs.Subsection.{SpellsSubsection}
 use Rattle.config_file.specs.Subsection as subsections
@@ -12,40 +12,38 @@ use Rattle.config_file.specs.Value.{Ending, outside, Spells, itself, ends_outsid
 use Rattle.config_file.specs.Value.{escaped, continued, continued_after_return, blank, plain, kept}
 use Rattle.config_file.specs.Reading.Scans.{is_held_back, is_unescaped, is_word_byte, unescape, append_some}
 
-blank_is_no_quote : (b : ℕ) → is_blank b ≡ true → b ≡ 34 → ⊥
-blank_is_no_quote b is e = grind (arith, nat_tests)
+-- what a blank, and a byte that spells itself, are not
+abbrev pub IsInner : ℕ → Type 0
+IsInner b = (b ≢ 0) × (b ≢ 10) × (b ≢ 34) × (b ≢ 92)
 
-blank_is_no_backslash : (b : ℕ) → is_blank b ≡ true → b ≡ 92 → ⊥
-blank_is_no_backslash b is e = grind (arith, nat_tests)
+pub blank_inner : (b : ℕ) → is_blank b ≡ true → IsInner b
+blank_inner b is =
+    (grind (arith, nat_tests), grind (arith, nat_tests), grind (arith, nat_tests), grind (arith, nat_tests))
 
-plain_is_no_quote : (q : Bool) (b : ℕ) → is_plain q b ≡ true → b ≡ 34 → ⊥
-plain_is_no_quote true b is e = grind (arith, nat_tests)
-plain_is_no_quote false b is e = grind (arith, nat_tests)
+quoted_inner : (b : ℕ) → is_plain_in_quotes b ≡ true → IsInner b
+quoted_inner b is =
+    (grind (arith, nat_tests), grind (arith, nat_tests), grind (arith, nat_tests), grind (arith, nat_tests))
 
-plain_is_no_backslash : (q : Bool) (b : ℕ) → is_plain q b ≡ true → b ≡ 92 → ⊥
-plain_is_no_backslash true b is e = grind (arith, nat_tests)
-plain_is_no_backslash false b is e = grind (arith, nat_tests)
+pub plain_inner : (q : Bool) (b : ℕ) → is_plain q b ≡ true → IsInner b
+plain_inner true b is = quoted_inner b is
+plain_inner false b is = quoted_inner b (and_parts (is_plain_in_quotes b) _ is).0
 
 plain_is_not_held : (q : Bool) (b : ℕ) → is_plain q b ≡ true → is_held_back q b ≡ true → ⊥
 plain_is_not_held true b is held = grind (arith, nat_tests)
 plain_is_not_held false b is held = grind (arith, nat_tests)
 
-held_is_no_quote : (q : Bool) (b : ℕ) → is_held_back q b ≡ true → b ≡ 34 → ⊥
-held_is_no_quote true b held e = cc
-held_is_no_quote false b held e = blank_is_no_quote b held e
-
-held_is_no_backslash : (q : Bool) (b : ℕ) → is_held_back q b ≡ true → b ≡ 92 → ⊥
-held_is_no_backslash true b held e = cc
-held_is_no_backslash false b held e = blank_is_no_backslash b held e
+held_inner : (q : Bool) (b : ℕ) → is_held_back q b ≡ true → IsInner b
+held_inner true b held = absurd (true≢false (sym held))
+held_inner false b held = blank_inner b held
 
 pub after_held : {w : ℕ → ℕ} {q : Bool} {o : Ending} {b : ℕ} {value held rest spelled : List ℕ}
     → Spells w q value held (b ∷ rest) spelled o → is_held_back q b ≡ true
     → Spells w q value (held ++ w b ∷ []) rest spelled o
-after_held (ends_at_backslash {b = b} e) is = absurd (held_is_no_backslash false b is e)
-after_held (quote {quoted = q} {b = b} e s) is = absurd (held_is_no_quote q b is e)
-after_held (escaped {quoted = q} {b = b} e l s) is = absurd (held_is_no_backslash q b is e)
-after_held (continued {quoted = q} {b = b} e l s) is = absurd (held_is_no_backslash q b is e)
-after_held (continued_after_return {quoted = q} {b = b} e l n s) is = absurd (held_is_no_backslash q b is e)
+after_held (ends_at_backslash {b = b} e) is = absurd ((held_inner false b is).3 e)
+after_held (quote {quoted = q} {b = b} e s) is = absurd ((held_inner q b is).2 e)
+after_held (escaped {quoted = q} {b = b} e l s) is = absurd ((held_inner q b is).3 e)
+after_held (continued {quoted = q} {b = b} e l s) is = absurd ((held_inner q b is).3 e)
+after_held (continued_after_return {quoted = q} {b = b} e l n s) is = absurd ((held_inner q b is).3 e)
 after_held (blank e s) is = s
 after_held (plain {quoted = q} {b = b} e s) is = absurd (plain_is_not_held q b e is)
 
@@ -57,8 +55,8 @@ after_quote (quote e s) is = s
 after_quote (escaped e l s) is = absurd (omega arith)
 after_quote (continued e l s) is = absurd (omega arith)
 after_quote (continued_after_return e l n s) is = absurd (omega arith)
-after_quote (blank {b = b} e s) is = absurd (blank_is_no_quote b e is)
-after_quote (plain {quoted = q} {b = b} e s) is = absurd (plain_is_no_quote q b e is)
+after_quote (blank {b = b} e s) is = absurd ((blank_inner b e).2 is)
+after_quote (plain {quoted = q} {b = b} e s) is = absurd ((plain_inner q b e).2 is)
 
 pub after_plain : {w : ℕ → ℕ} {q : Bool} {o : Ending} {b : ℕ} {value held rest spelled : List ℕ}
     → Spells w q value held (b ∷ rest) spelled o → is_held_back q b ≡ false → b ≢ 34 → b ≢ 92
@@ -79,19 +77,18 @@ after_backslash (quote e s) is = absurd (omega arith)
 after_backslash {o = o} (escaped e l s) is = (o, rw l s)
 after_backslash {o = o} (continued e l s) is = (o, rw l s)
 after_backslash {o = o} (continued_after_return e l n s) is = (o, rw l s)
-after_backslash (blank {b = b} e s) is = absurd (blank_is_no_backslash b e is)
-after_backslash (plain {quoted = q} {b = b} e s) is = absurd (plain_is_no_backslash q b e is)
+after_backslash (blank {b = b} e s) is = absurd ((blank_inner b e).3 is)
+after_backslash (plain {quoted = q} {b = b} e s) is = absurd ((plain_inner q b e).3 is)
 
 -- a run of blanks outside quotes is held back
 pub after_blanks : {value spelled : List ℕ} {e : Ending} (held blanks rest : List ℕ)
     → list_all is_blank blanks ≡ true
     → Spells itself false value held (blanks ++ rest) spelled e
     → Spells itself false value (held ++ blanks) rest spelled e
-after_blanks {value = value} {spelled = spelled} {e = e} held [] rest all s =
-    subst (λ h. Spells itself false value h rest spelled e) (sym (append-nil held)) s
-after_blanks {value = value} {spelled = spelled} {e = e} held (b ∷ blanks) rest all s =
+after_blanks held [] rest all s = rw append-nil s
+after_blanks held (b ∷ blanks) rest all s =
     let (here, more) = and_parts (is_blank b) (list_all is_blank blanks) all in
-    subst (λ h. Spells itself false value h rest spelled e) (append_assoc held (b ∷ []) blanks)
+    rw (← append_assoc held (b ∷ []) blanks)
     (after_blanks (held ++ b ∷ []) blanks rest more (after_held s here))
 
 -- a run of blanks is held back where none was held before it, since a longest run precedes no blank
@@ -99,10 +96,8 @@ pub blanks_next : {q : Bool} {b : ℕ} {value held blanks rest after spelled : L
     → is_held_back q b ≡ true → (held ≡ []) ⊎ StopsRun is_blank at → Run is_blank at blanks after
     → Spells itself q value held at spelled o → Spells itself q value blanks after spelled o
 blanks_next {q = true} at e is fresh run s = cc
-blanks_next {q = false} {value = value} {held = held} {blanks = blanks} {after = after} {spelled = spelled} {o = o} at e is (inl none) run s =
-    after_blanks [] blanks after run.pass
-    (subst (λ x. Spells itself false value x (blanks ++ after) spelled o) none
-    (subst (λ x. Spells itself false value held x spelled o) run.joined s))
+blanks_next {q = false} {blanks = blanks} {after = after} at e is (inl none) run s =
+    after_blanks [] blanks after run.pass (rw (none, run.joined) at s)
 blanks_next {q = false} {b = b} at e is (inr stops) run s =
     absurd (true≢false (sym is ∙ subst (λ x. StopsRun is_blank x) e stops))
 
@@ -124,27 +119,25 @@ word_no_backslash b is e = grind (arith, nat_tests)
 after_word : {w : ℕ → ℕ} {q : Bool} {o : Ending} {spelled : List ℕ} (value word rest : List ℕ)
     → list_all is_word_byte word ≡ true
     → Spells w q value [] (word ++ rest) spelled o → Spells w q (value ++ word) [] rest spelled o
-after_word {w = w} {q = q} {o = o} {spelled = spelled} value [] rest all s =
-    subst (λ v. Spells w q v [] rest spelled o) (sym (append-nil value)) s
-after_word {w = w} {q = q} {o = o} {spelled = spelled} value (b ∷ word) rest all s =
+after_word value [] rest all s = rw append-nil s
+after_word {q = q} value (b ∷ word) rest all s =
     let (here, more) = and_parts (is_word_byte b) (list_all is_word_byte word) all in
     let next = after_plain s (word_not_held q b here) (word_no_quote b here) (word_no_backslash b here) in
-    subst (λ v. Spells w q v [] rest spelled o) (append_assoc value (b ∷ []) word)
-    (after_word (value ++ b ∷ []) word rest more (subst (λ v. Spells w q (v ++ b ∷ []) [] (word ++ rest) spelled o) (kept_none value) next))
+    rw (← append_assoc value (b ∷ []) word)
+    (after_word (value ++ b ∷ []) word rest more (rw (kept_none value) at next))
 
 -- the same, in the form that the loop needs
 module _ {w : ℕ → ℕ} {q : Bool} {b : ℕ} {value held rest : List ℕ} (at : List ℕ) (e : at ≡ b ∷ rest) where
   pub quote_next : {spelled text : List ℕ} {o : Ending} → b ≡ 34 → text ≡ kept value held
       → Spells w q value held at spelled o
       → (ending : Ending) × Spells w (not q) text [] rest spelled ending
-  quote_next {spelled = spelled} {o = o} is same s =
-      (o, rw same (after_quote (subst (λ x. Spells w q value held x spelled o) e s) is))
+  quote_next {o = o} is same s = (o, rw same (after_quote (rw e at s) is))
 
   pub plain_next : {spelled kept_text text : List ℕ} {o : Ending} → is_held_back q b ≡ false → b ≢ 34
       → b ≢ 92 → kept_text ≡ kept value held → text ≡ kept_text ++ b ∷ []
       → Spells w q value held at spelled o → (ending : Ending) × Spells w q text [] rest spelled ending
-  plain_next {spelled = spelled} {o = o} is not_quote not_backslash same same_text s =
-      (o, rw (same_text, same) (after_plain (subst (λ x. Spells w q value held x spelled o) e s) is not_quote not_backslash))
+  plain_next {o = o} is not_quote not_backslash same same_text s =
+      (o, rw (same_text, same) (after_plain (rw e at s) is not_quote not_backslash))
 
   pub word_next : {spelled kept_text text longer word after : List ℕ} {o : Ending} → is_held_back q b ≡ false
       → b ≢ 34
@@ -159,10 +152,10 @@ module _ {w : ℕ → ℕ} {q : Bool} {b : ℕ} {value held rest : List ℕ} (at
       → b ≡ 92 → kept_text ≡ kept value held
       → (escaped_byte, after) ≡ unescape rest → text ≡ append_some kept_text escaped_byte
       → Spells w q value held at spelled o → (ending : Ending) × Spells w q text [] after spelled ending
-  backslash_next {spelled = spelled} {o = o} escaped_byte is same unescaped same_text s =
+  backslash_next escaped_byte is same unescaped same_text s =
       let first = ap (λ p. p.0) unescaped in
       let second = ap (λ p. p.1) unescaped in
-      let (ending, more) = after_backslash (subst (λ x. Spells w q value held x spelled o) e s) is in
+      let (ending, more) = after_backslash (rw e at s) is in
       (ending, rw (same_text, same, first, second) more)
 
 -- the text that has been appended, followed by what the rest spells, is the whole text
@@ -177,8 +170,7 @@ unescaped_left : {raw spelled : List ℕ} (front rest : List ℕ) → SpellsSubs
     → raw ≡ front ++ rest
     → list_all is_unescaped front ≡ true
     → (more : List ℕ) × SpellsSubsection rest more × (spelled ≡ front ++ more)
-unescaped_left {spelled = spelled} [] rest s e all =
-    (spelled, subst (λ x. SpellsSubsection x spelled) e s, refl)
+unescaped_left {spelled = spelled} [] rest s e all = (spelled, rw e at s, refl)
 unescaped_left (b ∷ front) rest subsections.ends e all = cc
 unescaped_left (b ∷ front) rest (subsections.escaped {b = c} is text s) e all =
     let same : c ≡ b = cc in

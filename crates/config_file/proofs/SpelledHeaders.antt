@@ -1,6 +1,6 @@
 -- Spellings of headers and keys.
 use Rattle.std.proofs.Common.{◌≡◌, ◌≢◌, ℕ, true, false, not, ◌||◌, List, [], ◌∷◌, ◌++◌, Option, Some, None}
-use Rattle.std.proofs.Common.{length, ◌+◌, refl, sym, ◌∙◌, subst, append_assoc, arith, inl, inr, ◌==◌}
+use Rattle.std.proofs.Common.{length, refl, sym, ◌∙◌, subst, append_assoc, arith, inl, inr, ◌==◌}
 use Rattle.std.specs.List.{list_all}
 use Rattle.std.specs.Char.{is_ascii_alphabetic}
 use Rattle.std.proofs.lemmas.Bool.{cases_Bool, true≢false}
@@ -42,13 +42,10 @@ some_name : (name : List ℕ) → name ≢ [] → not (length name == 0) ≡ tru
 some_name [] some = absurd (some refl)
 some_name (b ∷ name) some = grind (arith, nat_tests)
 
-plain_named : (name : List ℕ) → name ≢ [] → list_all is_name_byte name ≡ true → is_section name None ≡ true
-plain_named name some pass = rw (some_name name some, pass)
-
 header_is_section : {text rest : List ℕ} {section : Section} (name : List ℕ) (text_of : Option (List ℕ))
     → Header text section rest → SpellsSection section name text_of
     → is_section name text_of ≡ true
-header_is_section name None (plain run some e) (same, h) = rw same at (plain_named _ some run.pass)
+header_is_section name None (plain run some e) (same, h) = rw (← same) (rw (some_name _ some, run.pass))
 header_is_section name (Some t) (plain run some e) (same, h) = absurd h
 header_is_section name None (quoted opens c) (same, h) = absurd h
 header_is_section name (Some t) (quoted opens c) (same, h) =

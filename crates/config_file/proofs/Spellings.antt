@@ -5,15 +5,16 @@ use Rattle.std.proofs.Common.{arith, inl, inr, ◌==◌, slice_index_or}
 use Rattle.std.specs.Prelude.{nat_eq}
 use Rattle.std.specs.List.{flat_map, list_any}
 use Rattle.std.proofs.lemmas.List.Folds.{list_all-append}
-use Rattle.std.proofs.lemmas.Bool.{cases_Bool, true≢false}
+use Rattle.std.proofs.lemmas.Bool.{cases_Bool, true≢false, or_parts}
 use Rattle.std.proofs.lemmas.Bool.Decides.{nat_tests}
-use Rattle.config_file.specs.Bytes.{is_plain, is_blank}
+use Rattle.config_file.specs.Bytes.{is_plain}
 use Rattle.config_file.specs.Value.{Ending, outside, Spells, itself, as_space, ends_outside, ends_inside}
 use Rattle.config_file.specs.Value.{ends_at_backslash, quote, escaped, continued, continued_after_return}
 use Rattle.config_file.specs.Value.{blank, plain, kept, escape}
 use Rattle.config_file.specs.Spelling.{IsSpelling, HasNoSpelling, letter_of, after_backslash, spelled_byte}
 use Rattle.config_file.specs.Spelling.{is_lost, begins_with_space, ends_with_space, needs_quotes, git_spelled}
-use Rattle.config_file.proofs.Spelled.{kept_none}
+use Rattle.config_file.proofs.Pick.{equal}
+use Rattle.config_file.proofs.Spelled.{kept_none, blank_inner, plain_inner}
 use Rattle.config_file.specs.Reading.Spellings.{is_spellable}
 
 pub ends_with_space_at : (value : List ℕ) → 1 ≤ length value
@@ -71,11 +72,8 @@ module _ (w : ℕ → ℕ) (reads : w 32 ≡ 32) where
   blank_next : {raw : List ℕ} (before rest held : List ℕ) (first : ℕ)
       → Spells w false (first ∷ before) (held ++ 32 ∷ []) raw (kept (first ∷ before) (held ++ 32 ∷ []) ++ rest) outside
       → Spells w false (first ∷ before) held (32 ∷ raw) (kept (first ∷ before) held ++ 32 ∷ rest) outside
-  blank_next {raw = raw} before rest held first h =
-      let text = kept (first ∷ before) held ++ 32 ∷ rest in
-      let more : Spells w false (first ∷ before) (held ++ 32 ∷ []) raw text outside =
-      subst (λ x. Spells w false (first ∷ before) (held ++ 32 ∷ []) raw x outside) (pushed_before (first ∷ before) held rest 32) h in
-      blank refl (subst (λ c. Spells w false (first ∷ before) (held ++ c ∷ []) raw text outside) (sym reads) more)
+  blank_next before rest held first h =
+      blank refl (rw reads (rw (pushed_before (first ∷ before) held rest 32) at h))
 
   spelled_after : (value before held : List ℕ) (first : ℕ) → is_spellable value ≡ true
       → list_any is_lost value ≡ false
@@ -89,14 +87,12 @@ module _ (w : ℕ → ℕ) (reads : w 32 ≡ 32) where
       let not_lost : is_lost b ≡ false = grind (arith, nat_tests) in
       let no_others : list_any is_lost rest ≡ false = grind (arith, nat_tests) in
       let last_other = last_is_no_space b rest last in
-      elim (cases_Bool (b == 32)) [
+      elim (equal b 32) [
         | inl is ↦
-            let same : b ≡ 32 = grind (arith, nat_tests) in
             let more = spelled_after rest before (held ++ 32 ∷ []) first others no_others last_other
-            (λ e. absurd (last_alone_is_no_space b rest last same e)) in
-            rw same (blank_next before rest held first more)
-        | inr other ↦
-            let no_space : b ≢ 32 = grind (arith, nat_tests) in
+            (λ e. absurd (last_alone_is_no_space b rest last is e)) in
+            rw is (blank_next before rest held first more)
+        | inr no_space ↦
             let now = before ++ held ++ b ∷ [] in
             let more = spelled_after rest now [] first others no_others last_other (λ e. refl) in
             let same : kept (first ∷ now) [] ++ rest ≡ kept (first ∷ before) held ++ b ∷ rest =
@@ -117,22 +113,11 @@ module _ (w : ℕ → ℕ) (reads : w 32 ≡ 32) where
       spelled_next b (letter_of b) refl (λ e. plain_outside b e some not_lost no_space)
       (spelled_after rest [] [] b others no_others (last_is_no_space b rest last) (λ e. refl))
 
-or_left : (a b : Bool) → (a || b) ≡ false → a ≡ false
-or_left true b e = absurd (true≢false e)
-or_left false b e = refl
-
-or_right : (a b : Bool) → (a || b) ≡ false → b ≡ false
-or_right true b e = absurd (true≢false e)
-or_right false b e = e
-
 unquoted : (w : ℕ → ℕ) → w 32 ≡ 32 → (value : List ℕ) → is_spellable value ≡ true → needs_quotes value ≡ false
     → Spells w false [] [] (flat_map spelled_byte value) value outside
 unquoted w reads value all other =
-    let spaces = or_left _ _ other in
-    let found : list_any is_lost value ≡ false =
-    or_right (begins_with_space value || ends_with_space value) _ other in
-    let first : begins_with_space value ≡ false = or_left _ (ends_with_space value) spaces in
-    let last : ends_with_space value ≡ false = or_right (begins_with_space value) _ spaces in
+    let (spaces, found) = or_parts (begins_with_space value || ends_with_space value) _ other in
+    let (first, last) = or_parts (begins_with_space value) (ends_with_space value) spaces in
     spelled_outside w reads value all found first last
 
 spelled_by_git : (w : ℕ → ℕ) → w 32 ≡ 32 → (value : List ℕ) → is_spellable value ≡ true
@@ -162,13 +147,6 @@ pushed_spellable value b all some =
 escaped_is_some : (e c : ℕ) → escape e ≡ Some c → c ≢ 0
 escaped_is_some e c is none = grind (arith, nat_tests)
 
-plain_is_some : (q : Bool) (b : ℕ) → is_plain q b ≡ true → b ≢ 0
-plain_is_some true b is none = grind (arith, nat_tests)
-plain_is_some false b is none = grind (arith, nat_tests)
-
-blank_is_some : (b : ℕ) → is_blank b ≡ true → b ≢ 0
-blank_is_some b is none = grind (arith, nat_tests)
-
 spelled_spellable : {q : Bool} {value held raw text : List ℕ} {e : Ending}
     → Spells itself q value held raw text e
     → is_spellable value ≡ true → is_spellable held ≡ true → is_spellable text ≡ true
@@ -185,9 +163,10 @@ spelled_spellable (continued {value = value} {held = held} e l s) all blanks =
 spelled_spellable (continued_after_return {value = value} {held = held} e l n s) all blanks =
     spelled_spellable s (kept_spellable value held all blanks) refl
 spelled_spellable (blank {b = b} {held = held} is s) all blanks =
-    spelled_spellable s all (pushed_spellable held b blanks (blank_is_some b is))
+    spelled_spellable s all (pushed_spellable held b blanks (blank_inner b is).0)
 spelled_spellable (plain {quoted = q} {b = b} {value = value} {held = held} is s) all blanks =
-    spelled_spellable s (pushed_spellable (kept value held) b (kept_spellable value held all blanks) (plain_is_some q b is)) refl
+    let so_far = kept_spellable value held all blanks in
+    spelled_spellable s (pushed_spellable (kept value held) b so_far (plain_inner q b is).0) refl
 
 pub not_spelled : (value : List ℕ) → is_spellable value ≡ false → HasNoSpelling value
 not_spelled value refused raw s = true≢false (sym (spelled_spellable s refl refl) ∙ refused)

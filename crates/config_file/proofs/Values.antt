@@ -1,6 +1,6 @@
 -- The scan of a value.
 use Rattle.std.proofs.Common.{◌≡◌, ◌≢◌, ℕ, ◌+◌, Bool, true, false, not, List, [], ◌∷◌, ◌++◌, Option, Some}
-use Rattle.std.proofs.Common.{None, is_some, refl, sym, ap, ◌∙◌, subst, append_assoc, append-nil, arith, inl}
+use Rattle.std.proofs.Common.{None, is_some, refl, sym, ap, ◌∙◌, append_assoc, append-nil, arith, inl}
 use Rattle.std.proofs.Common.{inr, ◌⊎◌, ◌==◌}
 use Rattle.std.proofs.lemmas.List.{append_cancel_right}
 use Rattle.std.specs.List.{list_all}
@@ -11,8 +11,8 @@ use Rattle.config_file.specs.Bytes.{is_plain, is_blank, is_comment_sign, is_comm
 use Rattle.config_file.specs.Header.{fault_at}
 use Rattle.config_file.specs.Value.{Ending, outside, inside, at_backslash, Spells, itself, ends_outside}
 use Rattle.config_file.specs.Value.{ends_inside, ends_at_backslash, quote, escaped, continued}
-use Rattle.config_file.specs.Value.{continued_after_return, blank, plain, SpellsValue, IsPart, EndsValue}
-use Rattle.config_file.specs.Value.{IsNoEscape, line_feeds, kept, escape}
+use Rattle.config_file.specs.Value.{continued_after_return, blank, plain, IsPart, EndsValue}
+use Rattle.config_file.specs.Value.{IsNoEscape, line_feeds, escape}
 use Rattle.config_file.specs.Value.{TakesValue, closed, open_end, ValueStops, nul, unclosed}
 use Rattle.config_file.specs.Value.{unclosed_open_end, no_escape}
 use Rattle.config_file.specs.Reading.Scans.{PassedValue, OnOneLine, EndsScan, Escapes, letter, line}
@@ -24,11 +24,11 @@ pub passed_none : (text : List ℕ) → PassedValue text false text
 passed_none text = record { raw = []; value = []; held = []; joined = refl; extends = λ more spelled o h. h }
 
 -- if the scan has passed these bytes too, it goes on with this value and this many held blanks
-pub passed_more : {text at rest : List ℕ} {q r : Bool} (piece value held : List ℕ)
+pub passed_more : {text at rest value held : List ℕ} {q r : Bool} (piece : List ℕ)
     → (passed : PassedValue text q at) → at ≡ piece ++ rest
     → ((more spelled : List ℕ) (o : Ending) → Spells itself r value held more spelled o → Spells itself q passed.value passed.held (piece ++ more) spelled o)
     → PassedValue text r rest
-passed_more {rest = rest} piece value held passed e spells =
+passed_more {rest = rest} {value = value} {held = held} piece passed e spells =
     record {
       raw = passed.raw ++ piece;
       value = value;
@@ -41,17 +41,17 @@ passed_more {rest = rest} piece value held passed e spells =
 pub passed_quote : {text rest : List ℕ} {q : Bool} {b : ℕ} (at : List ℕ) → PassedValue text q at
     → at ≡ b ∷ rest → b ≡ 34 → PassedValue text (not q) rest
 passed_quote {b = b} at passed e is_quote =
-    passed_more (b ∷ []) (kept passed.value passed.held) [] passed e (λ more spelled o h. quote is_quote h)
+    passed_more (b ∷ []) passed e (λ more spelled o h. quote is_quote h)
 
 pub passed_escape : {text rest after : List ℕ} {q : Bool} {b : ℕ} (at : List ℕ) → PassedValue text q at
     → at ≡ b ∷ rest → b ≡ 92
     → Escapes rest after → PassedValue text q after
-passed_escape {b = b} at passed e is_backslash (letter {e = l} {c = c} s is) =
-    passed_more (b ∷ l ∷ []) (kept passed.value passed.held ++ c ∷ []) [] passed (e ∙ ap (◌∷◌ b) s) (λ more spelled o h. escaped is_backslash is h)
+passed_escape {b = b} at passed e is_backslash (letter {e = l} s is) =
+    passed_more (b ∷ l ∷ []) passed (e ∙ ap (◌∷◌ b) s) (λ more spelled o h. escaped is_backslash is h)
 passed_escape {b = b} at passed e is_backslash (line {e = l} s is) =
-    passed_more (b ∷ l ∷ []) (kept passed.value passed.held) [] passed (e ∙ ap (◌∷◌ b) s) (λ more spelled o h. continued is_backslash is h)
+    passed_more (b ∷ l ∷ []) passed (e ∙ ap (◌∷◌ b) s) (λ more spelled o h. continued is_backslash is h)
 passed_escape {b = b} at passed e is_backslash (line_after_return {e = l} {f = f} s is next) =
-    passed_more (b ∷ l ∷ f ∷ []) (kept passed.value passed.held) [] passed (e ∙ ap (◌∷◌ b) s)
+    passed_more (b ∷ l ∷ f ∷ []) passed (e ∙ ap (◌∷◌ b) s)
     (λ more spelled o h. continued_after_return is_backslash is next h)
 
 plain_quoted : (b : ℕ) → goes_on true b ≡ true → b ≢ 34 → b ≢ 92 → is_plain true b ≡ true
@@ -64,33 +64,27 @@ plain_unquoted b on not_quote not_backslash not_blank = grind (arith, nat_tests)
 pub passed_byte : {text rest : List ℕ} {b : ℕ} (q : Bool) (at : List ℕ) → PassedValue text q at
     → at ≡ b ∷ rest → goes_on q b ≡ true → b ≢ 34 → b ≢ 92 → PassedValue text q rest
 passed_byte {b = b} true at passed e on not_quote not_backslash =
-    passed_more (b ∷ []) (kept passed.value passed.held ++ b ∷ []) [] passed e
-    (λ more spelled o h. plain (plain_quoted b on not_quote not_backslash) h)
+    passed_more (b ∷ []) passed e (λ more spelled o h. plain (plain_quoted b on not_quote not_backslash) h)
 passed_byte {b = b} false at passed e on not_quote not_backslash =
     elim (cases_Bool (is_blank b)) [
-      | inl is ↦
-          passed_more (b ∷ []) passed.value (passed.held ++ b ∷ []) passed e (λ more spelled o h. blank is h)
-      | inr other ↦ passed_more (b ∷ []) (kept passed.value passed.held ++ b ∷ []) [] passed e
-          (λ more spelled o h. plain (plain_unquoted b on not_quote not_backslash other) h)
+      | inl is ↦ passed_more (b ∷ []) passed e (λ more spelled o h. blank is h)
+      | inr other ↦
+          let is = plain_unquoted b on not_quote not_backslash other in
+          passed_more (b ∷ []) passed e (λ more spelled o h. plain is h)
     ]
 
-plain_goes_on : (q : Bool) (b : ℕ) → is_plain_byte b ≡ true → goes_on q b ≡ true
-plain_goes_on true b is = grind (arith, nat_tests)
-plain_goes_on false b is = grind (arith, nat_tests)
-
-plain_no_quote : (b : ℕ) → is_plain_byte b ≡ true → b ≢ 34
-plain_no_quote b is e = grind (arith, nat_tests)
-
-plain_no_backslash : (b : ℕ) → is_plain_byte b ≡ true → b ≢ 92
-plain_no_backslash b is e = grind (arith, nat_tests)
+plain_passes : (q : Bool) (b : ℕ) → is_plain_byte b ≡ true → (goes_on q b ≡ true) × (b ≢ 34) × (b ≢ 92)
+plain_passes true b is = (grind (arith, nat_tests), grind (arith, nat_tests), grind (arith, nat_tests))
+plain_passes false b is = (grind (arith, nat_tests), grind (arith, nat_tests), grind (arith, nat_tests))
 
 -- the scan passes a run of bytes as it passes each of them
 pub passed_run : {text after : List ℕ} (q : Bool) (at bytes : List ℕ) → PassedValue text q at
     → at ≡ bytes ++ after → list_all is_plain_byte bytes ≡ true → PassedValue text q after
-passed_run {text = text} q at [] passed e all = subst (λ x. PassedValue text q x) e passed
+passed_run q at [] passed e all = rw e at passed
 passed_run {after = after} q at (b ∷ bytes) passed e all =
     let (here, more) = and_parts (is_plain_byte b) (list_all is_plain_byte bytes) all in
-    passed_run q (bytes ++ after) bytes (passed_byte q at passed e (plain_goes_on q b here) (plain_no_quote b here) (plain_no_backslash b here)) refl more
+    let (on, not_quote, not_backslash) = plain_passes q b here in
+    passed_run q (bytes ++ after) bytes (passed_byte q at passed e on not_quote not_backslash) refl more
 
 pub one_line_none : (text : List ℕ) → OnOneLine text text
 one_line_none text = ([], refl, refl)
@@ -118,7 +112,7 @@ one_line_run bytes passed e all =
 pub one_line_part : {text at : List ℕ} (raw : List ℕ) → OnOneLine text at → text ≡ raw ++ at
     → line_feeds raw ≡ 0
 one_line_part {at = at} raw (front, joined, none) same =
-    subst (λ x. line_feeds x ≡ 0) (append_cancel_right front raw at (sym joined ∙ same)) none
+    rw (append_cancel_right front raw at (sym joined ∙ same)) at none
 
 pub quote_along : (b : ℕ) → b ≡ 34 → b ≢ 10
 quote_along b is e = grind (arith, nat_tests)
@@ -138,7 +132,7 @@ pub part : {text at : List ℕ} (q : Bool) (raw : List ℕ) → PassedValue text
     → IsPart q raw
 part {at = at} q raw passed joined =
     let same : passed.raw ≡ raw = append_cancel_right passed.raw raw at (sym passed.joined ∙ joined) in
-    subst (λ x. IsPart q x) same (passed_part q passed)
+    rw same at (passed_part q passed)
 
 ends_text : (at : List ℕ) → EndsScan true at → EndsText at
 ends_text [] h = tt
@@ -202,7 +196,7 @@ ends_open_here true at passed off e none = cc
 ends_open_here {text = text} false at passed off e none =
     let whole : passed.raw ++ 92 ∷ [] ≡ text =
     sym (passed.joined ∙ ap (◌++◌ passed.raw) (e ∙ ap (◌∷◌ 92) none)) in
-    rw none (open_end (subst (λ x. SpellsValue x (kept passed.value passed.held) at_backslash) whole (passed.extends (92 ∷ []) _ at_backslash (ends_at_backslash refl))))
+    rw none (open_end (rw whole at (passed.extends (92 ∷ []) _ at_backslash (ends_at_backslash refl))))
 
 some_from : (o : Option ℕ) → is_some o ≡ true → (c : ℕ) × (o ≡ Some c)
 some_from None h = cc

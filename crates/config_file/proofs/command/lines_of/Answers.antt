@@ -2,7 +2,8 @@ use Rattle.std.proofs.Common.{◌≡◌, ◌≢◌, ◌<◌, [], length, arith, 
 use Rattle.config_file.specs.Command.{AddsSettings, RefusesParameter, format, this}
 use Rattle.config_file.specs.declared.command.CommandError.TheVariants.{BadFormat}
 use Rattle.config_file.specs.Reading.Commands.{parameter_of}
-use Rattle.config_file.proofs.Commands.{none_left, some_left, passed_on, memory_of_format, adds_none}
+use Rattle.std.proofs.lemmas.List.{nil_from_length}
+use Rattle.config_file.proofs.Commands.{some_left, passed_on, memory_of_format, adds_none}
 use Rattle.config_file.proofs.Commands.{parameter_shortens, settings_next, refused_later, all_settings}
 use Rattle.config_file.proofs.command.lines_of.Goals as goal
 
@@ -42,15 +43,13 @@ parameters-preserved c =
     let (white, run) = c.after_white-at.ensures.run in
     let pushed = c.in_ok-push_parameter.ensures in
     record {
-      done = settings_next c.args.parameters.now c.parameters.at.now c.in-Some.field-0.rest.now white c.after_white-at.result.now
-          (parameter_of c.in-Some.field-0.parameter) takes run c.parameters.lines.items c.push_parameter.new.lines.items
-          c.parameters.invariant.done pushed;
-      refused = refused_later c.args.parameters.now c.parameters.at.now c.in-Some.field-0.rest.now white c.after_white-at.result.now
-          (parameter_of c.in-Some.field-0.parameter) takes run c.parameters.lines.items c.push_parameter.new.lines.items
-          c.parameters.invariant.refused pushed;
+      done = settings_next c.args.parameters.now takes run c.parameters.lines.items
+          c.push_parameter.new.lines.items c.parameters.invariant.done pushed;
+      refused = refused_later c.args.parameters.now takes run c.parameters.lines.items
+          c.push_parameter.new.lines.items c.parameters.invariant.refused pushed;
     }
 
 pub returns : goal.returns
 returns c =
-    let e : c.parameters.at.now ≡ [] = none_left _ (search rules) in
+    let e : c.parameters.at.now ≡ [] = nil_from_length _ (search rules) in
     all_settings c.args.parameters.now c.parameters.at.now c.parameters.lines.items e c.parameters.invariant.done

@@ -12,16 +12,14 @@ returns-then-is_end c =
 pub returns-in_default-after_byte : goal.returns-in_default-after_byte
 returns-in_default-after_byte c =
     let takes = rw c.in-Some.is at c.in_ok-key.ensures in
-    no_parameter c.args.text.now c.in-Some.field-0.text.items c.in-Some.field-0.rest.now takes
-    (λ ends. true≢false (sym (c.is_end.ensures.1 ends) ∙ c.if-is_end.false))
+    no_parameter takes (λ ends. true≢false (sym (c.is_end.ensures.1 ends) ∙ c.if-is_end.false))
     (no_equals c.in-Some.field-0.rest.now c.in_default-after_byte.ensures)
 
 pub returns-in_default-2 : goal.returns-in_default-2
 returns-in_default-2 c =
     let takes = rw c.in-Some.is at c.in_ok-key.ensures in
     let lacks = rw c.in_default-2.is at c.in_ok-value.ensures in
-    no_parameter c.args.text.now c.in-Some.field-0.text.items c.in-Some.field-0.rest.now takes
-    (λ ends. true≢false (sym (c.is_end.ensures.1 ends) ∙ c.if-is_end.false))
+    no_parameter takes (λ ends. true≢false (sym (c.is_end.ensures.1 ends) ∙ c.if-is_end.false))
     (no_value_after c.in-Some.field-0.rest.now c.in-Some-after_byte.value.now c.in-Some-after_byte.ensures lacks)
 
 pub returns : goal.returns

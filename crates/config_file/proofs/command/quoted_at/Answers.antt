@@ -1,5 +1,5 @@
 use Rattle.std.proofs.Common.{◌≡◌, ℕ, List, ◌∷◌, Result, Ok, Err, Option, Some, None, IfOk, MatchOption}
-use Rattle.std.proofs.Common.{subst, sym, refl}
+use Rattle.std.proofs.Common.{refl}
 use Rattle.std.specs.declared.alloc.AllocError.{AllocError}
 use Rattle.config_file.specs.declared.command.Quoted.{Quoted}
 use Rattle.config_file.specs.Command.{Quotes, TakesQuoted, opens}
@@ -11,8 +11,7 @@ opened : (text inner : List ℕ) → text ≡ 39 ∷ inner → (result : Result 
     → IfOk result (λ found. MatchOption found (Lacks Quotes inner) (λ quoted. Quotes inner quoted.text.items quoted.rest.now))
     → IfOk result (λ found. MatchOption found (Lacks TakesQuoted text) (λ quoted. TakesQuoted text quoted.text.items quoted.rest.now))
 opened text inner e (Ok None) lacks = not_opened text inner e lacks
-opened text inner e (Ok (Some quoted)) takes =
-    subst (λ t. TakesQuoted t quoted.text.items quoted.rest.now) (sym e) (opens refl takes)
+opened text inner e (Ok (Some quoted)) takes = rw e (opens refl takes)
 opened text inner e (Err refused) h = h
 
 pub returns-in-Some : goal.returns-in-Some

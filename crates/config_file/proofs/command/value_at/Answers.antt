@@ -10,8 +10,7 @@ returns-then-is_end c = absent (c.is_end.ensures.0 c.if-is_end.true)
 pub returns-then-not-is_end : goal.returns-then-not-is_end
 returns-then-not-is_end c =
     let takes = rw c.in-Some.is at c.in_ok-value.ensures in
-    no_value c.args.text.now c.in-Some.field-0.text.items c.in-Some.field-0.rest.now
-    (λ ends. true≢false (sym (c.is_end.ensures.1 ends) ∙ c.if-is_end.false)) takes
+    no_value takes (λ ends. true≢false (sym (c.is_end.ensures.1 ends) ∙ c.if-is_end.false))
     (λ ends. true≢false (sym (c.is_end-2.ensures.1 ends) ∙ c.if-not-is_end.true))
 
 pub returns : goal.returns

@@ -1,8 +1,8 @@
-use Rattle.std.proofs.Common.{rules}
+use Rattle.std.proofs.Common.{rules, refl}
 use Rattle.std.proofs.lemmas.List.{nil_from_length}
 use Rattle.std.proofs.lemmas.Result.{err_from_is_err_and}
-use Rattle.config_file.specs.Header.{quoted, name, blanks, subsection}
-use Rattle.config_file.proofs.Headers.{no_blanks, named, opened}
+use Rattle.config_file.specs.Header.{plain, quoted, name, blanks, subsection}
+use Rattle.config_file.proofs.Headers.{no_blanks, opened}
 use Rattle.config_file.proofs.header.read_header.Goals as goal
 
 pub returns-in_err-rest : goal.returns-in_err-rest
@@ -13,7 +13,7 @@ returns-in_err-rest c =
 pub returns-then-is_empty : goal.returns-then-is_empty
 returns-then-is_empty c =
     let (some, closed) = c.in_ok-rest.ensures in
-    named _ c.run.ensures some closed
+    plain (rw closed at c.run.ensures) some refl
 
 pub returns-in_default : goal.returns-in_default
 returns-in_default c =

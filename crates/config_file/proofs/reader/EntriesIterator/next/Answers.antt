@@ -1,6 +1,7 @@
-use Rattle.std.proofs.Common.{arith, rules, length, ap, ◌+◌, ◌<◌, ◌^◌, ◌∙◌, []}
+use Rattle.std.proofs.Common.{arith, rules, length, ap, ◌∙◌, []}
+use Rattle.config_file.specs.File as file
 use Rattle.config_file.proofs.Bounds.{header_shortens, header_stops_soon, run_shortens}
-use Rattle.config_file.proofs.Readings.{at_blank, at_line_end, at_comment, at_header, header_refused, no_item}
+use Rattle.config_file.proofs.Readings.{refused_as, no_item}
 use Rattle.config_file.proofs.Readings.{none_left, gives_from, begins_none}
 use Rattle.config_file.proofs.reader.EntriesIterator.next.Goals as goal
 
@@ -8,8 +9,8 @@ pub items-preserved-then-is_blank : goal.items-preserved-then-is_blank
 items-preserved-then-is_blank c =
     let all = ap length c.in-Some.ensures in
     record {
-      same =
-          λ left error h. c.items.invariant.same left error (at_blank left error _ c.in-Some.ensures (search rules) h);
+      same = λ left error h. c.items.invariant.same left error
+          (rw c.in-Some.ensures (file.blank {b = c.in-Some.byte} (search rules) h));
       shorter = omega arith;
     }
 
@@ -17,8 +18,8 @@ pub items-preserved-then-byte-eq10 : goal.items-preserved-then-byte-eq10
 items-preserved-then-byte-eq10 c =
     let all = ap length c.in-Some.ensures in
     record {
-      same =
-          λ left error h. c.items.invariant.same left error (at_line_end left error _ c.in-Some.ensures c.if-byte-eq10.true h);
+      same = λ left error h. c.items.invariant.same left error
+          (rw c.in-Some.ensures (file.line_end c.if-byte-eq10.true h));
       shorter = omega arith;
     }
 
@@ -27,43 +28,37 @@ items-preserved-then-is_comment_sign c =
     let all = ap length c.in-Some.ensures in
     let less = run_shortens c.run.ensures in
     record {
-      same =
-          λ left error h. c.items.invariant.same left error (at_comment left error _ c.in-Some.ensures (search rules) c.run.ensures h);
+      same = λ left error h. c.items.invariant.same left error
+          (rw c.in-Some.ensures (file.comment {b = c.in-Some.byte} (search rules) c.run.ensures h));
       shorter = omega arith;
     }
 
 pub invariant_of-self-in-Ok : goal.invariant_of-self-in-Ok
 invariant_of-self-in-Ok c =
-    let shorter = header_shortens c.in-Ok.ensures in
-    let all = ap length c.in-Some.ensures in
-    let fits : c.items.self.line + length c.items.self.rest.now < 2 ^ 63 + 2 = c.items.self.line_fits in
-    omega arith
+    omega (arith, header_shortens c.in-Ok.ensures, ap length c.in-Some.ensures, c.items.self.line_fits)
 
 pub items-smaller : goal.items-smaller
-items-smaller c =
-    let shorter = header_shortens c.in-Ok.ensures in
-    let all = ap length c.in-Some.ensures in
-    omega arith
+items-smaller c = omega (arith, header_shortens c.in-Ok.ensures, ap length c.in-Some.ensures)
 
 pub items-preserved : goal.items-preserved
 items-preserved c =
     let less = header_shortens c.in-Ok.ensures in
     let all = ap length c.in-Some.ensures in
     record {
-      same =
-          λ left error h. c.items.invariant.same left error (at_header left error _ c.in-Some.ensures c.if-byte-eq91.true c.in-Ok.ensures h);
+      same = λ left error h. c.items.invariant.same left error
+          (rw c.in-Some.ensures (file.header c.if-byte-eq91.true c.in-Ok.ensures h));
       shorter = omega arith;
     }
 
 pub refused-requires : goal.refused-requires
-refused-requires c =
-    let soon = header_stops_soon c.in-Err.ensures in
-    let fits : c.items.self.line + length c.items.self.rest.now < 2 ^ 63 + 2 = c.items.self.line_fits in
-    omega arith
+refused-requires c = omega (arith, header_stops_soon c.in-Err.ensures, c.items.self.line_fits)
 
 pub returns-in-Err-clause-steps : goal.returns-in-Err-clause-steps
-returns-in-Err-clause-steps c =
-    (c.items.invariant.same _ _ (header_refused _ _ c.in-Some.ensures c.if-byte-eq91.true c.in-Err.ensures c.refused.ensures.line c.refused.ensures.fault), c.refused.ensures.left)
+returns-in-Err-clause-steps c = (
+  c.items.invariant.same _ _ (refused_as _ c.refused.ensures.line c.refused.ensures.fault
+      (rw c.in-Some.ensures (file.header_refused c.if-byte-eq91.true c.in-Err.ensures))),
+  c.refused.ensures.left,
+)
 
 pub returns-then-is_ascii_alphabetic-clause-steps : goal.returns-then-is_ascii_alphabetic-clause-steps
 returns-then-is_ascii_alphabetic-clause-steps c =

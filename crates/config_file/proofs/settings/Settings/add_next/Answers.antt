@@ -41,8 +41,9 @@ returns-in-In-clause-adds g c = (
   (c.in-Entry.place.name.now, entry_of c.in-Entry.entry),
   c.in-Ok-add.ensures.adds,
   entered_next (g.S.Files.contents c.args.files.now) c.args.known.now c.args.walk.now.frames.items
-      c.next.new.self.frames.items c.enter.new.self.frames.items c.in-Entry.place c.in-In.place c.in-Entry.entry
-      c.in-Entry.include c.in-In.text.now (λ answers. rw c.in-Entry.is at (c.in-Ok.ensures.takes answers))
+      c.next.new.self.frames.items c.in-Entry.place c.enter.new.self.frames.items c.in-In.place
+      c.in-Entry.entry c.in-Entry.include c.in-In.text.now
+      (λ answers. rw c.in-Entry.is at (c.in-Ok.ensures.takes answers))
       (rw c.in-In.is at c.in-Ok-next_of.ensures) (c.enter.ensures.entered (search rules)),
 )
 

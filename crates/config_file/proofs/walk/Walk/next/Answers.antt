@@ -23,8 +23,8 @@ pub returns-in-Some-clause-takes : goal.returns-in-Some-clause-takes
 returns-in-Some-clause-takes c = λ answers.
     let next : Frame = record { place = c.in-Some.frame.place; entries = c.next.new.self } in
     takes answers c.args.known.now c.args.self.now.frames.items c.frames.self.frames.items _ c.pop.new.self.items
-    c.in-Some.frame next c.in-Some-Ok.entry c.in_ok-include.include (c.frames.invariant.0 answers) (search rules)
-    (search rules) refl (rw (c.in-Some-Ok.is, c.in-Some-Ok.field-0-is) at c.next.ensures.steps)
+    c.in-Some.frame next c.in-Some-Ok.entry (c.frames.invariant.0 answers) (search rules) (search rules) refl
+    (rw (c.in-Some-Ok.is, c.in-Some-Ok.field-0-is) at c.next.ensures.steps) c.in_ok-include.include
     c.in_ok-include.ensures
 
 pub returns-clause-takes : goal.returns-clause-takes
