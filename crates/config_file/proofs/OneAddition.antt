@@ -4,10 +4,10 @@ use Rattle.std.proofs.Common.{refl, sym, ap, ◌∙◌, subst, inl, inr}
 use Rattle.std.specs.Prelude.{Result, Ok, Err, ⊤}
 use Rattle.std.proofs.lemmas.Option.{same_Some}
 use Rattle.std.proofs.lemmas.List.{append-nil, append_assoc}
-use Rattle.std.proofs.lemmas.List.Elements.{All-nil, All-cons, All-head, All-tail, All-append}
-use Rattle.std.specs.List.{All, AllZip}
+use Rattle.std.proofs.lemmas.List.Elements.{All-head, All-tail}
+use Rattle.std.specs.List.{All, AllZip, AllByRecursion}
 use Rattle.std.specs.declared.alloc.AllocError.{AllocError}
-use Rattle.config_file.specs.File.{Entry}
+use Rattle.config_file.specs.File.{Entry, IsFile}
 use Rattle.config_file.specs.Walk as walk
 use Rattle.config_file.specs.Walk.{Content, Stop, Line, NoValue, Unknown, NotRead, TooDeep, Item, Found}
 use Rattle.config_file.specs.Walk.{Stops, Walks, WalksText, HasOneContent}
@@ -24,65 +24,40 @@ use Rattle.config_file.proofs.OneWalk.{Agree, texts_agree}
 
 -- ---- the entries of a walk are those of files
 
-abbrev IsReadItem : List ℕ × Item → Type 0
-IsReadItem (file, Found entry) = IsRead entry
-IsReadItem (file, Stops stop) = ⊤
-
 abbrev AreRead : List (List ℕ × Item) → Type 0
-AreRead items = All IsReadItem items
+AreRead [] = ⊤
+AreRead ((file, Found entry) ∷ items) = IsRead entry × AreRead items
+AreRead ((file, Stops stop) ∷ items) = AreRead items
 
-found_then : (file : List ℕ) (entry : Entry) (entries : List Entry) (items : List (List ℕ × Item))
-    → All IsRead (entry ∷ entries) → AreRead items → AreRead ((file, Found entry) ∷ items)
-found_then file entry entries items read more =
-    All-cons IsReadItem (file, Found entry) items (All-head IsRead entry entries read) more
+both_read : (first second : List (List ℕ × Item)) → AreRead first → AreRead second → AreRead (first ++ second)
+both_read [] second read more = more
+both_read ((file, Found entry) ∷ first) second read more = (read.0, both_read first second read.1 more)
+both_read ((file, Stops stop) ∷ first) second read more = both_read first second read more
 
-found_and_stop : (file : List ℕ) (entry : Entry) (entries : List Entry) (stop : Stop)
-    (items : List (List ℕ × Item)) → All IsRead (entry ∷ entries) → AreRead items
-    → AreRead ((file, Found entry) ∷ (file, Stops stop) ∷ items)
-found_and_stop file entry entries stop items read more =
-    found_then file entry entries ((file, Stops stop) ∷ items) read
-    (All-cons IsReadItem (file, Stops stop) items tt more)
+each_read : (entries : List Entry) → All IsRead entries → AllByRecursion IsRead entries
+each_read [] read = tt
+each_read (e ∷ entries) read = (All-head IsRead e entries read, each_read entries (All-tail IsRead e entries read))
 
-rest_read : (entry : Entry) (entries : List Entry) → All IsRead (entry ∷ entries) → All IsRead entries
-rest_read entry entries read = All-tail IsRead entry entries read
+of_file : {text : List ℕ} {entries : List Entry} {error : Option FileError} → IsFile text entries error
+    → AllByRecursion IsRead entries
+of_file {entries = entries} file = each_read entries (entries_are_read file)
 
 items_are_read : {contents : List ℕ → Content → Type 0} {known : Known} {depth : ℕ} {place : FilePlace}
     {entries : List Entry} {error : Option FileError} {items : List (List ℕ × Item)} {whole : Bool}
-    → Walks contents known depth place entries error items whole → All IsRead entries → AreRead items
-items_are_read walk.cut read = All-nil IsReadItem
-items_are_read walk.ends read = All-nil IsReadItem
-items_are_read {place = place} (walk.line {error = e}) read =
-    All-cons IsReadItem (place.name.now, Stops (Line e)) [] tt (All-nil IsReadItem)
-items_are_read (walk.plain {items = rest} is more) read =
-    found_then _ _ _ rest read (items_are_read more (rest_read _ _ read))
-items_are_read (walk.missing {items = rest} name is holds more) read =
-    found_then _ _ _ rest read (items_are_read more (rest_read _ _ read))
-items_are_read (walk.included {items = rest} less at text inner end within is holds file deep first more)
-    read =
-    found_then _ _ _ (within ++ rest) read
-    (All-append IsReadItem within rest (items_are_read first (entries_are_read file))
-    (items_are_read more (rest_read _ _ read)))
+    → Walks contents known depth place entries error items whole → AllByRecursion IsRead entries → AreRead items
+items_are_read walk.cut read = tt
+items_are_read walk.ends read = tt
+items_are_read walk.line read = tt
+items_are_read (walk.plain is more) read = (read.0, items_are_read more read.1)
+items_are_read (walk.missing name is holds more) read = (read.0, items_are_read more read.1)
+items_are_read (walk.included {items = rest} less at text inner end within is holds file deep first more) read =
+    (read.0, both_read within rest (items_are_read first (of_file file)) (items_are_read more read.1))
 items_are_read (walk.cut_within less at text inner end within is holds file deep first) read =
-    found_then _ _ _ within read (items_are_read first (entries_are_read file))
-items_are_read (walk.no_value {entry = entry} {items = rest} is more) read =
-    found_and_stop _ _ _ (NoValue entry) rest read (items_are_read more (rest_read _ _ read))
-items_are_read (walk.unknown {entry = entry} {items = rest} is more) read =
-    found_and_stop _ _ _ (Unknown entry) rest read (items_are_read more (rest_read _ _ read))
-items_are_read (walk.not_read {entry = entry} {items = rest} name is holds more) read =
-    found_and_stop _ _ _ (NotRead entry) rest read (items_are_read more (rest_read _ _ read))
-items_are_read (walk.too_deep {entry = entry} {items = rest} name dir text is holds deep more) read =
-    found_and_stop _ _ _ (TooDeep entry) rest read (items_are_read more (rest_read _ _ read))
-
-abbrev AreReadEntries : List (List ℕ × Entry) → Type 0
-AreReadEntries found = All (λ f. IsRead f.1) found
-
-found_are_read : (found : List (List ℕ × Entry)) (rest : List (List ℕ × Item))
-    → AreRead (map found_item found ++ rest) → AreReadEntries found
-found_are_read [] rest read = All-nil (λ f. IsRead f.1)
-found_are_read (f ∷ found) rest read =
-    All-cons (λ f. IsRead f.1) f found
-    (All-head IsReadItem (found_item f) (map found_item found ++ rest) read)
-    (found_are_read found rest (All-tail IsReadItem (found_item f) (map found_item found ++ rest) read))
+    (read.0, items_are_read first (of_file file))
+items_are_read (walk.no_value is more) read = (read.0, items_are_read more read.1)
+items_are_read (walk.unknown is more) read = (read.0, items_are_read more read.1)
+items_are_read (walk.not_read name is holds more) read = (read.0, items_are_read more read.1)
+items_are_read (walk.too_deep name dir text is holds deep more) read = (read.0, items_are_read more read.1)
 
 -- ---- the settings of entries
 
@@ -92,36 +67,26 @@ same_value None a b spelled is so = is ∙ sym so
 same_value (Some raw) a b spelled is so =
     let (text, ending, spells) = spelled raw refl in is text ending spells ∙ sym (so text ending spells)
 
-same_setting : (f : List ℕ × Entry) (a b : Setting) → IsRead f.1 → IsSettingOf f a → IsSettingOf f b
-    → IsSameSetting a b
-same_setting f a b read is so = (
-  is.file ∙ sym so.file,
-  is.entry ∙ sym so.entry,
-  same_value f.1.value (value_text a) (value_text b) read.spelled is.value so.value,
-)
-
-same_added : (found : List (List ℕ × Entry)) (a b : List Setting) → AreReadEntries found
-    → AllZip IsSettingOf found a → AllZip IsSettingOf found b → AllZip IsSameSetting a b
-same_added [] [] [] read is so = tt
-same_added [] [] (y ∷ b) read is so = absurd so
-same_added [] (x ∷ a) b read is so = absurd is
-same_added (f ∷ found) [] b read is so = absurd is
-same_added (f ∷ found) (x ∷ a) [] read is so = absurd so
-same_added (f ∷ found) (x ∷ a) (y ∷ b) read is so = (
-  same_setting f x y (All-head (λ f. IsRead f.1) f found read) is.0 so.0,
-  same_added found a b (All-tail (λ f. IsRead f.1) f found read) is.1 so.1,
+same_added : (found : List (List ℕ × Entry)) (rest : List (List ℕ × Item)) (a b : List Setting)
+    → AreRead (map found_item found ++ rest) → AllZip IsSettingOf found a → AllZip IsSettingOf found b
+    → AllZip IsSameSetting a b
+same_added [] rest [] [] read is so = tt
+same_added [] rest [] (y ∷ b) read is so = absurd so
+same_added [] rest (x ∷ a) b read is so = absurd is
+same_added (f ∷ found) rest [] b read is so = absurd is
+same_added (f ∷ found) rest (x ∷ a) [] read is so = absurd so
+same_added (f ∷ found) rest (x ∷ a) (y ∷ b) read (is, more) (so, others) = (
+  (
+    is.file ∙ sym so.file,
+    is.entry ∙ sym so.entry,
+    same_value f.1.value (value_text x) (value_text y) read.0.spelled is.value so.value,
+  ),
+  same_added found rest a b read.1 more others,
 )
 
 same_after : (old a b : List Setting) → AllZip IsSameSetting a b → AllZip IsSameSetting (old ++ a) (old ++ b)
 same_after [] a b same = same
 same_after (x ∷ old) a b same = ((refl, refl, refl), same_after old a b same)
-
-same_settings : (found : List (List ℕ × Entry)) (old a b : List Setting) → AreReadEntries found
-    → AddsEach found old a → AddsEach found old b → AllZip IsSameSetting a b
-same_settings found old a b read (first, is, zip) (second, so, also) =
-    subst (λ x. AllZip IsSameSetting x b) (sym is)
-    (subst (λ x. AllZip IsSameSetting (old ++ first) x) (sym so)
-    (same_after old first second (same_added found first second read zip also)))
 
 -- ---- the end of a walk
 
@@ -143,79 +108,48 @@ record Reached (contents : List ℕ → Content → Type 0) (known : Known) (pla
   all : stop ≡ None → whole ≡ true
   tells : Tells result stop
 
-at_stop : {contents : List ℕ → Content → Type 0} {known : Known} {place : FilePlace} {text : List ℕ}
-    {old new : List Setting} (e : AddError) (found : List (List ℕ × Entry)) (file : List ℕ) (stop : Stop)
-    → AddsEach found old new → TellsStop file stop e
-    → WalksText contents known place text (map found_item found ++ (file, Stops stop) ∷ []) false
-    → Reached contents known place text old new (Err e)
-at_stop e found file stop adds tells walks =
-    record {
-      found = found;
-      stop = Some (file, stop);
-      whole = false;
-      adds = adds;
-      walks = walks;
-      all = λ none. cc;
-      tells = (file, stop, refl, tells);
-    }
-
 reached : {contents : List ℕ → Content → Type 0} {known : Known} {place : FilePlace} {text : List ℕ}
     {old new : List Setting} (result : Result (Unit {0}) AddError) → HasMemory result
     → AddsWalk contents known place text old new result → Reached contents known place text old new result
-reached {contents = contents} {known = known} {place = place} {text = text} (Ok u) memory
-    (found, adds, walks) =
-    record {
-      found = found;
-      stop = None;
-      whole = true;
-      adds = adds;
-      walks =
-          subst (λ x. WalksText contents known place text x true) (sym (append-nil (map found_item found)))
-          walks;
-      all = λ none. refl;
-      tells = refl;
-    }
-reached {text = text} (Err (error.Line file at)) memory (found, name, stop, adds, tells, walks) =
-    at_stop {text = text} (error.Line file at) found name stop adds tells walks
-reached {text = text} (Err (error.Include file line fault)) memory (found, name, stop, adds, tells, walks) =
-    at_stop {text = text} (error.Include file line fault) found name stop adds tells walks
+reached (Ok u) memory (found, adds, walks) = record {
+  found = found;
+  stop = None;
+  whole = true;
+  adds = adds;
+  walks = rw (append-nil (map found_item found)) walks;
+  all = λ none. refl;
+  tells = refl;
+}
 reached (Err (error.Memory e)) memory is = absurd memory
+reached (Err e) memory (found, file, stop, adds, tells, walks) = record {
+  found = found;
+  stop = Some (file, stop);
+  whole = false;
+  adds = adds;
+  walks = walks;
+  all = λ none. cc;
+  tells = (file, stop, refl, tells);
+}
 
-same_parts : {A : Type 0} {m n : List ℕ} {x y : A} → ◌≡◌ {A = List ℕ × A} (m, x) (n, y) → (m ≡ n) × (x ≡ y)
-same_parts e = (ap (λ p. p.0) e, ap (λ p. p.1) e)
+-- the entries up to the first stop, and that stop
+abbrev seen : List (List ℕ × Item) → List (List ℕ × Entry) × Option (List ℕ × Stop)
+seen [] = ([], None)
+seen ((file, Found entry) ∷ items) = ((file, entry) ∷ (seen items).0, (seen items).1)
+seen ((file, Stops stop) ∷ items) = ([], Some (file, stop))
 
-same_pair : {A : Type 0} {m n : List ℕ} {x y : A} → m ≡ n → x ≡ y → ◌≡◌ {A = List ℕ × A} (m, x) (n, y)
-same_pair e f = rw (e, f) refl
+seen_is : (f : List (List ℕ × Entry)) (s : Option (List ℕ × Stop)) (more : List (List ℕ × Item))
+    → (s ≡ None → more ≡ []) → seen ((map found_item f ++ last s) ++ more) ≡ (f, s)
+seen_is [] None more all = rw (all refl)
+seen_is [] (Some (file, stop)) more all = refl
+seen_is (x ∷ f) s more all = ap (λ p. (x ∷ p.0, p.1)) (seen_is f s more all)
 
 -- a walk of entries up to one end is not the beginning of another one
 ends_same : (f g : List (List ℕ × Entry)) (s t : Option (List ℕ × Stop)) (more : List (List ℕ × Item))
     → (t ≡ None → more ≡ []) → map found_item f ++ last s ≡ (map found_item g ++ last t) ++ more
     → (f ≡ g) × (s ≡ t)
-ends_same [] [] None None more all e = (refl, refl)
-ends_same [] [] None (Some (file, stop)) more all e = absurd (cc)
-ends_same [] [] (Some (file, stop)) None more all e =
-    let none : last (Some (file, stop)) ≡ [] = e ∙ all refl in absurd (cc)
-ends_same [] [] (Some (file, stop)) (Some (other, end)) more all e =
-    let heads : ◌≡◌ {A = List ℕ × Item} (file, Stops stop) (other, Stops end) = cc in
-    let (files, stops) = same_parts heads in
-    let ends : stop ≡ end = cc in
-    (refl, ap (λ x. Some x) (same_pair files ends))
-ends_same [] (y ∷ g) None t more all e = absurd (cc)
-ends_same [] (y ∷ g) (Some (file, stop)) t more all e =
-    let heads : ◌≡◌ {A = List ℕ × Item} (file, Stops stop) (y.0, Found y.1) = cc in
-    let (files, kinds) = same_parts heads in absurd (cc)
-ends_same (x ∷ f) [] s None more all e =
-    let none : found_item x ∷ (map found_item f ++ last s) ≡ [] = e ∙ all refl in absurd (cc)
-ends_same (x ∷ f) [] s (Some (other, end)) more all e =
-    let heads : ◌≡◌ {A = List ℕ × Item} (x.0, Found x.1) (other, Stops end) = cc in
-    let (files, kinds) = same_parts heads in absurd (cc)
-ends_same ((m, c) ∷ f) ((n, d) ∷ g) s t more all e =
-    let heads : ◌≡◌ {A = List ℕ × Item} (m, Found c) (n, Found d) = cc in
-    let (files, kinds) = same_parts heads in
-    let entries : c ≡ d = cc in
-    let tails : map found_item f ++ last s ≡ (map found_item g ++ last t) ++ more = cc in
-    let (founds, stops) = ends_same f g s t more all tails in
-    (ap (λ x. x ∷ f) (same_pair files entries) ∙ ap (λ x. (n, d) ∷ x) founds, stops)
+ends_same f g s t more all e =
+    let same = sym (seen_is f s [] (λ n. refl)) ∙ ap seen (append-nil _ ∙ e) ∙ seen_is g t more all in
+    (ap (λ p. p.0) same, ap (λ p. p.1) same)
 
 same_found : (f g : List (List ℕ × Entry)) (s t : Option (List ℕ × Stop)) (v w : Bool) → (s ≡ None → v ≡ true)
     → (t ≡ None → w ≡ true) → Agree (map found_item f ++ last s) v (map found_item g ++ last t) w
@@ -232,9 +166,8 @@ same_end (Ok u) (Ok v) s t same is so = tt
 same_end (Ok u) (Err f) s t same is (file, stop, at, tells) = cc
 same_end (Err e) (Ok v) s t same (file, stop, at, tells) so = cc
 same_end (Err e) (Err f) s t same (file, stop, is, tells) (other, end, so, also) =
-    let (files, stops) = same_parts (same_Some (file, stop) (other, end) (sym is ∙ same ∙ so)) in
-    let moved = subst (λ x. TellsStop other x f) (sym stops) also in
-    (file, stop, tells, subst (λ x. TellsStop x stop f) (sym files) moved)
+    let parts = same_Some (file, stop) (other, end) (sym is ∙ same ∙ so) in
+    (file, stop, tells, rw (ap (λ p. p.0) parts, ap (λ p. p.1) parts) also)
 
 pub one_addition : (contents : List ℕ → Content → Type 0) (known : Known) (place : FilePlace) (text : List ℕ)
     (old a b : List Setting) (r s : Result (Unit {0}) AddError) → HasOneContent contents
@@ -247,32 +180,26 @@ one_addition contents known place text old a b r s one memory also first second 
     let (founds, stops) = same_found x.found y.found x.stop y.stop x.whole y.whole x.all y.all
     (texts_agree {text = text} one x.walks y.walks) in
     let (entries, error, is, walks) = x.walks in
-    let read = found_are_read x.found (last x.stop) (items_are_read walks (entries_are_read is)) in (
-      same_settings x.found old a b read x.adds (subst (λ f. AddsEach f old b) (sym founds) y.adds),
+    let (added, e, zip) = x.adds in
+    let (others, f, too) = rw (sym founds) at y.adds in
+    let read = items_are_read walks (of_file is) in (
+      rw (e, f) (same_after old added others (same_added x.found (last x.stop) added others read zip too)),
       same_end r s x.stop y.stop stops x.tells y.tells,
     )
 
 -- ---- an addition that lacks memory
 
-found_front : (f g : List (List ℕ × Entry)) (t : Option (List ℕ × Stop)) (more : List (List ℕ × Item))
-    → map found_item g ++ last t ≡ map found_item f ++ more → (h : List (List ℕ × Entry)) × (g ≡ f ++ h)
-found_front [] g t more e = (g, refl)
-found_front (x ∷ f) [] None more e = absurd (cc)
-found_front (x ∷ f) [] (Some (file, stop)) more e =
-    let heads : ◌≡◌ {A = List ℕ × Item} (file, Stops stop) (x.0, Found x.1) = cc in
-    let (files, kinds) = same_parts heads in absurd (cc)
-found_front ((m, c) ∷ f) ((n, d) ∷ g) t more e =
-    let heads : ◌≡◌ {A = List ℕ × Item} (n, Found d) (m, Found c) = cc in
-    let (files, kinds) = same_parts heads in
-    let entries : d ≡ c = cc in
-    let tails : map found_item g ++ last t ≡ map found_item f ++ more = cc in
-    let (h, founds) = found_front f g t more tails in
-    (h, ap (λ x. x ∷ g) (same_pair files entries) ∙ ap (λ x. (m, c) ∷ x) founds)
+seen_front : (f : List (List ℕ × Entry)) (more : List (List ℕ × Item))
+    → (seen (map found_item f ++ more)).0 ≡ f ++ (seen more).0
+seen_front [] more = refl
+seen_front (x ∷ f) more = ap (λ g. x ∷ g) (seen_front f more)
 
 found_begins : (f g : List (List ℕ × Entry)) (t : Option (List ℕ × Stop)) (w : Bool) → (t ≡ None → w ≡ true)
     → Agree (map found_item f) false (map found_item g ++ last t) w
     → (h : List (List ℕ × Entry)) × (g ≡ f ++ h)
-found_begins f g t w all (inl is) = found_front f g t is.more is.joined
+found_begins f g t w all (inl is) =
+    let same = sym (seen_is g t [] (λ n. refl)) ∙ ap seen (append-nil _ ∙ is.joined) in
+    ((seen is.more).0, ap (λ p. p.0) same ∙ seen_front f is.more)
 found_begins f g t w all (inr is) =
     let (founds, stops) = ends_same f g None t is.more (λ e. is.all (all e))
     (append-nil (map found_item f) ∙ is.joined) in
@@ -286,27 +213,19 @@ added_front (x ∷ f) h (y ∷ added) zip =
     let (front, rest, e, more) = added_front f h added zip.1 in
     (y ∷ front, rest, ap (λ x. y ∷ x) e, (zip.0, more))
 
-settings_begin : (f g h : List (List ℕ × Entry)) (old a b : List Setting) → AreReadEntries f → g ≡ f ++ h
-    → AddsEach f old a → AddsEach g old b → HasSameFront a b
-settings_begin f g h old a b read whole (first, is, zip) (second, so, also) =
-    let settings_of = subst (λ x. AllZip IsSettingOf x second) whole also in
-    let (front, rest, e, same) = added_front f h second settings_of in (
-      old ++ front,
-      rest,
-      so ∙ ap (λ x. old ++ x) e ∙ sym (append_assoc old front rest),
-      subst (λ x. AllZip IsSameSetting x (old ++ front)) (sym is)
-          (same_after old first front (same_added f first front read zip same)),
-    )
-
 pub cut_addition : (contents : List ℕ → Content → Type 0) (known : Known) (place : FilePlace) (text : List ℕ)
     (old a b : List Setting) (e : AllocError) (s : Result (Unit {0}) AddError) → HasOneContent contents
     → HasMemory s → AddsWalk contents known place text old a (Err (error.Memory e))
     → AddsWalk contents known place text old b s → HasSameFront a b
-cut_addition contents known place text old a b e s one memory (found, adds, is) second =
+cut_addition contents known place text old a b e s one memory (found, (first, same, zip), is) second =
     let y = reached {text = text} s memory second in
-    let agree = texts_agree {text = text} one is y.walks in
-    let (h, whole) = found_begins found y.found y.stop y.whole y.all agree in
+    let (h, whole) = found_begins found y.found y.stop y.whole y.all (texts_agree {text = text} one is y.walks) in
     let (entries, error, file, walks) = is in
-    let items = items_are_read walks (entries_are_read file) in
-    let read = found_are_read found [] (subst AreRead (sym (append-nil (map found_item found))) items) in
-    settings_begin found y.found h old a b read whole adds y.adds
+    let (others, so, also) = y.adds in
+    let (front, rest, joined, more) = added_front found h others (rw whole at also) in
+    let read = items_are_read walks (of_file file) in (
+      old ++ front,
+      rest,
+      so ∙ ap (λ x. old ++ x) joined ∙ sym (append_assoc old front rest),
+      rw same (same_after old first front (same_added found [] first front (rw (append-nil (map found_item found)) read) zip more)),
+    )
