@@ -213,6 +213,16 @@ added_front (x ∷ f) h (y ∷ added) zip =
     let (front, rest, e, more) = added_front f h added zip.1 in
     (y ∷ front, rest, ap (λ x. y ∷ x) e, (zip.0, more))
 
+settings_begin : (f h : List (List ℕ × Entry)) (old first second : List Setting) → AreRead (map found_item f ++ [])
+    → AllZip IsSettingOf f first → AllZip IsSettingOf (f ++ h) second → HasSameFront (old ++ first) (old ++ second)
+settings_begin f h old first second read zip also =
+    let (front, rest, joined, more) = added_front f h second also in (
+      old ++ front,
+      rest,
+      ap (λ x. old ++ x) joined ∙ sym (append_assoc old front rest),
+      same_after old first front (same_added f [] first front read zip more),
+    )
+
 pub cut_addition : (contents : List ℕ → Content → Type 0) (known : Known) (place : FilePlace) (text : List ℕ)
     (old a b : List Setting) (e : AllocError) (s : Result (Unit {0}) AddError) → HasOneContent contents
     → HasMemory s → AddsWalk contents known place text old a (Err (error.Memory e))
@@ -222,10 +232,6 @@ cut_addition contents known place text old a b e s one memory (found, (first, sa
     let (h, whole) = found_begins found y.found y.stop y.whole y.all (texts_agree {text = text} one is y.walks) in
     let (entries, error, file, walks) = is in
     let (others, so, also) = y.adds in
-    let (front, rest, joined, more) = added_front found h others (rw whole at also) in
-    let read = items_are_read walks (of_file file) in (
-      old ++ front,
-      rest,
-      so ∙ ap (λ x. old ++ x) joined ∙ sym (append_assoc old front rest),
-      rw same (same_after old first front (same_added found [] first front (rw (append-nil (map found_item found)) read) zip more)),
-    )
+    let read : AreRead (map found_item found ++ []) =
+    rw (append-nil (map found_item found)) (items_are_read walks (of_file file)) in
+    rw (same, so) (settings_begin found h old first others read zip (rw whole at also))

@@ -171,11 +171,8 @@ later_ends at e never (left, passed, match) = never (rw (passes_none (rw e at pa
 
 -- ---- results of tests
 
-pub not_true : (b : Bool) → b ≡ false → IsTrue b → ⊥
-not_true b e t = grind arith
-
 pub never_true : IsTrue false → ⊥
-never_true t = not_true false refl t
+never_true t = cc
 
 pub no_match : {P : Type 0} (b : Bool) → b ≡ false → IsTrue b ↔ P → ¬ P
-no_match b e same whole = not_true b e (same.1 whole)
+no_match b e same whole = true≢false (sym (same.1 whole) ∙ e)

@@ -1,6 +1,6 @@
 -- How far a pattern has matched a text, and why an earlier star need not be tried again.
 use Rattle.std.proofs.Common.{◌≡◌, ◌≢◌, ℕ, Bool, true, false, not, ◌||◌, ◌==◌, List, [], ◌∷◌, refl, sym, ◌∙◌}
-use Rattle.std.proofs.Common.{subst, arith, inl, inr, ◌⊎◌, ◌↔◌, length, ◌≤◌, ◌<◌}
+use Rattle.std.proofs.Common.{subst, arith, eqb-true, inl, inr, ◌⊎◌, ◌↔◌, length, ◌≤◌, ◌<◌}
 use Rattle.std.proofs.lemmas.Bool.{true≢false}
 use Rattle.config_file.specs.Runs.{Run}
 use Rattle.config_file.specs.Set.{slash}
@@ -20,38 +20,27 @@ use Rattle.config_file.proofs.Same.{item_same}
 
 -- ---- tests
 
-test_slash : (b : ℕ) → (b == slash) ≡ true → b ≡ slash
-test_slash b e = grind arith
-
 passed_any : (c : Bool) (b : ℕ) → is_passed false b ≡ true → is_passed c b ≡ true
 passed_any true b e = refl
 passed_any false b e = e
-
-passed_same : (c : Bool) (b e : ℕ) → (b == slash) ≡ (e == slash) → is_passed c b ≡ true → is_passed c e ≡ true
-passed_same c b e same is = subst (λ x. (c || not x) ≡ true) same is
-
-never : {A : Type 0} → false ≡ true → A
-never e = absurd (true≢false (sym e))
 
 slash_stands : (i : Bool) → stands_for i slash slash ≡ true
 slash_stands true = refl
 slash_stands false = refl
 
 item_lacks : {i : Bool} {b : ℕ} {pattern rest : List ℕ} → Item i pattern b rest → LacksStar pattern
-item_lacks {i = i} {b = b} {rest = rest} item tail e = no_star_item (subst (λ p. Item i p b rest) e item)
+item_lacks item tail e = no_star_item (rw e at item)
 
 -- ---- items
 
 past_item : {i c starts : Bool} {b : ℕ} {pattern rest : List ℕ} (text : List ℕ) → Item i pattern b rest
     → is_passed c b ≡ true
     → Matches i starts pattern text → Further i c (b == slash) rest text
-past_item {i = i} {b = b} {rest = rest} [] item is match =
-    absurd (empty_no_item (subst (λ p. Item i p b rest) (end_inv match (item_lacks item)) item))
-past_item {i = i} {c = c} {b = b} {pattern = pattern} {rest = rest} (e ∷ text) item is match =
+past_item [] item is match = absurd (empty_no_item (rw (end_inv match (item_lacks item)) at item))
+past_item (e ∷ text) item is match =
     let (rest2, item2, more) = one_inv match (item_lacks item) in
     let same = item_same item2 item in
-    next (passed_same c b e (sym same.1) is) (λ t. test_slash e (same.1 ∙ t))
-    (subst (λ s. Matches i s rest text) same.1 (subst (λ r. Matches i (e == slash) r text) same.0 more))
+    next (rw (sym same.1) at is) (λ t. eqb-true e slash (same.1 ∙ t)) (rw same.1 at (rw same.0 at more))
 
 further_item : {i c starts : Bool} {b : ℕ} {pattern rest text : List ℕ} → Item i pattern b rest
     → is_passed c b ≡ true
@@ -66,9 +55,8 @@ after_one item (beyond passed more) = further_item item passed more
 
 here_one : {i starts : Bool} {b : ℕ} {pattern rest text : List ℕ} → Item i pattern b rest
     → Matches i starts pattern (b ∷ text) → Matches i (b == slash) rest text
-here_one {i = i} {b = b} {text = text} item match =
-    let (rest2, item2, more) = one_inv match (item_lacks item) in
-    subst (λ r. Matches i (b == slash) r text) ((item_same item2 item).0) more
+here_one item match =
+    let (rest2, item2, more) = one_inv match (item_lacks item) in rw (item_same item2 item).0 at more
 
 follows_one : {i starts : Bool} {b : ℕ} {pattern rest text : List ℕ} → Item i pattern b rest
     → Follows i starts pattern (b ∷ text) (b == slash) rest text
@@ -80,8 +68,8 @@ follows_one {rest = rest} item = record {
 pub follows_more : {i starts starts2 : Bool} {b : ℕ} {pattern text pattern2 rest text2 : List ℕ} (at : List ℕ)
     → Follows i starts pattern text starts2 pattern2 at
     → at ≡ b ∷ text2 → Item i pattern2 b rest → Follows i starts pattern text (b == slash) rest text2
-follows_more {i = i} {starts = starts} {starts2 = starts2} {pattern = pattern} {text = text} {pattern2 = pattern2} at before e item =
-    let first = subst (λ x. Follows i starts pattern text starts2 pattern2 x) e before in
+follows_more {starts2 = starts2} at before e item =
+    let first = rw e at before in
     let second = follows_one {starts = starts2} item in record {
       here = (λ m. second.here.0 (first.here.0 m), λ m. first.here.1 (second.here.1 m));
       later = λ c from. second.later c (first.later c from);
@@ -89,10 +77,7 @@ follows_more {i = i} {starts = starts} {starts2 = starts2} {pattern = pattern} {
 
 pub stops_at_end : {i starts : Bool} {pattern : List ℕ} (at : List ℕ) → at ≡ [] → LacksStar pattern
     → (Matches i starts pattern at) ↔ ((pattern ≡ []) × (at ≡ []))
-stops_at_end {i = i} {starts = starts} {pattern = pattern} at e lacks = (
-  λ m. (end_inv (subst (λ x. Matches i starts pattern x) e m) lacks, e),
-  λ both. rw (both.0, both.1) ends,
-)
+stops_at_end at e lacks = (λ m. (end_inv (rw e at m) lacks, e), λ both. rw (both.0, both.1) ends)
 
 -- ---- places of a star
 
@@ -104,16 +89,14 @@ further_back (beyond passed more) = inr more
 pub from_back : {i c starts : Bool} {b : ℕ} {pattern rest : List ℕ} (at : List ℕ) → at ≡ b ∷ rest
     → ¬ (Matches i starts pattern at)
     → FromHere i c starts pattern at → FromHere i c starts pattern rest
-from_back {i = i} {c = c} {starts = starts} {b = b} {pattern = pattern} {rest = rest} at e none (inl m) =
-    absurd (none m)
-from_back {i = i} {c = c} {starts = starts} {b = b} {pattern = pattern} {rest = rest} at e none (inr more) =
-    further_back (subst (λ x. Further i c starts pattern x) e more)
+from_back at e none (inl m) = absurd (none m)
+from_back at e none (inr more) = further_back (rw e at more)
 
 -- one more byte that is passed, if no name has to start there
 from_step : {i c : Bool} {b : ℕ} {pattern text : List ℕ} → is_passed c b ≡ true
     → FromHere i c false pattern text
     → Further i c false pattern (b ∷ text)
-from_step is (inl m) = next is never m
+from_step is (inl m) = next is (λ e. cc) m
 from_step is (inr more) = beyond is more
 
 from_passes : {i d c : Bool} {pattern text left : List ℕ}
@@ -129,8 +112,7 @@ from_later (left, passed, match) = from_passes (λ b is. is) passed match
 
 further_later : {i c starts : Bool} {pattern text : List ℕ} → starts ≡ false
     → Further i c starts pattern text → MatchesLater i c pattern text
-further_later {i = i} {pattern = pattern} e (next {text = text} is slashes match) =
-    (text, passes is no_more, subst (λ s. Matches i s pattern text) e match)
+further_later e (next {text = text} is slashes match) = (text, passes is no_more, rw e at match)
 further_later e (beyond is more) =
     let (left, passed, match) = further_later e more in
     (left, passes is passed, match)
@@ -145,11 +127,10 @@ to_later (inr more) = further_later refl more
 star_from : {i c starts : Bool} {pattern more rest text : List ℕ} → Run is_star pattern more rest
     → crosses starts more rest ≡ false
     → Matches i starts (star ∷ pattern) text → FromHere i c false rest text
-star_from {i = i} {c = c} {starts = starts} {more = more} {rest = rest} {text = text} run short match =
+star_from {c = c} run short match =
     elim (stars_inv run match) [
       | inl (after, crossing, at, m) ↦ absurd (true≢false (sym crossing ∙ short))
-      | inr (left, passed, m) ↦
-          from_passes (λ b is. passed_any c b is) (subst (λ x. Passes x text left) short passed) m
+      | inr (left, passed, m) ↦ from_passes (passed_any c) (rw short at passed) m
     ]
 
 star_further : {i c starts : Bool} {pattern more rest text : List ℕ} → Run is_star pattern more rest
@@ -174,40 +155,36 @@ slash_here {i = i} {after = after} at e match = rw (at, e) (one after (byte (sla
 deep_further : {i starts : Bool} {pattern more rest text : List ℕ} → Run is_star pattern more rest
     → crosses starts more rest ≡ true
     → starts ≡ true → Further i true starts (star ∷ pattern) text → MatchesLater i true rest text
-deep_further {i = i} run long name (next {b = b} {text = text} is slashes match) =
+deep_further run long name (next {b = b} {text = text} is slashes match) =
     elim (stars_inv run match) [
       | inl (after, crossing, at, m) ↦ (b ∷ text, no_more, slash_here at (slashes name) m)
-      | inr (left, passed, m) ↦ (left, passes refl (subst (λ x. Passes x text left) long passed), m)
+      | inr (left, passed, m) ↦ (left, passes refl (rw long at passed), m)
     ]
 deep_further run long name (beyond is further) =
     let (left, passed, m) = deep_further run long name further in (left, passes refl passed, m)
 
 crosses_starts : (starts : Bool) (more rest : List ℕ) → crosses starts more rest ≡ true → starts ≡ true
-crosses_starts starts [] rest e = never e
+crosses_starts starts [] rest e = cc
 crosses_starts true (c ∷ more) rest e = refl
-crosses_starts false (c ∷ more) rest e = never e
+crosses_starts false (c ∷ more) rest e = cc
 
 pub deep_all : {i starts : Bool} {pattern more rest text : List ℕ} → Run is_star pattern more rest
     → crosses starts more rest ≡ true
     → FromHere i true starts (star ∷ pattern) text → MatchesDeep i rest text
-deep_all {i = i} {rest = rest} {text = text} run long (inl m) =
-    subst (λ x. MatchesNoDirectory i x rest text ⊎ MatchesLater i x rest text) long (stars_inv run m)
+deep_all run long (inl m) = rw long at (stars_inv run m)
 deep_all {starts = starts} {more = more} {rest = rest} run long (inr further) =
     inr (deep_further run long (crosses_starts starts more rest long) further)
 
 pub deep_back : {i starts : Bool} {pattern more rest text : List ℕ} → Run is_star pattern more rest
     → crosses starts more rest ≡ true
     → MatchesDeep i rest text → MatchesStars i starts pattern text
-deep_back {i = i} {rest = rest} {text = text} run long (inl m) =
-    stars_no_directory rest run (subst (λ x. MatchesNoDirectory i x rest text) (sym long) m)
-deep_back {i = i} {rest = rest} {text = text} run long (inr m) =
-    stars_later run (subst (λ x. MatchesLater i x rest text) (sym long) m)
+deep_back {rest = rest} run long (inl m) = stars_no_directory rest run (rw long m)
+deep_back run long (inr m) = stars_later run (rw long m)
 
 pub short_back : {i starts : Bool} {pattern more rest text : List ℕ} → Run is_star pattern more rest
     → crosses starts more rest ≡ false
     → MatchesLater i false rest text → MatchesStars i starts pattern text
-short_back {i = i} {rest = rest} {text = text} run short m =
-    stars_later run (subst (λ x. MatchesLater i x rest text) (sym short) m)
+short_back run short m = stars_later run (rw short m)
 
 -- ---- `/` after stars that cross directories
 
@@ -220,8 +197,7 @@ slash_further [] m = cc (end_inv m slash_lacks)
 slash_further {i = i} {after = after} (b ∷ text) m =
     let (rest, item, more) = one_inv m slash_lacks in
     let same = item_same item (byte {c = slash} {b = slash} {rest = after} (slash_stands i)) in
-    next refl (λ t. test_slash b same.1)
-    (subst (λ s. Matches i s after text) same.1 (subst (λ r. Matches i (b == slash) r text) same.0 more))
+    next refl (λ t. eqb-true b slash same.1) (rw same.1 at (rw same.0 at more))
 
 slash_passes : {i : Bool} {after text left : List ℕ} → Passes true text left
     → Matches i false (slash ∷ after) left
@@ -234,8 +210,7 @@ pub slash_from : {i : Bool} {after text : List ℕ} (pattern : List ℕ) → pat
     → FromHere i true true after text
 slash_from {i = i} {after = after} {text = text} pattern e (inl (rest, crossing, at, m)) =
     inl (subst (λ r. Matches i true r text) (cc) m)
-slash_from {i = i} {after = after} {text = text} pattern e (inr (left, passed, m)) =
-    inr (slash_passes passed (subst (λ p. Matches i false p left) e m))
+slash_from pattern e (inr (left, passed, m)) = inr (slash_passes passed (rw e at m))
 
 pub slash_only : {i : Bool} {after text : List ℕ} (pattern : List ℕ) → pattern ≡ slash ∷ after
     → MatchesNoDirectory i true pattern text
@@ -245,38 +220,23 @@ slash_only {i = i} {after = after} {text = text} pattern e (rest, crossing, at, 
 
 -- ---- what is found
 
-pub star_map : (i : Bool) {P Q : Type 0} {F G : Bool → Type 0} (found : Found) → (P → Q) → (Q → P)
-    → ((c : Bool) → G c → F c)
-    → FindsStar i P F found → FindsStar i Q G found
+pub star_map : (i : Bool) {P Q : Type 0} {F G : Bool → Type 0} (found : Found) → (P → Q)
+    → (found ≡ Nothing → Q → P) → ((c : Bool) → G c → F c) → FindsStar i P F found → FindsStar i Q G found
 star_map i Whole there back from is = there is
-star_map i Nothing there back from is = λ q. is (back q)
+star_map i Nothing there back from is = λ q. is (back refl q)
 star_map i (Stars place) there back from is = (λ m. there (is.0 m), λ c g. is.1 c (from c g))
 
-pub deep_map : (i : Bool) {P Q F G : Type 0} (found : Found) → (P → Q) → (Q → P) → (G → F)
+pub deep_map : (i : Bool) {P Q F G : Type 0} (found : Found) → (P → Q) → (found ≡ Nothing → Q → P) → (G → F)
     → FindsDeep i P F found → FindsDeep i Q G found
 deep_map i Whole there back from is = there is
-deep_map i Nothing there back from is = λ q. is (back q)
+deep_map i Nothing there back from is = λ q. is (back refl q)
 deep_map i (Stars place) there back from is = (λ m. there (is.0 m), λ g. is.1 (from g))
-
-pub star_found : (i : Bool) {P Q : Type 0} {F G : Bool → Type 0} (found : Found) → found ≢ Nothing → (P → Q)
-    → ((c : Bool) → G c → F c)
-    → FindsStar i P F found → FindsStar i Q G found
-star_found i Whole some there from is = there is
-star_found i Nothing some there from is = absurd (some refl)
-star_found i (Stars place) some there from is = (λ m. there (is.0 m), λ c g. is.1 c (from c g))
-
-pub deep_found : (i : Bool) {P Q F G : Type 0} (found : Found) → found ≢ Nothing → (P → Q) → (G → F)
-    → FindsDeep i P F found
-    → FindsDeep i Q G found
-deep_found i Whole some there from is = there is
-deep_found i Nothing some there from is = absurd (some refl)
-deep_found i (Stars place) some there from is = (λ m. there (is.0 m), λ g. is.1 (from g))
 
 pub deep_stars : (i : Bool) (P : Type 0) (F : Bool → Type 0) {more rest : List ℕ} (found : Found) (place : FilePlace) → found ≡ Stars place
     → FindsStar i P F found → Run is_star place.pattern.now more rest → crosses place.starts more rest ≡ true
     → (MatchesDeep i rest place.text.now → P) × (F true → MatchesDeep i rest place.text.now)
 deep_stars i P F found place e is run long =
-    let both = subst (λ f. FindsStar i P F f) e is in
+    let both = rw e at is in
     (λ d. both.0 (deep_back run long d), λ g. deep_all run long (both.1 true g))
 
 pub star_next : (i : Bool) (P : Type 0) (F : Bool → Type 0) {more rest : List ℕ} (found : Found) (place : FilePlace) → found ≡ Stars place
@@ -286,8 +246,8 @@ pub star_next : (i : Bool) (P : Type 0) (F : Bool → Type 0) {more rest : List 
     → FindsStar i (MatchesLater i false rest place.text.now) (λ c. FromHere i c false rest place.text.now) found2
     → FindsStar i P F found2
 star_next i P F found place e is run short whole found2 is2 =
-    let both = subst (λ f. FindsStar i P F f) e is in
-    star_map i found2 (λ m. both.0 (short_back run short m)) (λ p. to_later (star_all run short (both.1 false (whole p))))
+    let both = rw e at is in
+    star_map i found2 (λ m. both.0 (short_back run short m)) (λ n p. to_later (star_all run short (both.1 false (whole p))))
     (λ c f. star_all run short (both.1 c f)) is2
 
 pub smaller : {more rest : List ℕ} (found found2 : Found) (place : FilePlace) → found ≡ Stars place

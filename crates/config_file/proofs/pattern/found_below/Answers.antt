@@ -1,12 +1,12 @@
 use Rattle.std.proofs.Common.{refl}
 use Rattle.config_file.proofs.Patterns.{later_here, later_step, later_back, later_ends}
-use Rattle.config_file.proofs.Places.{deep_found, from_later}
+use Rattle.config_file.proofs.Places.{deep_map, from_later}
 use Rattle.config_file.proofs.pattern.found_below.Goals as goal
 
 pub returns-in_default : goal.returns-in_default
 returns-in_default c = record {
-  is = deep_found c.args.ignores_case c.found_deep-found.result c.in_default.not-Nothing (λ m. c.places.invariant.there (later_here m))
-      (λ later. from_later (c.places.invariant.back later)) c.found_deep-found.ensures.is;
+  is = deep_map c.args.ignores_case c.found_deep-found.result (λ m. c.places.invariant.there (later_here m))
+      (λ e. absurd (c.in_default.not-Nothing e)) (λ later. from_later (c.places.invariant.back later)) c.found_deep-found.ensures.is;
   shorter = c.found_deep-found.ensures.shorter;
 }
 

@@ -1,11 +1,11 @@
 use Rattle.config_file.proofs.Patterns.{later_here, later_step, later_back, later_stops, later_ends}
-use Rattle.config_file.proofs.Places.{star_found, from_back, stops_slash, passes_other}
+use Rattle.config_file.proofs.Places.{star_map, from_back, stops_slash, passes_other}
 use Rattle.config_file.proofs.pattern.found_later.Goals as goal
 
 pub returns-in_default : goal.returns-in_default
 returns-in_default c = record {
-  is = star_found c.args.ignores_case c.found_here-found.result c.in_default.not-Nothing (λ m. c.places.invariant.there (later_here m))
-      c.places.invariant.from c.found_here-found.ensures.is;
+  is = star_map c.args.ignores_case c.found_here-found.result (λ m. c.places.invariant.there (later_here m))
+      (λ e. absurd (c.in_default.not-Nothing e)) c.places.invariant.from c.found_here-found.ensures.is;
   shorter = c.found_here-found.ensures.shorter;
 }
 
