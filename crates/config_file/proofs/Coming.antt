@@ -75,76 +75,6 @@ module _ (contents : List ℕ → Content → Type 0) (known : Known) where
         (passes2 all (λ n c is. within n c (Contains-append_right said said2 (n, c) is)) left whole has)),
   )
 
-  module _ (place : FilePlace) (text : List ℕ) (start : List Setting) where
-    pub keeps_first : (frames : List Frame) → Enters [] place text frames
-        → Keeps contents known place text start start frames
-    keeps_first frames enters =
-        record { first = frames; enters = enters; found = []; adds = adds_none start; comes = comes_none frames }
-
-    module _ (now : List Setting) (frames : List Frame) (keeps : Keeps contents known place text start now frames) where
-      comes_on : (more : List (List ℕ × Entry)) (rest : List (List ℕ × Item)) (to : List Frame)
-          → Comes contents known frames (map found_item more ++ rest) to
-          → Comes contents known keeps.first (map found_item (keeps.found ++ more) ++ rest) to
-      comes_on more rest to step =
-          rw (map-append found_item keeps.found more, append_assoc (map found_item keeps.found) (map found_item more) rest)
-          (comes_both keeps.first frames to (map found_item keeps.found) (map found_item more ++ rest) keeps.comes step)
-
-      -- the walk that is left, if nothing more comes
-      walked : (more : List (List ℕ × Entry)) (rest : List (List ℕ × Item)) (to : List Frame) (whole : Bool)
-          → Comes contents known frames (map found_item more ++ rest) to
-          → ((answers : List (List ℕ × Content)) → Left (Said answers) known to [] whole)
-          → WalksText contents known place text (map found_item (keeps.found ++ more) ++ rest) whole
-      walked more rest to whole step ended =
-          let items = map found_item (keeps.found ++ more) ++ rest in
-          let (said, among, passes) = comes_on more rest to step in
-          let (entries, error, reads, walks) = all_of (Said said) known place text keeps.first items whole keeps.enters
-          (rw (append-nil items) at (passes said (λ n c is. is) [] whole (ended said))) in
-          (entries, error, reads, walks_as among whole (λ e. e) walks)
-
-      pub keeps_more : (newer : List Setting) (to : List Frame) (b : Bool) → b ≡ true
-          → AddsNext contents known frames to now newer (Ok b) → Keeps contents known place text start newer to
-      keeps_more newer to false e next = cc
-      keeps_more newer to true e (one, more, step) = record {
-        first = keeps.first;
-        enters = keeps.enters;
-        found = keeps.found ++ one ∷ [];
-        adds = adds_both keeps.found (one ∷ []) start now newer keeps.adds more;
-        comes = rw (append-nil (map found_item (keeps.found ++ one ∷ []))) at (comes_on (one ∷ []) [] to step);
-      }
-
-      pub keeps_memory : (newer : List Setting) (refused : _) → length frames ≤ 11 → newer ≡ now
-          → AddsWalk contents known place text start newer (Err (error.Memory refused))
-      keeps_memory newer refused fits same = (
-        keeps.found,
-        rw same keeps.adds,
-        rw (append-nil keeps.found, append-nil (map found_item keeps.found)) at (walked [] [] frames false
-            (comes_none frames) (λ answers. cut_here (Said answers) known frames fits)),
-      )
-
-      pub keeps_end : (newer : List Setting) (to : List Frame) (b : Bool) (u : Unit {0}) → b ≡ false
-          → AddsNext contents known frames to now newer (Ok b)
-          → AddsWalk contents known place text start newer (Ok u)
-      keeps_end newer to true u e next = cc
-      keeps_end newer to false u e (same, none, step) = (
-        keeps.found,
-        rw same keeps.adds,
-        rw (append-nil keeps.found, append-nil (map found_item keeps.found)) at (walked [] [] to true step
-            (λ answers. rw none nothing)),
-      )
-
-      pub keeps_error : (newer : List Setting) (to : List Frame) (e : AddError) → length frames ≤ 11
-          → AddsNext contents known frames to now newer (Err e)
-          → AddsWalk contents known place text start newer (Err e)
-      keeps_error newer to (error.Memory r) fits same = keeps_memory newer r fits same
-      keeps_error newer to e fits (more, file, stop, adds, tells, (last, small, step)) = (
-        keeps.found ++ more,
-        file,
-        stop,
-        adds_both keeps.found more start now newer keeps.adds adds,
-        tells,
-        walked more ((file, Stops stop) ∷ []) last false step (λ answers. cut_here (Said answers) known last small),
-      )
-
   -- an entry that is passed
   pub passed_next : (old new : List Frame) (place : FilePlace) (entry : code.Entry) (include : Include)
       → ((answers : List (List ℕ × Content)) → Takes answers known old (step.Entry place entry include) new)
@@ -222,3 +152,75 @@ module _ (contents : List ℕ → Content → Type 0) (known : Known) where
       → AddsNext contents known old new settings settings (Ok false)
   ends_next settings old new takes =
       (refl, (takes []).0, comes_from old new [] (λ answers. (takes answers).1))
+
+pub keeps_first : (contents : List ℕ → Content → Type 0) (known : Known) (place : FilePlace) (text : List ℕ)
+    (start : List Setting) (frames : List Frame) → Enters [] place text frames
+    → Keeps contents known place text start start frames
+keeps_first contents known place text start frames enters =
+    record { first = frames; enters = enters; found = []; adds = adds_none start; comes = comes_none contents known frames }
+
+module _ {contents : List ℕ → Content → Type 0} {known : Known} {place : FilePlace} {text : List ℕ}
+    {start now : List Setting} {frames : List Frame} (keeps : Keeps contents known place text start now frames) where
+  comes_on : (more : List (List ℕ × Entry)) (rest : List (List ℕ × Item)) (to : List Frame)
+      → Comes contents known frames (map found_item more ++ rest) to
+      → Comes contents known keeps.first (map found_item (keeps.found ++ more) ++ rest) to
+  comes_on more rest to step =
+      rw (map-append found_item keeps.found more, append_assoc (map found_item keeps.found) (map found_item more) rest)
+      (comes_both contents known keeps.first frames to (map found_item keeps.found) (map found_item more ++ rest)
+      keeps.comes step)
+
+  -- the walk that is left, if nothing more comes
+  walked : (more : List (List ℕ × Entry)) (rest : List (List ℕ × Item)) (to : List Frame) (whole : Bool)
+      → Comes contents known frames (map found_item more ++ rest) to
+      → ((answers : List (List ℕ × Content)) → Left (Said answers) known to [] whole)
+      → WalksText contents known place text (map found_item (keeps.found ++ more) ++ rest) whole
+  walked more rest to whole step ended =
+      let items = map found_item (keeps.found ++ more) ++ rest in
+      let (said, among, passes) = comes_on more rest to step in
+      let (entries, error, reads, walks) = all_of (Said said) known place text keeps.first items whole keeps.enters
+      (rw (append-nil items) at (passes said (λ n c is. is) [] whole (ended said))) in
+      (entries, error, reads, walks_as among whole (λ e. e) walks)
+
+  pub keeps_more : (newer : List Setting) (to : List Frame) (b : Bool) → b ≡ true
+      → AddsNext contents known frames to now newer (Ok b) → Keeps contents known place text start newer to
+  keeps_more newer to false e next = cc
+  keeps_more newer to true e (one, more, step) = record {
+    first = keeps.first;
+    enters = keeps.enters;
+    found = keeps.found ++ one ∷ [];
+    adds = adds_both keeps.found (one ∷ []) start now newer keeps.adds more;
+    comes = rw (append-nil (map found_item (keeps.found ++ one ∷ []))) at (comes_on (one ∷ []) [] to step);
+  }
+
+  pub keeps_memory : (newer : List Setting) (refused : _) → length frames ≤ 11 → newer ≡ now
+      → AddsWalk contents known place text start newer (Err (error.Memory refused))
+  keeps_memory newer refused fits same = (
+    keeps.found,
+    rw same keeps.adds,
+    rw (append-nil keeps.found, append-nil (map found_item keeps.found)) at (walked [] [] frames false
+        (comes_none contents known frames) (λ answers. cut_here (Said answers) known frames fits)),
+  )
+
+  pub keeps_end : (newer : List Setting) (to : List Frame) (b : Bool) (u : Unit {0}) → b ≡ false
+      → AddsNext contents known frames to now newer (Ok b)
+      → AddsWalk contents known place text start newer (Ok u)
+  keeps_end newer to true u e next = cc
+  keeps_end newer to false u e (same, none, step) = (
+    keeps.found,
+    rw same keeps.adds,
+    rw (append-nil keeps.found, append-nil (map found_item keeps.found)) at (walked [] [] to true step
+        (λ answers. rw none nothing)),
+  )
+
+  pub keeps_error : (newer : List Setting) (to : List Frame) (e : AddError) → length frames ≤ 11
+      → AddsNext contents known frames to now newer (Err e)
+      → AddsWalk contents known place text start newer (Err e)
+  keeps_error newer to (error.Memory r) fits same = keeps_memory newer r fits same
+  keeps_error newer to e fits (more, file, stop, adds, tells, (last, small, step)) = (
+    keeps.found ++ more,
+    file,
+    stop,
+    adds_both keeps.found more start now newer keeps.adds adds,
+    tells,
+    walked more ((file, Stops stop) ∷ []) last false step (λ answers. cut_here (Said answers) known last small),
+  )

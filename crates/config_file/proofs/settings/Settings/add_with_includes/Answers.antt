@@ -12,31 +12,23 @@ steps-init g c = (
 
 pub steps-preserved : goal.steps-preserved
 steps-preserved g c = (
-  keeps_more (g.S.Files.contents c.args.files.now) c.args.known.now c.args.place c.args.text.now
-      c.args.self.now.entries.items c.steps.self.entries.items c.steps.walk.frames.items c.steps.invariant.0 _ _
-      c.in-Ok.goes_on (search rules) (rw c.in-Ok.is at c.add_next.ensures.adds),
+  keeps_more c.steps.invariant.0 _ _ c.in-Ok.goes_on (search rules) (rw c.in-Ok.is at c.add_next.ensures.adds),
   scope_both c.args.self.now c.steps.self c.add_next.new.self c.steps.invariant.1 c.add_next.ensures.scope,
 )
 
 pub returns-then-not-goes_on-clause-adds : goal.returns-then-not-goes_on-clause-adds
 returns-then-not-goes_on-clause-adds g c =
-    keeps_end (g.S.Files.contents c.args.files.now) c.args.known.now c.args.place c.args.text.now
-    c.args.self.now.entries.items c.steps.self.entries.items c.steps.walk.frames.items c.steps.invariant.0
-    c.add_next.new.self.entries.items c.add_next.new.walk.frames.items c.in-Ok.goes_on _ (search rules)
-    (rw c.in-Ok.is at c.add_next.ensures.adds)
+    keeps_end c.steps.invariant.0 c.add_next.new.self.entries.items c.add_next.new.walk.frames.items c.in-Ok.goes_on _
+    (search rules) (rw c.in-Ok.is at c.add_next.ensures.adds)
 
 pub returns-in-Err-clause-adds : goal.returns-in-Err-clause-adds
 returns-in-Err-clause-adds g c =
-    keeps_error (g.S.Files.contents c.args.files.now) c.args.known.now c.args.place c.args.text.now
-    c.args.self.now.entries.items c.steps.self.entries.items c.steps.walk.frames.items c.steps.invariant.0
-    c.add_next.new.self.entries.items c.add_next.new.walk.frames.items c.in-Err.error c.steps.walk.fits
-    (rw c.in-Err.is at c.add_next.ensures.adds)
+    keeps_error c.steps.invariant.0 c.add_next.new.self.entries.items c.add_next.new.walk.frames.items c.in-Err.error
+    c.steps.walk.fits (rw c.in-Err.is at c.add_next.ensures.adds)
 
 pub returns-clause-adds : goal.returns-clause-adds
 returns-clause-adds g c =
-    keeps_memory (g.S.Files.contents c.args.files.now) c.args.known.now c.args.place c.args.text.now
-    c.args.self.now.entries.items c.steps.self.entries.items c.steps.walk.frames.items c.steps.invariant.0
-    c.steps.self.entries.items _ c.steps.walk.fits refl
+    keeps_memory c.steps.invariant.0 c.steps.self.entries.items _ c.steps.walk.fits refl
 
 pub returns-then-not-goes_on-clause-scope : goal.returns-then-not-goes_on-clause-scope
 returns-then-not-goes_on-clause-scope g c =
