@@ -16,8 +16,7 @@ scope_both old new newer (same, (first, is, all)) (same2, (second, is2, all2)) =
   same2 ∙ same,
   (
     first ++ second,
-    is2 ∙ ap (λ s. s ++ second) is ∙ append_assoc old.entries.items first second,
-    All-append (λ s. s.scope ≡ old.scope) first second all
-        (subst (λ scope. All (λ s. s.scope ≡ scope) second) same all2),
+    rw (is2, is) (append_assoc old.entries.items first second),
+    All-append (λ s. s.scope ≡ old.scope) first second all (rw same at all2),
   ),
 )

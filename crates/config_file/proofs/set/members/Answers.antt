@@ -8,12 +8,6 @@ members-init c = record {
   ahead = closing_after c.unclosed.result.0.now c.unclosed.ensures c.in_ok-found.ensures.is;
 }
 
-pub returns-in-Some : goal.returns-in-Some
-returns-in-Some c = set_closed c.members.rest.now c.members.invariant.on c.in-Some.ensures
-
-pub next_closing-closing-requires : goal.next_closing-closing-requires
-next_closing-closing-requires c = c.members.invariant.ahead
-
 pub members-preserved-then-found : goal.members-preserved-then-found
 members-preserved-then-found c = record {
   on = goes_on_found c.members.found c.if-found.true c.members.invariant.on c.in_ok-is_here.ensures.is;

@@ -7,10 +7,6 @@ use Rattle.config_file.proofs.set.set_byte.Goals.{else-first-eq93-via-else-first
 pub returns-then-first-eq92 : goal.returns-then-first-eq92
 returns-then-first-eq92 c = escaped_here c.in_ok-first.ensures c.if-first-eq92.true c.in_ok-escaped.ensures
 
-pub returns-in_err-escaped : goal.returns-in_err-escaped
-returns-in_err-escaped c =
-    rw c.from_residual-in_err-escaped.ensures (no_escaped c.in_ok-first.ensures c.if-first-eq92.true c.in_err-escaped.ensures)
-
 pub returns-else-first-eq93 : goal.returns-else-first-eq93
 returns-else-first-eq93 c =
     bare_here c.in_ok-first.ensures c.if-first-eq92.false (elim c.else-first-eq93.branch [

@@ -3,9 +3,6 @@ use Rattle.config_file.proofs.Last.{at_index}
 use Rattle.config_file.proofs.Picked.{among_here, among_no_more, among_none, among_first}
 use Rattle.config_file.proofs.settings.is_among.Goals as goal
 
-pub loop-other-init : goal.loop-other-init
-loop-other-init c = among_first (λ text. text.items) c.args.texts.now c.args.text.now
-
 pub loop-other-preserved : goal.loop-other-preserved
 loop-other-preserved c =
     among_no_more (λ text. text.items) c.args.texts.now c.loop-other.other-index c.other-item.result

@@ -76,9 +76,3 @@ returns-in-Stops-clause-adds g c =
       tells,
       (c.next.new.self.frames.items, c.next.new.self.fits, comes),
     )
-
-pub returns-in-Line-clause-scope : goal.returns-in-Line-clause-scope
-returns-in-Line-clause-scope g c = scope_none c.args.self.now c.args.self.now refl refl
-
-pub returns-in-Ends-clause-scope : goal.returns-in-Ends-clause-scope
-returns-in-Ends-clause-scope g c = scope_none c.args.self.now c.args.self.now refl refl

@@ -30,10 +30,6 @@ pub returns-clause-adds : goal.returns-clause-adds
 returns-clause-adds g c =
     keeps_memory c.steps.invariant.0 c.steps.self.entries.items _ c.steps.walk.fits refl
 
-pub returns-then-not-goes_on-clause-scope : goal.returns-then-not-goes_on-clause-scope
-returns-then-not-goes_on-clause-scope g c =
-    scope_both c.args.self.now c.steps.self c.add_next.new.self c.steps.invariant.1 c.add_next.ensures.scope
-
 pub returns-in-Err-clause-scope : goal.returns-in-Err-clause-scope
 returns-in-Err-clause-scope g c =
     scope_both c.args.self.now c.steps.self c.add_next.new.self c.steps.invariant.1 c.add_next.ensures.scope

@@ -15,7 +15,3 @@ loop-setting-preserved c =
     (c.setting-item.is
     ∙ ap (λ s. get_or s c.loop-setting.setting-index c.setting-item.result) c.deref-setting-items.ensures.value))
     (search rules) c.in_ok-subsection.ensures (search rules) c.loop-setting.invariant
-
-pub returns : goal.returns
-returns c =
-    subs_done c.args.self.now.entries.items c.loop-setting.setting-index (search rules) c.loop-setting.invariant

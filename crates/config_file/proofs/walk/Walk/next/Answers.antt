@@ -23,7 +23,3 @@ returns-in-Some-clause-takes c = λ answers.
     c.in-Some.frame next c.in-Some-Ok.entry (c.frames.invariant.0 answers) (search rules) (search rules) refl
     (rw (c.in-Some-Ok.is, c.in-Some-Ok.field-0-is) at c.next.ensures.steps) c.in_ok-include.include
     c.in_ok-include.ensures
-
-pub returns-clause-takes : goal.returns-clause-takes
-returns-clause-takes c =
-    λ answers. (search rules, λ items whole has. c.frames.invariant.0 answers items whole (search rules))
