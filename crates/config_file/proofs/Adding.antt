@@ -1,6 +1,6 @@
 -- Settings that are added one by one.
-use Rattle.std.proofs.Common.{◌≡◌, ◌++◌, ◌∙◌, ℕ, length, option_map, map, refl, arith, List, [], ◌∷◌, Option}
-use Rattle.std.proofs.Common.{sym, ap, subst}
+use Rattle.std.proofs.Common.{◌++◌, ℕ, length, option_map, map, arith, List, [], ◌∷◌, Option}
+use Rattle.std.proofs.Common.{sym}
 use Rattle.std.specs.List.{AllZip}
 use Rattle.std.proofs.lemmas.List.{append_assoc, append-nil, map-append}
 use Rattle.config_file.specs.declared.errors.FileError.{FileError}
@@ -18,9 +18,8 @@ adds_none settings = ([], sym (append-nil settings), tt)
 pub zip_append : {A B : Type 0} (R : A → B → Type 0) (xs more : List A) (ys others : List B) → AllZip R xs ys
     → AllZip R more others → AllZip R (xs ++ more) (ys ++ others)
 zip_append R [] more [] others all rest = rest
-zip_append R [] more (z ∷ zs) others all rest = absurd all
-zip_append R (w ∷ ws) more [] others all rest = absurd all
 zip_append R (w ∷ ws) more (z ∷ zs) others all rest = (all.0, zip_append R ws more zs others all.1 rest)
+zip_append R xs more ys others all rest = absurd all
 
 pub adds_both : (found more : List (List ℕ × Entry)) (old new newer : List Setting) → AddsEach found old new
     → AddsEach more new newer → AddsEach (found ++ more) old newer

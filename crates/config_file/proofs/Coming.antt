@@ -1,5 +1,5 @@
 -- A loop over the steps of a walk, which adds settings.
-use Rattle.std.proofs.Common.{arith, inl, inr, ◌≡◌, ◌≤◌, ◌++◌, ◌∙◌, ℕ, Bool, true, false, List, [], ◌∷◌}
+use Rattle.std.proofs.Common.{arith, inl, inr, ◌≡◌, ◌≤◌, ◌++◌, ℕ, Bool, true, false, List, [], ◌∷◌}
 use Rattle.std.proofs.Common.{subst, refl, length, map}
 use Rattle.std.specs.Prelude.{Ok, Err}
 use Rattle.std.proofs.lemmas.List.{append_assoc, append-nil, map-append}

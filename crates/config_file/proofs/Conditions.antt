@@ -1,15 +1,13 @@
 -- What conditions on the git directory match.
-use Rattle.std.proofs.Common.{◌≡◌, ◌≢◌, ℕ, ◌<◌, Bool, true, false, List, ◌++◌, take, drop, length, codes}
+use Rattle.std.proofs.Common.{◌≡◌, ℕ, Bool, true, false, List, ◌++◌, codes}
 use Rattle.std.proofs.Common.{IsTrue, ◌↔◌, ◌⊎◌}
 use Rattle.std.specs.Prelude.{Result, Ok, Err, IfOk}
 use Rattle.std.specs.declared.alloc.AllocError.{AllocError}
-use Rattle.std.proofs.Common.{inl, inr, rules, refl, [], ◌∷◌, sym, ap, ◌∙◌, subst, arith, Option, None, Some}
+use Rattle.std.proofs.Common.{inl, inr, rules, refl, [], ◌∷◌, sym, ap, ◌∙◌, Option, None, Some}
 use Rattle.std.proofs.Common.{map}
 use Rattle.std.proofs.lemmas.Option.{same_Some, none-some}
-use Rattle.std.specs.List.{IsSplitAt}
 use Rattle.std.specs.Char.{to_ascii_lowercase}
-use Rattle.std.proofs.Math.Seq.{take-append_seam, drop-append_seam}
-use Rattle.std.proofs.lemmas.List.{append_cancel_left, length-append, length-map, take-append-drop}
+use Rattle.std.proofs.lemmas.List.{append_cancel_left}
 use Rattle.config_text.specs.Bytes.{LacksFront}
 use Rattle.config_file.specs.File.{Entry}
 use Rattle.config_file.specs.Header.{Section}
@@ -22,46 +20,10 @@ use Rattle.config_file.specs.Pattern.{MatchesText}
 use Rattle.std.proofs.lemmas.Bool.Decides.{eqb_tells}
 use Rattle.config_file.specs.Path.{BeginsUnknown, user, no_home, no_prefix, Expands, below_home, below_prefix}
 use Rattle.config_file.specs.Path as p
-use Rattle.config_file.specs.Walk.{IsNameOf}
-use Rattle.config_file.specs.declared.path.Directories.{Directories}
 use Rattle.config_file.specs.declared.include.Condition.{Condition}
 use Rattle.config_file.specs.declared.include.Condition.TheVariants.{Always}
 use Rattle.config_file.specs.declared.include.Includes.{Includes}
 use Rattle.config_file.proofs.Patterns.{no_match}
-
-same_length : (i : Bool) (a b : List ℕ) → IsSameName i a b → length a ≡ length b
-same_length true a b e = simp length-map at (ap length e)
-same_length false a b e = ap length e
-
--- a name has only one front of this many bytes, and only one rest after it
-fronts : (front left name : List ℕ) (n : ℕ) → name ≡ front ++ left → length front ≡ n
-    → (front ≡ take n name) × (left ≡ drop n name)
-fronts front left name n e l =
-    rw (sym l, e) (sym (take-append_seam front left), sym (drop-append_seam front left))
-
-pub too_short : (i : Bool) (dir pattern name : List ℕ) → length name < length dir
-    → ¬ (MatchesBelow i dir pattern name)
-too_short i dir pattern name short (front, left, e, same, matches) =
-    let lengths = same_length i front dir same in
-    omega (arith, ap length e, length-append front left)
-
-pub another_front : (i : Bool) (dir pattern name : List ℕ) {front left : List ℕ}
-    → IsSplitAt name (length dir) front left
-    → ¬ (IsSameName i front dir) → ¬ (MatchesBelow i dir pattern name)
-another_front i dir pattern name split differs (front2, left2, e, same, matches) =
-    let lengths = same_length i front2 dir same in
-    let here = fronts front2 left2 name (length dir) e lengths in
-    differs (rw (here.0 ∙ sym split.1) at same)
-
-pub same_front : (i : Bool) (dir pattern name : List ℕ) {m : Bool} {front left : List ℕ}
-    → IsSplitAt name (length dir) front left → IsSameName i front dir
-    → (IsTrue m ↔ (MatchesText i pattern left)) → IsTrue m ↔ (MatchesBelow i dir pattern name)
-same_front i dir pattern name {front = front} {left = left} split same is = (
-  λ yes. (front, left, rw (split.1, split.2) (sym (take-append-drop (length dir) name)), same, is.0 yes),
-  λ matches. let (front2, left2, e, same2, rest) = matches in
-      let here = fronts front2 left2 name (length dir) e (same_length i front2 dir same2) in
-      is.1 (rw (here.1 ∙ sym split.2) at rest),
-)
 
 pub is_near : {i h : Bool} {dir name rest slashed whole : List ℕ} (pattern : List ℕ)
     → pattern ≡ codes "./" ++ rest
@@ -129,14 +91,6 @@ pub no_condition : (includes : Includes) (dir : List ℕ) (entry : Entry) (name 
 no_condition includes dir entry name raw is differs = follows.unrelated
     (λ path. none-some raw (sym (path_in entry (name, Some raw) is path).0))
     (λ other path. differs (path_in entry (name, Some raw) is path).1)
-
-pub name_of_text : (directories : Directories) (file value text name : List ℕ) → value ≡ text
-    → IsNameOf directories file value name → IsNameOf directories file text name
-name_of_text directories file value text name same is = rw same at is
-
-pub unknown_text : (home install : Option (List ℕ)) (value text : List ℕ) → value ≡ text
-    → BeginsUnknown home install value → BeginsUnknown home install text
-unknown_text home install value text same is = rw same at is
 
 pub if_always : (includes : Includes) (dir : List ℕ) (entry : Entry) (name : List ℕ) (result : Result Bool AllocError)
     → map to_ascii_lowercase entry.key ≡ codes "path" → entry.section ≡ Some (name, None)

@@ -1,6 +1,6 @@
 -- Two additions of a text that do not lack memory add the same settings, and stop at the same place.
 use Rattle.std.proofs.Common.{◌≡◌, ℕ, Bool, true, false, List, [], ◌∷◌, ◌++◌, Option, None, Some, map}
-use Rattle.std.proofs.Common.{refl, sym, ap, ◌∙◌, subst, inl, inr}
+use Rattle.std.proofs.Common.{refl, sym, ap, ◌∙◌, inl, inr}
 use Rattle.std.specs.Prelude.{Result, Ok, Err, ⊤}
 use Rattle.std.proofs.lemmas.Option.{same_Some}
 use Rattle.std.proofs.lemmas.List.{append-nil, append_assoc}
@@ -71,10 +71,10 @@ same_added : (found : List (List ℕ × Entry)) (rest : List (List ℕ × Item))
     → AreRead (map found_item found ++ rest) → AllZip IsSettingOf found a → AllZip IsSettingOf found b
     → AllZip IsSameSetting a b
 same_added [] rest [] [] read is so = tt
-same_added [] rest [] (y ∷ b) read is so = absurd so
-same_added [] rest (x ∷ a) b read is so = absurd is
+same_added [] rest [] b read is so = absurd so
+same_added [] rest a b read is so = absurd is
 same_added (f ∷ found) rest [] b read is so = absurd is
-same_added (f ∷ found) rest (x ∷ a) [] read is so = absurd so
+same_added (f ∷ found) rest a [] read is so = absurd so
 same_added (f ∷ found) rest (x ∷ a) (y ∷ b) read (is, more) (so, others) = (
   (
     is.file ∙ sym so.file,

@@ -1,8 +1,8 @@
 -- A list of settings has one answer for a key.
-use Rattle.std.proofs.Common.{slice_index_or, ◌≡◌, ◌<◌, ◌+◌, ℕ, List, Option, None, Some, length, refl, sym}
+use Rattle.std.proofs.Common.{slice_index_or, ◌≡◌, ℕ, List, Option, None, Some, refl, sym}
 use Rattle.std.proofs.Common.{ap, ◌∙◌, subst, arith, inl, inr}
 use Rattle.std.specs.Prelude.{Result, Ok, Err}
-use Rattle.std.specs.List.{slice_get, AllWithin}
+use Rattle.std.specs.List.{slice_get}
 use Rattle.std.proofs.lemmas.Option.{same_Some, get_or_from_slice_get, slice_get_within}
 use Rattle.std.proofs.lemmas.Bool.{cases_order}
 use Rattle.config_text.specs.declared.errors.Fault.{Fault}

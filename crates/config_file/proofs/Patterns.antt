@@ -1,5 +1,5 @@
 -- What patterns match, by how they begin.
-use Rattle.std.proofs.Common.{◌≡◌, ◌≢◌, ℕ, Bool, true, false, List, [], ◌∷◌, refl, sym, ap, ◌∙◌, subst, arith}
+use Rattle.std.proofs.Common.{◌≡◌, ◌≢◌, ℕ, Bool, true, false, List, [], ◌∷◌, refl, sym, ap, ◌∙◌, arith}
 use Rattle.std.proofs.Common.{inl, inr, ◌⊎◌, ◌==◌, length, ◌<◌, ◌↔◌, IsTrue}
 use Rattle.std.proofs.lemmas.Bool.{true≢false}
 use Rattle.config_file.specs.Runs.{Run}
@@ -170,9 +170,6 @@ pub later_ends : {i crossing : Bool} {pattern : List ℕ} (at : List ℕ) → at
 later_ends at e never (left, passed, match) = never (rw (passes_none (rw e at passed) ∙ sym e) at match)
 
 -- ---- results of tests
-
-pub never_true : IsTrue false → ⊥
-never_true t = cc
 
 pub no_match : {P : Type 0} (b : Bool) → b ≡ false → IsTrue b ↔ P → ¬ P
 no_match b e same whole = true≢false (sym (same.1 whole) ∙ e)

@@ -15,7 +15,7 @@ use Rattle.config_file.proofs.Patterns.{no_item, byte_item, escaped_item, set_it
 use Rattle.config_file.proofs.Patterns.{no_set_item, no_byte_item}
 use Rattle.config_file.proofs.Patterns.{one_inv, end_inv, stars_inv, stars_no_directory, stars_later}
 use Rattle.config_file.proofs.Patterns.{later_here, later_step, later_back, later_stops, later_ends}
-use Rattle.config_file.proofs.Same.{item_same}
+use Rattle.config_file.proofs.Places.{here_one}
 use Rattle.config_file.specs.Runs.{Run}
 use Rattle.config_file.specs.Set as set
 use Rattle.config_file.specs.Set.{slash, folded, range_has, opened, is_wanted, is_unclosed, IsNoClass, Class}
@@ -208,9 +208,6 @@ later_at i crossing go pattern (b ∷ text) =
     (λ none h. none (later_back (b ∷ text) refl never h)))
     (λ stops. Some (inr (later_stops (b ∷ text) refl never stops))))
 
-pub not_crossing : {i : Bool} {pattern text : List ℕ} → MatchesNoDirectory i false pattern text → ⊥
-not_crossing (rest, crossing, at, match) = true≢false (sym crossing)
-
 pub no_slash : {i crossing : Bool} {pattern text : List ℕ} → ((rest : List ℕ) → pattern ≢ slash ∷ rest)
     → MatchesNoDirectory i crossing pattern text → ⊥
 no_slash never (rest, crossing, at, match) = never rest at
@@ -221,7 +218,7 @@ past_slash never (rest, crossing, at, match) = never (rw (sym (ap (drop 1) at)) 
 
 abbrev no_directory_at : (i crossing : Bool) → Decides i → (pattern text : List ℕ)
     → Answer (MatchesNoDirectory i crossing pattern text)
-no_directory_at i false go pattern text = Some (inr not_crossing)
+no_directory_at i false go pattern text = Some (inr (λ m. true≢false (sym m.1)))
 no_directory_at i true go [] text = Some (inr (no_slash (λ rest. no_cons)))
 no_directory_at i true go (c ∷ pattern) text =
     equal c 47
@@ -251,12 +248,6 @@ stars_of i starts go c is pattern text more rest run =
 pub no_star : {c : ℕ} {pattern : List ℕ} → c ≢ 42 → LacksStar (c ∷ pattern)
 no_star other rest e = other (cc (e))
 
-pub no_one : {i starts : Bool} {b : ℕ} {pattern rest text : List ℕ} → LacksStar pattern
-    → Item i pattern b rest
-    → (Matches i (b == 47) rest text → ⊥) → Matches i starts pattern (b ∷ text) → ⊥
-no_one lacks item never match =
-    let (rest, also, more) = one_inv match lacks in never (rw (item_same also item).0 at more)
-
 pub not_one : {i starts : Bool} {b : ℕ} {pattern text : List ℕ} → LacksStar pattern
     → ((rest : List ℕ) → Item i pattern b rest → ⊥)
     → Matches i starts pattern (b ∷ text) → ⊥
@@ -264,7 +255,7 @@ not_one lacks never match = let (rest, item, more) = one_inv match lacks in neve
 
 pub not_at_end : {i starts : Bool} {c : ℕ} {pattern : List ℕ} → LacksStar (c ∷ pattern)
     → Matches i starts (c ∷ pattern) [] → ⊥
-not_at_end lacks match = let e = end_inv match lacks in cc
+not_at_end lacks match = cc (end_inv match lacks)
 
 pub empty_lacks : LacksStar []
 empty_lacks rest e = cc
@@ -273,7 +264,8 @@ abbrev one_of : (i starts : Bool) → Decides i → (pattern : List ℕ) → Lac
     → (b : ℕ) (text : List ℕ) → Answer (Matches i starts pattern (b ∷ text))
 one_of i starts go pattern lacks b text =
     decided (item_at i pattern b)
-    (λ item. answer (go (b == 47) item.0 text) (match.one item.0 item.1) (no_one lacks item.1))
+    (λ item. answer (go (b == 47) item.0 text) (match.one item.0 item.1)
+    (λ never m. never (here_one item.1 m)))
     (λ never. Some (inr (not_one lacks never)))
 
 -- of patterns of at most n bytes

@@ -1,7 +1,7 @@
 -- What is picked from a list, one by one.
 use Rattle.std.proofs.Common.{◌≡◌, ◌≤◌, ◌<◌, ◌+◌, ◌++◌, ◌∙◌, ◌↔◌, ◌⊎◌, inl, inr, ℕ, Bool, true, false, List}
 use Rattle.std.proofs.Common.{[], ◌∷◌, Some, length, take}
-use Rattle.std.proofs.Common.{IsTrue, rules, refl, sym, subst, ap, arith, zero, suc, map, get_or, Contains}
+use Rattle.std.proofs.Common.{IsTrue, ap, arith, zero, suc, map, Contains}
 use Rattle.std.proofs.lemmas.List.{map-append, take_all, get_or-map, length-map}
 use Rattle.std.proofs.lemmas.List.Elements.{Contains-push_cases}
 use Rattle.std.specs.List.{slice_get}
@@ -75,6 +75,3 @@ among_no_more f xs i x y at within other before has =
 pub among_none : {X Y : Type 0} (f : X → Y) (xs : List X) (i : ℕ) (y : Y) → length xs ≤ i
     → ¬ (Contains (map f (take i xs)) y) → ¬ (Contains (map f xs) y)
 among_none f xs i y past before = rw (take_all i xs past) at before
-
-pub among_first : {X Y : Type 0} (f : X → Y) (xs : List X) (y : Y) → ¬ (Contains (map f (take 0 xs)) y)
-among_first f xs y has = omega (arith, has.1)

@@ -1,6 +1,6 @@
 -- How far a pattern has matched a text, and why an earlier star need not be tried again.
-use Rattle.std.proofs.Common.{◌≡◌, ◌≢◌, ℕ, Bool, true, false, not, ◌||◌, ◌==◌, List, [], ◌∷◌, refl, sym, ◌∙◌}
-use Rattle.std.proofs.Common.{subst, arith, eqb-true, inl, inr, ◌⊎◌, ◌↔◌, length, ◌≤◌, ◌<◌}
+use Rattle.std.proofs.Common.{◌≡◌, ◌≢◌, ℕ, Bool, true, false, ◌==◌, List, [], ◌∷◌, refl, sym, ◌∙◌}
+use Rattle.std.proofs.Common.{subst, arith, eqb-true, inl, inr, ◌↔◌, length, ◌≤◌, ◌<◌}
 use Rattle.std.proofs.lemmas.Bool.{true≢false}
 use Rattle.config_file.specs.Runs.{Run}
 use Rattle.config_file.specs.Set.{slash}
@@ -53,7 +53,7 @@ after_one : {i c starts : Bool} {b : ℕ} {pattern rest text : List ℕ} → Ite
 after_one item (next {text = text} passed slashes match) = past_item text item passed match
 after_one item (beyond passed more) = further_item item passed more
 
-here_one : {i starts : Bool} {b : ℕ} {pattern rest text : List ℕ} → Item i pattern b rest
+pub here_one : {i starts : Bool} {b : ℕ} {pattern rest text : List ℕ} → Item i pattern b rest
     → Matches i starts pattern (b ∷ text) → Matches i (b == slash) rest text
 here_one item match =
     let (rest2, item2, more) = one_inv match (item_lacks item) in rw (item_same item2 item).0 at more
@@ -232,20 +232,19 @@ deep_map i Whole there back from is = there is
 deep_map i Nothing there back from is = λ q. is (back refl q)
 deep_map i (Stars place) there back from is = (λ m. there (is.0 m), λ g. is.1 (from g))
 
-pub deep_stars : (i : Bool) (P : Type 0) (F : Bool → Type 0) {more rest : List ℕ} (found : Found) (place : FilePlace) → found ≡ Stars place
-    → FindsStar i P F found → Run is_star place.pattern.now more rest → crosses place.starts more rest ≡ true
+pub deep_stars : {i : Bool} {P : Type 0} (F : Bool → Type 0) {more rest : List ℕ} {found : Found} (place : FilePlace)
+    → found ≡ Stars place → FindsStar i P F found → Run is_star place.pattern.now more rest
+    → crosses place.starts more rest ≡ true
     → (MatchesDeep i rest place.text.now → P) × (F true → MatchesDeep i rest place.text.now)
-deep_stars i P F found place e is run long =
-    let both = rw e at is in
-    (λ d. both.0 (deep_back run long d), λ g. deep_all run long (both.1 true g))
+deep_stars F place e is run long =
+    let both = rw e at is in (λ d. both.0 (deep_back run long d), λ g. deep_all run long (both.1 true g))
 
-pub star_next : (i : Bool) (P : Type 0) (F : Bool → Type 0) {more rest : List ℕ} (found : Found) (place : FilePlace) → found ≡ Stars place
-    → FindsStar i P F found → Run is_star place.pattern.now more rest → crosses place.starts more rest ≡ false
-    → (P → F false)
-    → (found2 : Found)
+pub star_next : (i : Bool) {P : Type 0} (F : Bool → Type 0) {more rest : List ℕ} {found : Found} (place : FilePlace)
+    → found ≡ Stars place → FindsStar i P F found → Run is_star place.pattern.now more rest
+    → crosses place.starts more rest ≡ false → (P → F false) → (found2 : Found)
     → FindsStar i (MatchesLater i false rest place.text.now) (λ c. FromHere i c false rest place.text.now) found2
     → FindsStar i P F found2
-star_next i P F found place e is run short whole found2 is2 =
+star_next i F place e is run short whole found2 is2 =
     let both = rw e at is in
     star_map i found2 (λ m. both.0 (short_back run short m)) (λ n p. to_later (star_all run short (both.1 false (whole p))))
     (λ c f. star_all run short (both.1 c f)) is2

@@ -1,5 +1,5 @@
 -- Sets of bytes in patterns: their classes, their members, and what they match.
-use Rattle.std.proofs.Common.{◌≡◌, ◌≢◌, ℕ, suc, ◌<◌, ◌≤◌, ◌⊎◌, Bool, true, false, ◌||◌, ◌&&◌, ◌==◌}
+use Rattle.std.proofs.Common.{◌≡◌, ◌≢◌, ℕ, ◌<◌, ◌≤◌, ◌⊎◌, Bool, true, false, ◌||◌, ◌&&◌, ◌==◌}
 use Rattle.std.proofs.Common.{if◌then◌else◌, List, [], ◌∷◌, ◌++◌, Option, None, Some, length, drop, get_or, length-append}
 use Rattle.std.proofs.Common.{codes, refl, sym, ap, ◌∙◌, subst, arith, inl, inr, append_assoc}
 use Rattle.std.specs.List.{list_all}
@@ -17,8 +17,8 @@ use Rattle.config_file.specs.Runs.{Run, StopsRun}
 use Rattle.config_file.specs.Reading.Places.{Closing}
 use Rattle.config_file.specs.Bytes.{right_bracket, backslash, dash, is_blank, is_space}
 use Rattle.config_file.proofs.OneRun.{run_only}
-use Rattle.config_file.specs.Set.{folded, is_negation, is_wanted, opened, is_unclosed, IsClass, IsNoClass}
-use Rattle.config_file.specs.Set.{IsNoRange, range_has, StandsForByte}
+use Rattle.config_file.specs.Set.{is_negation, is_wanted, opened, is_unclosed, IsClass, IsNoClass}
+use Rattle.config_file.specs.Set.{IsNoRange, StandsForByte}
 use Rattle.config_file.specs.Set.{SetByte, bare, after_backslash, RangeEnd, to, Member, class, single, range}
 use Rattle.config_file.specs.Set.{SetHas, closes, has}
 use Rattle.config_file.specs.Set.{Class, alnum, alpha, blank, cntrl, digit, graph, lower, print, punct}
@@ -152,13 +152,6 @@ no_end_member i b c rest here after e (class name is known) =
 no_end_member i b c rest here after e (single d none is alone found) = no_end_byte e is
 no_end_member i b c rest here after e (range first last mid none is more found) = no_end_byte e is
 
-escapes_none : {starts : Bool} {c d : ℕ} {after : List ℕ} → c ≡ backslash → SetByte starts (c ∷ []) d after
-    → ⊥
-escapes_none is (bare other first) = other is
-
-range_byte : {c last : ℕ} {mid rest : List ℕ} → RangeEnd (c ∷ mid) last rest → SetByte false mid last rest
-range_byte (to e is) = is
-
 pub is_first : (c d e : ℕ) (more : Bool) → c ≡ d → d ≡ e → (c == d) ≡ ((c == e) || more)
 is_first c d e more same too =
     let here : (c == d) ≡ true = grind (arith, nat_tests) in
@@ -181,17 +174,9 @@ pub escaped_here : {starts : Bool} {text rest after : List ℕ} {c d : ℕ} → 
     → SetByte starts text d after
 escaped_here e is f = rw (e, f) (after_backslash is)
 
-pub no_escaped : {starts : Bool} {text rest : List ℕ} {c : ℕ} → text ≡ c ∷ rest → c ≡ backslash → rest ≡ []
-    → (d : ℕ) (after : List ℕ) → ¬ (SetByte starts text d after)
-no_escaped e is none d after here = escapes_none is (rw (e, none) at here)
-
 pub range_here : {text mid rest : List ℕ} {last : ℕ} → text ≡ dash ∷ mid → SetByte false mid last rest
     → RangeEnd text last rest
 range_here e is = rw e (to refl is)
-
-pub no_range_byte : {text mid : List ℕ} → text ≡ dash ∷ mid
-    → ((c : ℕ) (rest : List ℕ) → ¬ (SetByte false mid c rest)) → IsNoRange text
-no_range_byte e none last rest here = none last rest (range_byte (rw e at here))
 
 pub of_no_class : {i : Bool} {b : ℕ} {starts : Bool} {text name after : List ℕ} → IsClass text name after
     → ((h : Bool) → ¬ (Class i b name h)) → (here : Bool) (rest : List ℕ)

@@ -1,5 +1,5 @@
 -- What steps take off a walk.
-use Rattle.std.proofs.Common.{arith, ◌≡◌, ◌≤◌, ◌+◌, ◌-◌, ◌++◌, ◌∙◌, ℕ, Bool, true, false, List, [], ◌∷◌, None}
+use Rattle.std.proofs.Common.{arith, ◌≡◌, ◌≤◌, ◌+◌, ◌-◌, ◌++◌, ℕ, Bool, true, false, List, [], ◌∷◌, None}
 use Rattle.std.proofs.Common.{Some, Option, Ok}
 use Rattle.std.proofs.Common.{subst, refl, sym, ap, length, option_map}
 use Rattle.std.specs.Prelude.{reverse}

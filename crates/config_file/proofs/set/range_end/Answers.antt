@@ -1,4 +1,4 @@
-use Rattle.config_file.proofs.Sets.{range_here, no_range_byte}
+use Rattle.config_file.proofs.Sets.{range_here}
 use Rattle.config_file.proofs.set.range_end.Goals as goal
 
 pub returns : goal.returns

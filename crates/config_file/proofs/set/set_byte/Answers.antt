@@ -1,5 +1,5 @@
 use Rattle.std.proofs.Common.{rules}
-use Rattle.config_file.proofs.Sets.{escaped_here, no_escaped, bare_here}
+use Rattle.config_file.proofs.Sets.{escaped_here, bare_here}
 use Rattle.config_file.proofs.set.set_byte.Goals as goal
 use Rattle.config_file.proofs.set.set_byte.Goals.{else-first-eq93-via-then-first-eq93+else-not-starts}
 use Rattle.config_file.proofs.set.set_byte.Goals.{else-first-eq93-via-else-first-eq93}

@@ -1,6 +1,6 @@
 use Rattle.std.proofs.Common.{rules}
 use Rattle.config_file.proofs.Last.{at_index}
-use Rattle.config_file.proofs.Picked.{among_here, among_no_more, among_none, among_first}
+use Rattle.config_file.proofs.Picked.{among_here, among_no_more, among_none}
 use Rattle.config_file.proofs.settings.is_among.Goals as goal
 
 pub loop-other-preserved : goal.loop-other-preserved

@@ -3,7 +3,6 @@ use Rattle.config_file.specs.Views.{entry_of}
 use Rattle.config_file.specs.Walk.{Line, TooDeep}
 use Rattle.config_file.proofs.Adding.{adds_none}
 use Rattle.config_file.proofs.Coming.{line_next, ends_next, passed_next, entered_next, deep_next, stop_comes}
-use Rattle.config_file.proofs.Scopes.{scope_none}
 use Rattle.config_file.proofs.settings.Settings.add_next.Goals as goal
 
 pub returns-in-Line-clause-adds : goal.returns-in-Line-clause-adds

@@ -1,7 +1,7 @@
 use Rattle.std.proofs.Common.{rules, ap, ◌∙◌, get_or}
 use Rattle.config_file.specs.Settings.{no_settings}
 use Rattle.config_file.proofs.Last.{at_index}
-use Rattle.config_file.proofs.Sections.{subs_next, subs_done}
+use Rattle.config_file.proofs.Sections.{subs_next}
 use Rattle.config_file.proofs.settings.Settings.subsections.Goals as goal
 
 pub loop-setting-init : goal.loop-setting-init
