@@ -1,6 +1,6 @@
 -- How far a pattern has matched a text, and why an earlier star need not be tried again.
-use Rattle.std.proofs.Common.{◌≡◌, ◌≢◌, ℕ, Bool, true, false, ◌==◌, List, [], ◌∷◌, refl, sym, ◌∙◌}
-use Rattle.std.proofs.Common.{subst, arith, eqb-true, inl, inr, ◌↔◌, length, ◌≤◌, ◌<◌}
+use Rattle.std.proofs.Common.{◌≡◌, ◌≢◌, ℕ, Bool, true, false, ◌==◌, List, [], ◌∷◌, refl, sym, ap, ◌∙◌}
+use Rattle.std.proofs.Common.{arith, drop, eqb-true, inl, inr, ◌↔◌, length, ◌≤◌, ◌<◌}
 use Rattle.std.proofs.lemmas.Bool.{true≢false}
 use Rattle.config_file.specs.Runs.{Run}
 use Rattle.config_file.specs.Set.{slash}
@@ -205,18 +205,16 @@ slash_passes : {i : Bool} {after text left : List ℕ} → Passes true text left
 slash_passes {text = text} no_more m = slash_further text m
 slash_passes (passes is more) m = beyond is (slash_passes more m)
 
-pub slash_from : {i : Bool} {after text : List ℕ} (pattern : List ℕ) → pattern ≡ slash ∷ after
-    → MatchesDeep i pattern text
-    → FromHere i true true after text
-slash_from {i = i} {after = after} {text = text} pattern e (inl (rest, crossing, at, m)) =
-    inl (subst (λ r. Matches i true r text) (cc) m)
-slash_from pattern e (inr (left, passed, m)) = inr (slash_passes passed (rw e at m))
-
 pub slash_only : {i : Bool} {after text : List ℕ} (pattern : List ℕ) → pattern ≡ slash ∷ after
     → MatchesNoDirectory i true pattern text
     → Matches i true after text
-slash_only {i = i} {after = after} {text = text} pattern e (rest, crossing, at, m) =
-    subst (λ r. Matches i true r text) (cc) m
+slash_only pattern e (rest, crossing, at, m) = rw (sym (ap (drop 1) (sym e ∙ at))) at m
+
+pub slash_from : {i : Bool} {after text : List ℕ} (pattern : List ℕ) → pattern ≡ slash ∷ after
+    → MatchesDeep i pattern text
+    → FromHere i true true after text
+slash_from pattern e (inl match) = inl (slash_only pattern e match)
+slash_from pattern e (inr (left, passed, m)) = inr (slash_passes passed (rw e at m))
 
 -- ---- what is found
 

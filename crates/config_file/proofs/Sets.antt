@@ -144,39 +144,17 @@ no_end_byte : {b c : ℕ} {rest after : List ℕ} → b ≡ right_bracket → Se
 no_end_byte e (bare other first) = true≢false (sym (first e))
 no_end_byte e (after_backslash e2) = omega (arith, e, e2)
 
-pub no_end_member : (i : Bool) (b c : ℕ) (rest : List ℕ) (here : Bool) (after : List ℕ) → c ≡ right_bracket
+no_end_member : {i : Bool} {b c : ℕ} {rest : List ℕ} {here : Bool} {after : List ℕ} → c ≡ right_bracket
     → Member i b false (c ∷ rest) here after → ⊥
-no_end_member i b c rest here after e (class name is known) =
-    let head : c ≡ 91 = ap (λ l. get_or l 0 0) is.opened in
-    omega (arith, e, head)
-no_end_member i b c rest here after e (single d none is alone found) = no_end_byte e is
-no_end_member i b c rest here after e (range first last mid none is more found) = no_end_byte e is
+no_end_member e (class name is known) = omega (arith, e, ap (λ l. get_or l 0 0) is.opened)
+no_end_member e (single d none is alone found) = no_end_byte e is
+no_end_member e (range first last mid none is more found) = no_end_byte e is
 
 pub is_first : (c d e : ℕ) (more : Bool) → c ≡ d → d ≡ e → (c == d) ≡ ((c == e) || more)
-is_first c d e more same too =
-    let here : (c == d) ≡ true = grind (arith, nat_tests) in
-    let there : (c == e) ≡ true = grind (arith, nat_tests) in
-    here ∙ sym (ap (λ x. x || more) there)
+is_first c d e more same too = grind (arith, nat_tests)
 
 pub is_no_first : (c d : ℕ) (more : Bool) → c ≢ d → more ≡ ((c == d) || more)
-is_no_first c d more apart =
-    let other : (c == d) ≡ false = grind (arith, nat_tests) in
-    sym (ap (λ x. x || more) other)
-
--- the next byte of a set
-pub bare_here : {starts : Bool} {text rest : List ℕ} {c : ℕ} → text ≡ c ∷ rest → c ≢ backslash
-    → (c ≡ right_bracket → starts ≡ true)
-    → SetByte starts text c rest
-bare_here e other first = rw e (bare other first)
-
-pub escaped_here : {starts : Bool} {text rest after : List ℕ} {c d : ℕ} → text ≡ c ∷ rest → c ≡ backslash
-    → rest ≡ d ∷ after
-    → SetByte starts text d after
-escaped_here e is f = rw (e, f) (after_backslash is)
-
-pub range_here : {text mid rest : List ℕ} {last : ℕ} → text ≡ dash ∷ mid → SetByte false mid last rest
-    → RangeEnd text last rest
-range_here e is = rw e (to refl is)
+is_no_first c d more apart = grind (arith, nat_tests)
 
 pub of_no_class : {i : Bool} {b : ℕ} {starts : Bool} {text name after : List ℕ} → IsClass text name after
     → ((h : Bool) → ¬ (Class i b name h)) → (here : Bool) (rest : List ℕ)
@@ -217,16 +195,14 @@ member_same (range first last mid none byte more found) (range first2 last2 mid2
 has_inv : {i : Bool} {b b2 : ℕ} {starts all : Bool} {text rest : List ℕ} (here : Bool) (after : List ℕ)
     → Member i b starts text here after → SetHas i b2 starts text all rest
     → (found : Bool) × SetHas i b2 false after found rest × (b ≡ b2 → all ≡ (here || found))
-has_inv {i = i} {b = b} here after is (closes {c = c} {rest = tail} e) =
-    absurd (no_end_member i b c tail here after e is)
+has_inv here after is (closes e) = absurd (no_end_member e is)
 has_inv here after is (has here2 found after2 is2 more all) =
     let (rests, heres) = member_same is is2 in (found, rw rests more, λ e. rw (all, heres e))
 
 pub set_same : {i : Bool} {b b2 : ℕ} {starts f f2 : Bool} {text r r2 : List ℕ} → SetHas i b starts text f r
     → SetHas i b2 starts text f2 r2 → (r ≡ r2) × (b ≡ b2 → f ≡ f2)
 set_same (closes e) (closes e2) = (refl, λ e3. refl)
-set_same {i = i} {b2 = b2} (closes {c = c} {rest = tail} e) (has here found after is more all) =
-    absurd (no_end_member i b2 c tail here after e is)
+set_same (closes e) (has here found after is more all) = absurd (no_end_member e is)
 set_same (has here found after is more all) other =
     let (found2, more2, all2) = has_inv here after is other in
     let (rests, founds) = set_same more more2 in

@@ -1,5 +1,6 @@
-use Rattle.config_file.proofs.Sets.{range_here}
+use Rattle.std.proofs.Common.{refl}
+use Rattle.config_file.specs.Set.{to}
 use Rattle.config_file.proofs.set.range_end.Goals as goal
 
 pub returns : goal.returns
-returns c = range_here c.in_ok-after.ensures c.in_ok-last.ensures
+returns c = rw c.in_ok-after.ensures (to refl c.in_ok-last.ensures)
