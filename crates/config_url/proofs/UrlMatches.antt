@@ -50,14 +50,6 @@ closed_none (b ∷ path) e = absurd (omega (arith, e))
 abbrev pub Below : List ℕ → List ℕ → Type 0
 Below front path = (rest : List ℕ) × (path ++ 47 ∷ [] ≡ (front ++ 47 ∷ []) ++ rest)
 
-pub below_next : (b : ℕ) (wanted left more after front path : List ℕ) → wanted ≡ b ∷ more → left ≡ b ∷ after
-    → (Below wanted left ↔ Below front path) → (Below more after ↔ Below front path)
-below_next b wanted left more after front path e f same = (
-  λ p. same.0 (rw (e, f) (p.0, ap (λ t. b ∷ t) p.1)),
-  λ p. let (rest, whole) = rw (e, f) at (same.1 p) in
-      let tails : after ++ 47 ∷ [] ≡ (more ++ 47 ∷ []) ++ rest = cc in (rest, tails),
-)
-
 pub below_slash : (b : ℕ) (wanted left after front path : List ℕ) (r : Bool) → wanted ≡ [] → left ≡ b ∷ after
     → r ≡ (b == 47) → (Below wanted left ↔ Below front path) → (IsTrue r ↔ Below front path)
 below_slash b wanted left after front path r e f test same = (

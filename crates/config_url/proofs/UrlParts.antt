@@ -120,13 +120,6 @@ whole_after (x ∷ a) m [] back pass e = let tails : a ++ 93 ∷ m ≡ back = cc
 whole_after (x ∷ a) m (y ∷ front) back pass e =
     let tails : a ++ 93 ∷ m ≡ front ++ 58 ∷ back = cc in whole_after a m front back pass tails
 
-pub whole_none : (text : List ℕ) → list_all is_port_byte text ≡ true → IsWhole text None
-whole_none text pass front back e = absurd (within_not is_port_byte 58 front back refl e pass)
-
-pub whole_bracket : (text front back : List ℕ) → text ≡ front ++ 93 ∷ back → list_all is_port_byte back ≡ true
-    → IsWhole text None
-whole_bracket text front back e pass a b f = whole_after front back a b pass (sym e ∙ f)
-
 pub last_port : (text : List ℕ) (i : ℕ) → i < length text
     → AllWithin (λ b. is_port_byte b ≡ true) text (i + 1) (length text)
     → (list_all is_port_byte (drop (i + 1) text) ≡ true) × (text ≡ take i text ++ get_or text i 0 ∷ drop (i + 1) text)
@@ -138,12 +131,18 @@ last_port text i within later =
     (later (i + 1 + k) d (omega arith) (omega (arith, length-drop (i + 1) text)))) in
     (none, sym (take-append-drop i text) ∙ ap (λ t. take i text ++ t) (drop_more text i 0 within))
 
-pub all_ports : (text : List ℕ) → AllWithin (λ b. is_port_byte b ≡ true) text 0 (length text)
-    → list_all is_port_byte text ≡ true
-all_ports text each = list_all-from_AllPass is_port_byte text (λ k d within. each k d (omega arith) within)
+-- a text has no port if it has no colon, or if a `]` follows the last colon
+pub no_colon : (text : List ℕ) → AllWithin (λ b. is_port_byte b ≡ true) text 0 (length text) → IsWhole text None
+no_colon text each front back e = absurd (within_not is_port_byte 58 front back refl e
+    (list_all-from_AllPass is_port_byte text (λ k d within. each k d (omega arith) within)))
 
-pub bracket_byte : (b : ℕ) → is_port_byte b ≡ false → b ≢ 58 → b ≡ 93
-bracket_byte b non other = grind (arith, nat_tests)
+pub last_bracket : (text : List ℕ) (i : ℕ) → i < length text
+    → AllWithin (λ b. is_port_byte b ≡ true) text (i + 1) (length text) → is_port_byte (get_or text i 0) ≡ false
+    → get_or text i 0 ≢ 58 → IsWhole text None
+last_bracket text i within later stops other front back e =
+    let (none, joined) = last_port text i within later in
+    let bracket : get_or text i 0 ≡ 93 = grind (arith, nat_tests) in
+    whole_after (take i text) (drop (i + 1) text) front back none (sym (rw bracket at joined) ∙ e)
 
 last_mark : (a m b n : List ℕ) → list_all is_port_byte m ≡ true → list_all is_port_byte n ≡ true
     → a ++ 58 ∷ m ≡ b ++ 58 ∷ n → (a ≡ b) × (m ≡ n)

@@ -87,26 +87,13 @@ names_more kept next name left after path cut steps same all =
 abbrev pub Joined : List (Bor (List ℕ)) → List ℕ
 Joined names = flat_map (λ n. 47 ∷ n) (map (λ n. n.now) names)
 
-pub joined_done : (names : List (Bor (List ℕ))) (i : ℕ) (start out : List ℕ) → length names ≤ i
-    → (length names == 0) ≡ false → out ≡ start ++ Joined (take i names)
-    → out ≡ start ++ joined_names (map (λ n. n.now) names)
-joined_done [] i start out past some e = absurd (true≢false some)
-joined_done (n ∷ names) i start out past some e = e ∙ ap (λ ns. start ++ Joined ns) (take_all i (n ∷ names) past)
-
 -- ---- one path
 
 pub leads_only : {kept names a b : List (List ℕ)} → Leads kept names a → Leads kept names b → a ≡ b
 leads_only ends ends = refl
-leads_only (stays e l) (stays f m) = leads_only l m
-leads_only (stays e l) (drops one f g m) = absurd (dots (sym e ∙ f))
-leads_only (stays e l) (keeps d u m) = absurd (d e)
-leads_only (drops one f g l) (stays e m) = absurd (dots (sym e ∙ f))
-leads_only (drops {front = x} one f g l) (drops {front = y} two h i m) =
-    leads_only l (rw (snoc_same y x two one (sym i ∙ g)) at m)
-leads_only (drops one f g l) (keeps d u m) = absurd (u f)
-leads_only (keeps d u l) (stays e m) = absurd (d e)
-leads_only (keeps d u l) (drops one f g m) = absurd (u f)
-leads_only (keeps d u l) (keeps v w m) = leads_only l m
+leads_only (stays e l) m = leads_only l (here_back e m)
+leads_only (drops last e f l) m = leads_only l (up_back last e f m)
+leads_only (keeps d u l) m = leads_only l (name_back d u m)
 
 pub no_path : {text normal : List ℕ} (names query root : List ℕ) → IsNormal text normal
     → Run is_path_byte normal names query → root ≡ without_root names
