@@ -8,8 +8,8 @@ use Rattle.std.specs.List.{AllByRecursion}
 use Rattle.config_file.proofs.Fronts.{is_front, lacks}
 use Rattle.config_file.proofs.OneRun.{before}
 use Rattle.config_file.proofs.OnLiterals.{Known, carry}
-use Rattle.config_file.proofs.EachValue.{test_not}
 use Rattle.config_file.proofs.Runs.{run_split}
+use Rattle.config_file.proofs.Sets.{test, equal, given, cons_same, same, class_at}
 use Rattle.config_file.proofs.Sets.{not_opened, stands, stands_unwanted, stands_for_no_slash}
 use Rattle.config_file.proofs.Patterns.{no_item, byte_item, escaped_item, set_item, no_escaped_item}
 use Rattle.config_file.proofs.Patterns.{no_set_item, no_byte_item}
@@ -26,17 +26,6 @@ use Rattle.config_file.specs.Pattern.{stands_for, crosses, is_passed, is_star}
 
 -- ---- choices, which compute
 
-abbrev test : {X : Type 0} (b : Bool) → (b ≡ true → X) → (b ≡ false → X) → X
-test true one other = one refl
-test false one other = other refl
-
-abbrev equal : {X : Type 0} (c d : ℕ) → (c ≡ d → X) → (c ≢ d → X) → X
-equal c d one other = test (c == d) (λ e. one (eqb-true c d e)) (λ e. other (test_not c d e))
-
-abbrev given : {A B : Type 0} → Option A → (A → Option B) → Option B
-given None more = None
-given (Some a) more = more a
-
 abbrev decided : {A B C : Type 0} → Option (A ⊎ B) → (A → Option C) → (B → Option C) → Option C
 decided None one other = None
 decided (Some (inl a)) one other = one a
@@ -49,40 +38,11 @@ answer (Some (inr b)) one other = Some (inr (other b))
 
 -- ---- sets
 
-pub cons_same : {x y : ℕ} {a b : List ℕ} → x ≡ y → a ≡ b → x ∷ a ≡ y ∷ b
-cons_same e f = rw (e, f)
-
 pub cons_head : {x y : ℕ} {a b : List ℕ} → x ∷ a ≡ y ∷ b → x ≡ y
 cons_head e = cc
 
 pub no_cons : {x : ℕ} {a : List ℕ} → [] ≢ x ∷ a
 no_cons e = cc
-
-abbrev same : (a b : List ℕ) → Option (a ≡ b)
-same [] [] = Some refl
-same (x ∷ a) (y ∷ b) = equal x y (λ head. given (same a b) (λ tail. Some (cons_same head tail))) (λ other. None)
-same a b = None
-
-abbrev or_class : {i : Bool} {b : ℕ} {name : List ℕ} (word : List ℕ) (has : Bool)
-    → (name ≡ word → has ≡ has → Class i b name has)
-    → Known (Class i b name) → Known (Class i b name)
-or_class {name = name} word has makes others =
-    elim (same name word) [ None ↦ others | Some e ↦ Some (has, makes e refl) ]
-
-abbrev class_at : (i : Bool) (b : ℕ) (name : List ℕ) → Known (Class i b name)
-class_at i b name =
-    or_class (codes "alnum") _ set.alnum
-    (or_class (codes "alpha") _ set.alpha
-    (or_class (codes "blank") _ set.blank
-    (or_class (codes "cntrl") _ set.cntrl
-    (or_class (codes "digit") _ set.digit
-    (or_class (codes "graph") _ set.graph
-    (or_class (codes "lower") _ set.lower
-    (or_class (codes "print") _ set.print
-    (or_class (codes "punct") _ set.punct
-    (or_class (codes "space") _ set.spaces
-    (or_class (codes "upper") _ set.upper
-    (or_class (codes "xdigit") _ set.xdigit None)))))))))))
 
 abbrev Byte : Bool → List ℕ → Type 0
 Byte starts text = Known (λ (p : ℕ × List ℕ). SetByte starts text p.0 p.1)

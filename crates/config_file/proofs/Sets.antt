@@ -1,7 +1,8 @@
 -- Sets of bytes in patterns: their classes, their members, and what they match.
 use Rattle.std.proofs.Common.{◌≡◌, ◌≢◌, ℕ, ◌<◌, ◌≤◌, ◌⊎◌, Bool, true, false, ◌||◌, ◌&&◌, ◌==◌}
-use Rattle.std.proofs.Common.{if◌then◌else◌, List, [], ◌∷◌, ◌++◌, Option, None, Some, length, drop, get_or, length-append}
-use Rattle.std.proofs.Common.{codes, refl, sym, ap, ◌∙◌, subst, arith, inl, inr, append_assoc}
+use Rattle.std.proofs.Common.{if◌then◌else◌, List, [], ◌∷◌, ◌++◌, Option, None, Some, length, drop, get_or}
+use Rattle.std.proofs.Common.{codes, option_map, eqb-true, refl, sym, ap, ◌∙◌, subst, arith, inl, inr}
+use Rattle.std.proofs.Common.{append_assoc, length-append}
 use Rattle.std.specs.List.{list_all}
 use Rattle.std.specs.Str.{bytes_eq}
 use Rattle.std.specs.Char.{is_ascii_alphanumeric, is_ascii_alphabetic, is_ascii_digit, is_ascii_control}
@@ -9,7 +10,7 @@ use Rattle.std.specs.Char.{is_ascii_graphic}
 use Rattle.std.specs.Char.{is_ascii_punctuation, is_ascii_hexdigit, is_ascii_lowercase, is_ascii_uppercase}
 use Rattle.std.proofs.lemmas.List.{append_cancel_left, append_cancel_right}
 use Rattle.std.proofs.lemmas.Option.{same_Some}
-use Rattle.std.proofs.lemmas.Bool.{cases_Bool, true≢false, and_parts}
+use Rattle.std.proofs.lemmas.Bool.{eqb-false, cases_Bool, true≢false, and_parts}
 use Rattle.std.proofs.lemmas.Bool.Decides.{nat_tests}
 use Rattle.std.proofs.Math.Bool.{or_assoc, or-false}
 use Rattle.config_text.specs.Bytes.{LacksFront}
@@ -23,6 +24,22 @@ use Rattle.config_file.specs.Set.{SetByte, bare, after_backslash, RangeEnd, to, 
 use Rattle.config_file.specs.Set.{SetHas, closes, has}
 use Rattle.config_file.specs.Set.{Class, alnum, alpha, blank, cntrl, digit, graph, lower, print, punct}
 use Rattle.config_file.specs.Set.{spaces, upper, xdigit}
+
+-- ---- choices, which compute
+
+abbrev pub test : {X : Type 0} (b : Bool) → (b ≡ true → X) → (b ≡ false → X) → X
+test true one other = one refl
+test false one other = other refl
+
+abbrev pub equal : {X : Type 0} (c d : ℕ) → (c ≡ d → X) → (c ≢ d → X) → X
+equal c d one other = test (c == d) (λ e. one (eqb-true c d e)) (λ e. other (eqb-false c d e))
+
+abbrev pub given : {A B : Type 0} → Option A → (A → Option B) → Option B
+given None more = None
+given (Some a) more = more a
+
+pub cons_same : {x y : ℕ} {a b : List ℕ} → x ≡ y → a ≡ b → x ∷ a ≡ y ∷ b
+cons_same e f = rw (e, f)
 
 -- ---- classes
 
@@ -87,45 +104,52 @@ class_unique {name = name} {name2 = name2} one other =
     let (names, rests) = same_run one.opened one.closed other in
     (append_cancel_right name name2 (codes ":") names, ap (λ l. drop 1 l) rests)
 
--- the classes by name, and whether each has the byte
-abbrev rows : Bool → ℕ → List (List ℕ × Bool)
-rows i b =
-    (codes "alnum", is_ascii_alphanumeric b)
-    ∷ (codes "alpha", is_ascii_alphabetic b)
-    ∷ (codes "blank", is_space b)
-    ∷ (codes "cntrl", is_ascii_control b)
-    ∷ (codes "digit", is_ascii_digit b)
-    ∷ (codes "graph", is_ascii_graphic b)
-    ∷ (codes "lower", is_ascii_lowercase b || (i && is_ascii_uppercase b))
-    ∷ (codes "print", b == 32 || is_ascii_graphic b)
-    ∷ (codes "punct", is_ascii_punctuation b)
-    ∷ (codes "space", is_blank b || b == 10)
-    ∷ (codes "upper", is_ascii_uppercase b || (i && is_ascii_lowercase b))
-    ∷ (codes "xdigit", is_ascii_hexdigit b)
-    ∷ []
+abbrev pub same : (a b : List ℕ) → Option (a ≡ b)
+same [] [] = Some refl
+same (x ∷ a) (y ∷ b) = equal x y (λ head. given (same a b) (λ tail. Some (cons_same head tail))) (λ other. None)
+same a b = None
 
-abbrev row_of : List (List ℕ × Bool) → List ℕ → Option Bool
-row_of [] name = None
-row_of ((word, here) ∷ rows) name = if bytes_eq name word then Some here else row_of rows name
+abbrev or_class : {i : Bool} {b : ℕ} {name : List ℕ} (word : List ℕ) (held : Bool)
+    → (name ≡ word → held ≡ held → Class i b name held)
+    → Option ((held : Bool) × Class i b name held) → Option ((held : Bool) × Class i b name held)
+or_class {name = name} word held makes others =
+    elim (same name word) [ None ↦ others | Some e ↦ Some (held, makes e refl) ]
 
-class_row : {i : Bool} {b : ℕ} {name : List ℕ} {h : Bool} → Class i b name h → row_of (rows i b) name ≡ Some h
-class_row (alnum e f) = rw e (ap Some (sym f))
-class_row (alpha e f) = rw e (ap Some (sym f))
-class_row (blank e f) = rw e (ap Some (sym f))
-class_row (cntrl e f) = rw e (ap Some (sym f))
-class_row (digit e f) = rw e (ap Some (sym f))
-class_row (graph e f) = rw e (ap Some (sym f))
-class_row (lower e f) = rw e (ap Some (sym f))
-class_row (print e f) = rw e (ap Some (sym f))
-class_row (punct e f) = rw e (ap Some (sym f))
-class_row (spaces e f) = rw e (ap Some (sym f))
-class_row (upper e f) = rw e (ap Some (sym f))
-class_row (xdigit e f) = rw e (ap Some (sym f))
+-- the class of this name, with whether it has the byte
+abbrev pub class_at : (i : Bool) (b : ℕ) (name : List ℕ) → Option ((held : Bool) × Class i b name held)
+class_at i b name =
+    or_class (codes "alnum") _ alnum
+    (or_class (codes "alpha") _ alpha
+    (or_class (codes "blank") _ blank
+    (or_class (codes "cntrl") _ cntrl
+    (or_class (codes "digit") _ digit
+    (or_class (codes "graph") _ graph
+    (or_class (codes "lower") _ lower
+    (or_class (codes "print") _ print
+    (or_class (codes "punct") _ punct
+    (or_class (codes "space") _ spaces
+    (or_class (codes "upper") _ upper
+    (or_class (codes "xdigit") _ xdigit None)))))))))))
+
+class_is : {i : Bool} {b : ℕ} {name : List ℕ} {h : Bool} → Class i b name h
+    → option_map (λ k. k.0) (class_at i b name) ≡ Some h
+class_is (alnum e f) = rw e (ap Some (sym f))
+class_is (alpha e f) = rw e (ap Some (sym f))
+class_is (blank e f) = rw e (ap Some (sym f))
+class_is (cntrl e f) = rw e (ap Some (sym f))
+class_is (digit e f) = rw e (ap Some (sym f))
+class_is (graph e f) = rw e (ap Some (sym f))
+class_is (lower e f) = rw e (ap Some (sym f))
+class_is (print e f) = rw e (ap Some (sym f))
+class_is (punct e f) = rw e (ap Some (sym f))
+class_is (spaces e f) = rw e (ap Some (sym f))
+class_is (upper e f) = rw e (ap Some (sym f))
+class_is (xdigit e f) = rw e (ap Some (sym f))
 
 class_only : {i : Bool} {b : ℕ} {name name2 : List ℕ} {h h2 : Bool} → Class i b name h → Class i b name2 h2
     → name ≡ name2 → h ≡ h2
 class_only {i = i} {b = b} one other e =
-    same_Some _ _ (sym (class_row one) ∙ ap (row_of (rows i b)) e ∙ class_row other)
+    same_Some _ _ (sym (class_is one) ∙ ap (λ n. option_map (λ k. k.0) (class_at i b n)) e ∙ class_is other)
 
 -- ---- members
 
