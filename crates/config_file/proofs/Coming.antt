@@ -1,15 +1,14 @@
 -- A loop over the steps of a walk, which adds settings.
 use Rattle.std.proofs.Common.{arith, inl, inr, ◌≡◌, ◌≤◌, ◌++◌, ℕ, Bool, true, false, List, [], ◌∷◌}
-use Rattle.std.proofs.Common.{subst, refl, sym, length, map}
+use Rattle.std.proofs.Common.{subst, refl, length, map}
 use Rattle.std.specs.Prelude.{Ok, Err}
-use Rattle.std.proofs.lemmas.Bool.{true≢false, false≢true}
 use Rattle.std.proofs.lemmas.List.{append_assoc, append-nil, map-append}
 use Rattle.std.proofs.lemmas.List.Elements.{Contains-push, Contains-append_left, Contains-append_right}
 use Rattle.std.proofs.lemmas.List.Elements.{Contains-append_cases, Contains-push_cases}
 use Rattle.config_file.specs.File.{Entry}
 use Rattle.config_file.specs.Settings.{AddsEach, AddsWalk, TellsStop, found_item, IsPassed}
 use Rattle.config_file.specs.Settings.{IsEntered, IsStop}
-use Rattle.config_file.specs.Walk.{Content, Item, Stops, Stop, Walks, WalksText}
+use Rattle.config_file.specs.Walk.{Content, Item, Stops, Stop, WalksText}
 use Rattle.config_file.specs.Walk as w
 use Rattle.config_file.specs.Reading.Adds.{Comes, AddsNext}
 use Rattle.config_file.specs.Reading.Walks.{Left, nothing, Enters, Passes, Said, Takes}
@@ -19,7 +18,6 @@ use Rattle.config_file.specs.declared.errors.FileError.{FileError}
 use Rattle.config_file.specs.declared.walk.Include.{Include}
 use Rattle.config_file.specs.declared.walk.Include.TheVariants.{NotFollowed, MissingValue, UnknownDirectory}
 use Rattle.config_file.specs.declared.walk.Include.TheVariants.{Named}
-use Rattle.config_file.specs.declared.walk.Step.{Step}
 use Rattle.config_file.specs.declared.walk.Step.TheVariants as step
 use Rattle.config_file.specs.declared.settings.AddError.{AddError}
 use Rattle.config_file.specs.declared.settings.AddError.TheVariants as error
@@ -35,8 +33,14 @@ use Rattle.config_file.proofs.Steps.{all_of, cut_here, walks_as}
 none_said : (name : List ℕ) (content : Content) → Said [] name content → ⊥
 none_said name content said = let below = said.1 in omega arith
 
-abbrev TakesEach : Known → List Frame → Step → List Frame → Type 0
-TakesEach known old taken new = (answers : List (List ℕ × Content)) → Takes answers known old taken new
+-- what the loop keeps: the entries that are added are those that the walk has come to
+pub record Keeps (contents : List ℕ → Content → Type 0) (known : Known) (place : FilePlace) (text : List ℕ)
+    (start now : List Setting) (frames : List Frame) : Type 0 where
+  pub first : List Frame
+  pub enters : Enters [] place text first
+  pub found : List (List ℕ × Entry)
+  pub adds : AddsEach found start now
+  pub comes : Comes contents known first (map found_item found) frames
 
 module _ (contents : List ℕ → Content → Type 0) (known : Known) where
   comes_from : (old new : List Frame) (items : List (List ℕ × Item))
@@ -44,9 +48,6 @@ module _ (contents : List ℕ → Content → Type 0) (known : Known) where
       → Comes contents known old items new
   comes_from old new items passes =
       ([], λ name content said. absurd (none_said name content said), λ more within. passes more)
-
-  comes_none : (frames : List Frame) → Comes contents known frames [] frames
-  comes_none frames = comes_from frames frames [] (λ answers left whole has. has)
 
   comes_with : (old new : List Frame) (items : List (List ℕ × Item)) (name : List ℕ) (content : Content)
       → contents name content
@@ -61,178 +62,165 @@ module _ (contents : List ℕ → Content → Type 0) (known : Known) where
     λ more within. passes more (within name content (Contains-push [] (name, content))),
   )
 
-  comes_both : (old mid new : List Frame) (items more : List (List ℕ × Item))
-      → Comes contents known old items mid → Comes contents known mid more new
-      → Comes contents known old (items ++ more) new
+  comes_none : (frames : List Frame) → Comes contents known frames [] frames
+  comes_none frames = comes_from frames frames [] (λ answers left whole has. has)
+
+  comes_both : (old mid new : List Frame) (items more : List (List ℕ × Item)) → Comes contents known old items mid
+      → Comes contents known mid more new → Comes contents known old (items ++ more) new
   comes_both old mid new items more (said, among, passes) (said2, among2, passes2) = (
     said ++ said2,
-    λ n c is. elim (Contains-append_cases said said2 (n, c) is) [
-      | inl here ↦ among n c here
-      | inr there ↦ among2 n c there
-    ],
-    λ all within left whole has.
-        subst (λ is. Left (Said all) known old is whole) (sym (append_assoc items more left))
+    λ n c is. elim (Contains-append_cases said said2 (n, c) is) [ inl one ↦ among n c one | inr two ↦ among2 n c two ],
+    λ all within left whole has. rw (append_assoc items more left)
         (passes all (λ n c is. within n c (Contains-append_left said said2 (n, c) is)) (more ++ left) whole
         (passes2 all (λ n c is. within n c (Contains-append_right said said2 (n, c) is)) left whole has)),
   )
 
--- what the loop keeps: the entries that are added are those that the walk has come to
-pub record Keeps (contents : List ℕ → Content → Type 0) (known : Known) (place : FilePlace) (text : List ℕ)
-    (start now : List Setting) (frames : List Frame) : Type 0 where
-  first : List Frame
-  enters : Enters [] place text first
-  found : List (List ℕ × Entry)
-  adds : AddsEach found start now
-  comes : Comes contents known first (map found_item found) frames
+  -- an entry that is passed
+  pub passed_next : (old new : List Frame) (place : FilePlace) (entry : code.Entry) (include : Include)
+      → ((answers : List (List ℕ × Content)) → Takes answers known old (step.Entry place entry include) new)
+      → IsPassed contents include
+      → Comes contents known old (found_item (place.name.now, entry_of entry) ∷ []) new
+  passed_next old new place entry NotFollowed takes is =
+      comes_from old new (found_item (place.name.now, entry_of entry) ∷ []) takes
+  passed_next old new place entry (Named name) takes is =
+      comes_with old new (found_item (place.name.now, entry_of entry) ∷ []) name.items w.Missing is
+      (λ answers said. (takes answers).missing said)
+  passed_next old new place entry include takes is = absurd is
 
-pub keeps_first : {contents : List ℕ → Content → Type 0} {known : Known} {place : FilePlace} {text : List ℕ}
-    {settings : List Setting} {frames : List Frame} → Enters [] place text frames
-    → Keeps contents known place text settings settings frames
-keeps_first {contents = contents} {known = known} {settings = settings} {frames = frames} enters =
-    record {
-      first = frames;
-      enters = enters;
-      found = [];
-      adds = adds_none settings;
-      comes = comes_none contents known frames;
-    }
+  -- an entry that is followed
+  pub entered_next : (old new newer : List Frame) (place at : FilePlace) (entry : code.Entry) (include : Include)
+      (text : List ℕ)
+      → ((answers : List (List ℕ × Content)) → Takes answers known old (step.Entry place entry include) new)
+      → IsEntered contents at text include → Enters new at text newer
+      → Comes contents known old (found_item (place.name.now, entry_of entry) ∷ []) newer
+  entered_next old new newer place at entry (Named name) text takes (same, is) enters =
+      comes_with old newer (found_item (place.name.now, entry_of entry) ∷ []) at.name.now (w.Text at.real_dir.now text) is
+      (λ answers said. (takes answers).entered at text newer same said enters)
+  entered_next old new newer place at entry include text takes is enters = absurd is
 
-module _
-    {contents : List ℕ → Content → Type 0} {known : Known} {place : FilePlace} {text : List ℕ}
-    {start now : List Setting} {frames : List Frame}
-    (k : Keeps contents known place text start now frames) where
-  -- the walk, if it comes to these items next and then ends or is cut
-  ended : (to : List Frame) (items : List (List ℕ × Item)) (whole : Bool)
-      → Comes contents known frames items to
+  -- an entry that is included too deep
+  pub deep_next : (old new : List Frame) (place at : FilePlace) (entry : code.Entry) (include : Include)
+      (text : List ℕ)
+      → ((answers : List (List ℕ × Content)) → Takes answers known old (step.Entry place entry include) new)
+      → IsEntered contents at text include → length new ≡ 11
+      → Comes contents known old (found_item (place.name.now, entry_of entry)
+      ∷ (place.name.now, Stops (w.TooDeep (entry_of entry))) ∷ []) new
+  deep_next old new place at entry (Named name) text takes (same, is) full =
+      comes_with old new
+      (found_item (place.name.now, entry_of entry) ∷ (place.name.now, Stops (w.TooDeep (entry_of entry))) ∷ [])
+      name.items (w.Text at.real_dir.now text) (rw same at is)
+      (λ answers said. (takes answers).too_deep at.real_dir.now text said full)
+  deep_next old new place at entry include text takes is full = absurd is
+
+  -- an entry at which Git stops
+  pub stop_comes : (old new : List Frame) (place : FilePlace) (entry : code.Entry) (include : Include)
+      (why : IncludeFault)
+      → ((answers : List (List ℕ × Content)) → Takes answers known old (step.Entry place entry include) new)
+      → IsStop contents include why
+      → (stop : Stop) × TellsStop place.name.now stop (error.Include place.name entry.line why)
+      × Comes contents known old (found_item (place.name.now, entry_of entry) ∷ (place.name.now, Stops stop) ∷ []) new
+  stop_comes old new place entry MissingValue why takes is = (
+    w.NoValue (entry_of entry),
+    (refl, refl, rw is tt),
+    comes_from old new
+        (found_item (place.name.now, entry_of entry) ∷ (place.name.now, Stops (w.NoValue (entry_of entry))) ∷ []) takes,
+  )
+  stop_comes old new place entry UnknownDirectory why takes is = (
+    w.Unknown (entry_of entry),
+    (refl, refl, rw is tt),
+    comes_from old new
+        (found_item (place.name.now, entry_of entry) ∷ (place.name.now, Stops (w.Unknown (entry_of entry))) ∷ []) takes,
+  )
+  stop_comes old new place entry (Named name) (fault.Unreadable why) takes is = (
+    w.NotRead (entry_of entry),
+    (refl, refl, tt),
+    comes_with old new
+        (found_item (place.name.now, entry_of entry) ∷ (place.name.now, Stops (w.NotRead (entry_of entry))) ∷ [])
+        name.items w.Unreadable is (λ answers said. (takes answers).not_read said),
+  )
+  stop_comes old new place entry include why takes is = absurd is
+
+  -- a line that cannot be read
+  pub line_next : (old new : List Frame) (place : FilePlace) (at : FileError)
+      → ((answers : List (List ℕ × Content)) → Takes answers known old (step.Line place at) new)
+      → Comes contents known old ((place.name.now, Stops (w.Line at)) ∷ []) new
+  line_next old new place at takes = comes_from old new ((place.name.now, Stops (w.Line at)) ∷ []) takes
+
+  -- the end
+  pub ends_next : (settings : List Setting) (old new : List Frame)
+      → ((answers : List (List ℕ × Content)) → Takes answers known old step.Ends new)
+      → AddsNext contents known old new settings settings (Ok false)
+  ends_next settings old new takes =
+      (refl, (takes []).0, comes_from old new [] (λ answers. (takes answers).1))
+
+pub keeps_first : (contents : List ℕ → Content → Type 0) (known : Known) (place : FilePlace) (text : List ℕ)
+    (start : List Setting) (frames : List Frame) → Enters [] place text frames
+    → Keeps contents known place text start start frames
+keeps_first contents known place text start frames enters =
+    record { first = frames; enters = enters; found = []; adds = adds_none start; comes = comes_none contents known frames }
+
+module _ {contents : List ℕ → Content → Type 0} {known : Known} {place : FilePlace} {text : List ℕ}
+    {start now : List Setting} {frames : List Frame} (keeps : Keeps contents known place text start now frames) where
+  comes_on : (more : List (List ℕ × Entry)) (rest : List (List ℕ × Item)) (to : List Frame)
+      → Comes contents known frames (map found_item more ++ rest) to
+      → Comes contents known keeps.first (map found_item (keeps.found ++ more) ++ rest) to
+  comes_on more rest to step =
+      rw (map-append found_item keeps.found more, append_assoc (map found_item keeps.found) (map found_item more) rest)
+      (comes_both contents known keeps.first frames to (map found_item keeps.found) (map found_item more ++ rest)
+      keeps.comes step)
+
+  -- the walk that is left, if nothing more comes
+  walked : (more : List (List ℕ × Entry)) (rest : List (List ℕ × Item)) (to : List Frame) (whole : Bool)
+      → Comes contents known frames (map found_item more ++ rest) to
       → ((answers : List (List ℕ × Content)) → Left (Said answers) known to [] whole)
-      → WalksText contents known place text (map found_item k.found ++ items) whole
-  ended to items whole comes rest =
-      let all = map found_item k.found ++ items in
-      let (said, among, passes) =
-      comes_both contents known k.first frames to (map found_item k.found) items k.comes comes in
-      let (entries, error, reads, walks) =
-      all_of (Said said) known place text k.first (all ++ []) whole k.enters
-      (passes said (λ n c is. is) [] whole (rest said)) in (
-        entries,
-        error,
-        reads,
-        subst (λ is. Walks contents known 10 place entries error is whole) (append-nil all)
-            (walks_as among (λ e. e) walks),
-      )
+      → WalksText contents known place text (map found_item (keeps.found ++ more) ++ rest) whole
+  walked more rest to whole step ended =
+      let items = map found_item (keeps.found ++ more) ++ rest in
+      let (said, among, passes) = comes_on more rest to step in
+      let (entries, error, reads, walks) = all_of (Said said) known place text keeps.first items whole keeps.enters
+      (rw (append-nil items) at (passes said (λ n c is. is) [] whole (ended said))) in
+      (entries, error, reads, walks_as among whole (λ e. e) walks)
 
-  pub keeps_more : {newer : List Setting} {to : List Frame} (b : Bool) → b ≡ true
-      → AddsNext contents known frames to now newer (Ok b)
-      → Keeps contents known place text start newer to
-  keeps_more false e next = absurd (false≢true e)
-  keeps_more {newer = newer} {to = to} true e (one, more, step) =
-      record {
-        first = k.first;
-        enters = k.enters;
-        found = k.found ++ one ∷ [];
-        adds = adds_both k.found (one ∷ []) start now newer k.adds more;
-        comes = rw (map-append found_item k.found (one ∷ []))
-            (comes_both contents known k.first frames to (map found_item k.found) _ k.comes step);
-      }
-
-  pub keeps_end : (newer : List Setting) (to : List Frame) (b : Bool) (u : Unit {0}) → b ≡ false
-      → AddsNext contents known frames to now newer (Ok b)
-      → AddsWalk contents known place text start newer (Ok u)
-  keeps_end newer to true u e next = absurd (true≢false e)
-  keeps_end newer to false u e (same, none, comes) =
-      (k.found, rw same k.adds, rw append-nil at (ended to [] true comes (λ answers. rw none nothing)))
+  pub keeps_more : (newer : List Setting) (to : List Frame) (b : Bool) → b ≡ true
+      → AddsNext contents known frames to now newer (Ok b) → Keeps contents known place text start newer to
+  keeps_more newer to false e next = cc
+  keeps_more newer to true e (one, more, step) = record {
+    first = keeps.first;
+    enters = keeps.enters;
+    found = keeps.found ++ one ∷ [];
+    adds = adds_both keeps.found (one ∷ []) start now newer keeps.adds more;
+    comes = rw (append-nil (map found_item (keeps.found ++ one ∷ []))) at (comes_on (one ∷ []) [] to step);
+  }
 
   pub keeps_memory : (newer : List Setting) (refused : _) → length frames ≤ 11 → newer ≡ now
       → AddsWalk contents known place text start newer (Err (error.Memory refused))
   keeps_memory newer refused fits same = (
-    k.found,
-    rw same k.adds,
-    rw append-nil at (ended frames [] false (comes_none contents known frames)
-        (λ answers. cut_here (Said answers) known frames fits)),
+    keeps.found,
+    rw same keeps.adds,
+    rw (append-nil keeps.found, append-nil (map found_item keeps.found)) at (walked [] [] frames false
+        (comes_none contents known frames) (λ answers. cut_here (Said answers) known frames fits)),
+  )
+
+  pub keeps_end : (newer : List Setting) (to : List Frame) (b : Bool) (u : Unit {0}) → b ≡ false
+      → AddsNext contents known frames to now newer (Ok b)
+      → AddsWalk contents known place text start newer (Ok u)
+  keeps_end newer to true u e next = cc
+  keeps_end newer to false u e (same, none, step) = (
+    keeps.found,
+    rw same keeps.adds,
+    rw (append-nil keeps.found, append-nil (map found_item keeps.found)) at (walked [] [] to true step
+        (λ answers. rw none nothing)),
   )
 
   pub keeps_error : (newer : List Setting) (to : List Frame) (e : AddError) → length frames ≤ 11
       → AddsNext contents known frames to now newer (Err e)
       → AddsWalk contents known place text start newer (Err e)
-  keeps_error newer to (error.Memory refused) fits same = keeps_memory newer refused fits same
-  keeps_error newer to e fits (more, file, stop, adds, tells, (last, few, comes)) = (
-    k.found ++ more,
+  keeps_error newer to (error.Memory r) fits same = keeps_memory newer r fits same
+  keeps_error newer to e fits (more, file, stop, adds, tells, (last, small, step)) = (
+    keeps.found ++ more,
     file,
     stop,
-    adds_both k.found more start now newer k.adds adds,
+    adds_both keeps.found more start now newer keeps.adds adds,
     tells,
-    rw (map-append found_item k.found more, append_assoc)
-        (ended last (map found_item more ++ (file, Stops stop) ∷ []) false comes
-        (λ answers. cut_here (Said answers) known last few)),
+    walked more ((file, Stops stop) ∷ []) last false step (λ answers. cut_here (Said answers) known last small),
   )
-
--- an entry of a step, and a place in its file where Git stops
-abbrev entry_item : FilePlace → code.Entry → List ℕ × Item
-entry_item place entry = found_item (place.name.now, entry_of entry)
-
-abbrev and_stop : FilePlace → code.Entry → Stop → List (List ℕ × Item)
-and_stop place entry stop = entry_item place entry ∷ (place.name.now, Stops stop) ∷ []
-
-module _
-    (contents : List ℕ → Content → Type 0) (known : Known) (old new : List Frame) (place : FilePlace) where
-  -- a line that cannot be read
-  pub line_next : (at : FileError) → TakesEach known old (step.Line place at) new
-      → Comes contents known old ((place.name.now, Stops (w.Line at)) ∷ []) new
-  line_next at takes = comes_from contents known old new ((place.name.now, Stops (w.Line at)) ∷ []) takes
-
-  -- an entry that is passed
-  pub passed_next : (entry : code.Entry) (include : Include)
-      → TakesEach known old (step.Entry place entry include) new → IsPassed contents include
-      → Comes contents known old (entry_item place entry ∷ []) new
-  passed_next entry NotFollowed takes is =
-      comes_from contents known old new (entry_item place entry ∷ []) takes
-  passed_next entry (Named name) takes is =
-      comes_with contents known old new (entry_item place entry ∷ []) name.items w.Missing is
-      (λ answers said. (takes answers).missing said)
-  passed_next entry _ takes is = absurd is
-
-  -- an entry that is followed
-  pub entered_next : (newer : List Frame) (at : FilePlace) (entry : code.Entry) (include : Include)
-      (text : List ℕ) → TakesEach known old (step.Entry place entry include) new
-      → IsEntered contents at text include
-      → Enters new at text newer → Comes contents known old (entry_item place entry ∷ []) newer
-  entered_next newer at entry (Named name) text takes (same, is) enters =
-      comes_with contents known old newer (entry_item place entry ∷ []) at.name.now
-      (w.Text at.real_dir.now text) is
-      (λ answers said. (takes answers).entered at text newer same said enters)
-  entered_next newer at entry _ text takes is enters = absurd is
-
-  -- an entry that is included too deep
-  pub deep_next : (at : FilePlace) (entry : code.Entry) (include : Include) (text : List ℕ)
-      → TakesEach known old (step.Entry place entry include) new → IsEntered contents at text include
-      → length new ≡ 11 → Comes contents known old (and_stop place entry (w.TooDeep (entry_of entry))) new
-  deep_next at entry (Named name) text takes (same, is) full =
-      comes_with contents known old new (and_stop place entry (w.TooDeep (entry_of entry))) name.items
-      (w.Text at.real_dir.now text) (rw same at is)
-      (λ answers said. (takes answers).too_deep at.real_dir.now text said full)
-  deep_next at entry _ text takes is full = absurd is
-
-  -- an entry at which Git stops
-  pub stop_comes : (entry : code.Entry) (include : Include) (why : IncludeFault)
-      → TakesEach known old (step.Entry place entry include) new → IsStop contents include why
-      → (stop : Stop) × TellsStop place.name.now stop (error.Include place.name entry.line why)
-      × Comes contents known old (and_stop place entry stop) new
-  stop_comes entry MissingValue why takes is =
-      let stop = w.NoValue (entry_of entry) in
-      (stop, (refl, refl, rw is tt), comes_from contents known old new (and_stop place entry stop) takes)
-  stop_comes entry UnknownDirectory why takes is =
-      let stop = w.Unknown (entry_of entry) in
-      (stop, (refl, refl, rw is tt), comes_from contents known old new (and_stop place entry stop) takes)
-  stop_comes entry (Named name) (fault.Unreadable why) takes is = (
-    w.NotRead (entry_of entry),
-    (refl, refl, tt),
-    comes_with contents known old new (and_stop place entry (w.NotRead (entry_of entry))) name.items
-        w.Unreadable is (λ answers said. (takes answers).not_read said),
-  )
-  stop_comes entry _ _ takes is = absurd is
-
--- the end
-pub ends_next : (contents : List ℕ → Content → Type 0) (known : Known) (settings : List Setting)
-    (old new : List Frame) → TakesEach known old step.Ends new
-    → AddsNext contents known old new settings settings (Ok false)
-ends_next contents known settings old new takes =
-    (refl, (takes []).0, comes_from contents known old new [] (λ answers. (takes answers).1))

@@ -1,15 +1,13 @@
 -- What conditions on the git directory match.
-use Rattle.std.proofs.Common.{◌≡◌, ◌≢◌, ℕ, ◌<◌, Bool, true, false, List, ◌++◌, take, drop, length, codes}
+use Rattle.std.proofs.Common.{◌≡◌, ℕ, Bool, true, false, List, ◌++◌, codes}
 use Rattle.std.proofs.Common.{IsTrue, ◌↔◌, ◌⊎◌}
 use Rattle.std.specs.Prelude.{Result, Ok, Err, IfOk}
 use Rattle.std.specs.declared.alloc.AllocError.{AllocError}
-use Rattle.std.proofs.Common.{inl, inr, rules, refl, [], ◌∷◌, sym, ap, ◌∙◌, subst, arith, Option, None, Some}
+use Rattle.std.proofs.Common.{inl, inr, rules, refl, [], ◌∷◌, sym, ap, ◌∙◌, Option, None, Some}
 use Rattle.std.proofs.Common.{map}
 use Rattle.std.proofs.lemmas.Option.{same_Some, none-some}
-use Rattle.std.specs.List.{IsSplitAt}
 use Rattle.std.specs.Char.{to_ascii_lowercase}
-use Rattle.std.proofs.Math.Seq.{take-append_seam, drop-append_seam}
-use Rattle.std.proofs.lemmas.List.{append_cancel_left, length-append, length-map, take-append-drop}
+use Rattle.std.proofs.lemmas.List.{append_cancel_left}
 use Rattle.config_text.specs.Bytes.{LacksFront}
 use Rattle.config_file.specs.File.{Entry}
 use Rattle.config_file.specs.Header.{Section}
@@ -22,58 +20,21 @@ use Rattle.config_file.specs.Pattern.{MatchesText}
 use Rattle.std.proofs.lemmas.Bool.Decides.{eqb_tells}
 use Rattle.config_file.specs.Path.{BeginsUnknown, user, no_home, no_prefix, Expands, below_home, below_prefix}
 use Rattle.config_file.specs.Path as p
-use Rattle.config_file.specs.Walk.{IsNameOf}
-use Rattle.config_file.specs.declared.path.Directories.{Directories}
 use Rattle.config_file.specs.declared.include.Condition.{Condition}
 use Rattle.config_file.specs.declared.include.Condition.TheVariants.{Always}
 use Rattle.config_file.specs.declared.include.Includes.{Includes}
 use Rattle.config_file.proofs.Patterns.{no_match}
 
-same_length : (i : Bool) (a b : List ℕ) → IsSameName i a b → length a ≡ length b
-same_length true a b e = sym (length-map a to_ascii_lowercase) ∙ ap length e ∙ length-map b to_ascii_lowercase
-same_length false a b e = ap length e
-
--- a name has only one front of this many bytes, and only one rest after it
-fronts : (front left name : List ℕ) (n : ℕ) → name ≡ front ++ left → length front ≡ n
-    → (front ≡ take n name) × (left ≡ drop n name)
-fronts front left name n e l =
-    rw (sym l, e) (sym (take-append_seam front left), sym (drop-append_seam front left))
-
-pub too_short : (i : Bool) (dir pattern name : List ℕ) → length name < length dir
-    → ¬ (MatchesBelow i dir pattern name)
-too_short i dir pattern name short (front, left, e, same, matches) =
-    let lengths = same_length i front dir same in
-    let whole = ap length e ∙ length-append front left in
-    omega arith
-
-pub another_front : (i : Bool) (dir pattern name : List ℕ) {front left : List ℕ}
-    → IsSplitAt name (length dir) front left
-    → ¬ (IsSameName i front dir) → ¬ (MatchesBelow i dir pattern name)
-another_front i dir pattern name split differs (front2, left2, e, same, matches) =
-    let lengths = same_length i front2 dir same in
-    let here = fronts front2 left2 name (length dir) e lengths in
-    differs (subst (λ f. IsSameName i f dir) (here.0 ∙ sym split.1) same)
-
-pub same_front : (i : Bool) (dir pattern name : List ℕ) {m : Bool} {front left : List ℕ}
-    → IsSplitAt name (length dir) front left → IsSameName i front dir
-    → (IsTrue m ↔ (MatchesText i pattern left)) → IsTrue m ↔ (MatchesBelow i dir pattern name)
-same_front i dir pattern name {front = front} {left = left} split same is = (
-  λ yes. (front, left, rw (split.1, split.2) (sym (take-append-drop (length dir) name)), same, is.0 yes),
-  λ matches. let (front2, left2, e, same2, rest) = matches in
-      let here = fronts front2 left2 name (length dir) e (same_length i front2 dir same2) in
-      is.1 (subst (λ l. MatchesText i pattern l) (here.1 ∙ sym split.2) rest),
-)
-
 pub is_near : {i h : Bool} {dir name rest slashed whole : List ℕ} (pattern : List ℕ)
     → pattern ≡ codes "./" ++ rest
     → slashed ≡ codes "/" ++ rest → whole ≡ below slashed → (IsTrue h ↔ (MatchesBelow i dir whole name))
     → IsTrue h ↔ (MatchesDir i dir pattern name)
-is_near {i = i} {h = h} {dir = dir} {name = name} {rest = rest} {whole = whole} pattern e slash ends is = (
-  λ yes. near rest e (subst (λ w. MatchesBelow i dir w name) (ends ∙ ap below slash) (is.0 yes)),
+is_near {rest = rest} pattern e slash ends is = (
+  λ yes. near rest e (rw (ends ∙ ap below slash) at (is.0 yes)),
   λ matches. elim matches [
     | near rest2 e2 within ↦
         let same : rest2 ≡ rest = append_cancel_left (codes "./") rest2 rest (sym e2 ∙ e) in
-        is.1 (subst (λ w. MatchesBelow i dir w name) (ap (λ r. below (codes "/" ++ r)) same ∙ sym (ends ∙ ap below slash)) within)
+        is.1 (rw (ap (λ r. below (codes "/" ++ r)) same ∙ sym (ends ∙ ap below slash)) at within)
     | other lacks matches ↦ absurd (lacks rest e)
   ],
 )
@@ -81,16 +42,16 @@ is_near {i = i} {h = h} {dir = dir} {name = name} {rest = rest} {whole = whole} 
 pub is_other : {i h : Bool} {dir name any whole : List ℕ} (pattern : List ℕ)
     → LacksFront (codes "./") pattern → any ≡ anywhere pattern
     → whole ≡ below any → (IsTrue h ↔ (MatchesText i whole name)) → IsTrue h ↔ (MatchesDir i dir pattern name)
-is_other {i = i} {h = h} {name = name} pattern lacks found ends is = (
-  λ yes. other lacks (subst (λ w. MatchesText i w name) (ends ∙ ap below found) (is.0 yes)),
+is_other pattern lacks found ends is = (
+  λ yes. other lacks (rw (ends ∙ ap below found) at (is.0 yes)),
   λ matches. elim matches [
     | near rest e within ↦ absurd (lacks rest e)
-    | other lacks2 text ↦ is.1 (subst (λ w. MatchesText i w name) (sym (ends ∙ ap below found)) text)
+    | other lacks2 text ↦ is.1 (rw (sym (ends ∙ ap below found)) at text)
   ],
 )
 
 pub either_first : {A B : Type 0} (b : Bool) → b ≡ true → (IsTrue b ↔ A) → IsTrue true ↔ (A ⊎ B)
-either_first b e is = (λ yes. inl (is.0 (subst (λ x. IsTrue x) (sym e) yes)), λ either. search rules)
+either_first b e is = (λ yes. inl (is.0 e), λ either. search rules)
 
 pub either_second : {A B : Type 0} (b c : Bool) → b ≡ false → (IsTrue b ↔ A) → (IsTrue c ↔ B)
     → IsTrue c ↔ (A ⊎ B)
@@ -110,68 +71,36 @@ pub other_key : (includes : Includes) (dir : List ℕ) (entry : Entry)
     → ¬ (map to_ascii_lowercase entry.key ≡ codes "path") → EntryFollows includes dir entry false
 other_key includes dir entry differs = follows.unrelated (λ is. differs is.0) (λ raw is. differs is.0)
 
-other_subsection : {name : List ℕ} (entry : Entry) (section : Section) (subsection : Option (List ℕ))
-    → entry.section ≡ Some section → section.1 ≢ subsection → ¬ (IsPathIn name subsection entry)
-other_subsection entry section subsection is differs (key, (written, some, named)) =
-    differs (ap (λ s. s.1) (same_Some _ _ (sym is ∙ some)))
-
-other_name : {name : List ℕ} {subsection : Option (List ℕ)} (entry : Entry) (section : Section)
-    → entry.section ≡ Some section → ¬ (map to_ascii_lowercase section.0 ≡ name)
-    → ¬ (IsPathIn name subsection entry)
-other_name {name = name} entry section is differs (key, (written, some, named)) =
-    differs (subst (λ s. map to_ascii_lowercase s ≡ name) (sym (ap (λ s. s.0) (same_Some _ _ (sym is ∙ some)))) named)
+path_in : {name : List ℕ} {subsection : Option (List ℕ)} (entry : Entry) (section : Section)
+    → entry.section ≡ Some section → IsPathIn name subsection entry
+    → (section.1 ≡ subsection) × (map to_ascii_lowercase section.0 ≡ name)
+path_in entry section is (key, (written, some, named)) =
+    let same = same_Some _ _ (sym is ∙ some) in
+    (ap (λ s. s.1) same, ap (λ s. map to_ascii_lowercase s.0) same ∙ named)
 
 pub no_include : (includes : Includes) (dir : List ℕ) (entry : Entry) (name : List ℕ)
     → entry.section ≡ Some (name, None) → ¬ (map to_ascii_lowercase name ≡ codes "include")
     → EntryFollows includes dir entry false
-no_include includes dir entry name is differs = follows.unrelated (other_name entry (name, None) is differs)
-    (λ raw. other_subsection entry (name, None) (Some raw) is (λ e. none-some raw e))
+no_include includes dir entry name is differs = follows.unrelated
+    (λ path. differs (path_in entry (name, None) is path).1)
+    (λ raw path. none-some raw (path_in entry (name, None) is path).0)
 
 pub no_condition : (includes : Includes) (dir : List ℕ) (entry : Entry) (name raw : List ℕ)
     → entry.section ≡ Some (name, Some raw) → ¬ (map to_ascii_lowercase name ≡ codes "includeif")
     → EntryFollows includes dir entry false
-no_condition includes dir entry name raw is differs =
-    follows.unrelated (other_subsection entry (name, Some raw) None is (λ e. none-some raw (sym e)))
-    (λ other. other_name entry (name, Some raw) is differs)
-
--- an entry `include.path` is followed exactly if includes are
-pub followed_always : (includes : Includes) (dir : List ℕ) (entry : Entry) (name : List ℕ) (b : Bool)
-    → map to_ascii_lowercase entry.key ≡ codes "path" → entry.section ≡ Some (name, None)
-    → map to_ascii_lowercase name ≡ codes "include" → (IsTrue b ↔ (Holds includes dir Always))
-    → EntryFollows includes dir entry b
-followed_always includes dir entry name true key is named iff =
-    follows.always (key, (name, is, named)) (iff.0 (search rules))
-followed_always includes dir entry name false key is named iff =
-    follows.never (key, (name, is, named)) (no_match false (search rules) iff)
-
--- an entry of `includeIf` is followed exactly if the condition of its subsection holds
-pub followed_if : (includes : Includes) (dir : List ℕ) (entry : Entry) (name raw text : List ℕ) (c : Condition)
-    (b : Bool) → map to_ascii_lowercase entry.key ≡ codes "path" → entry.section ≡ Some (name, Some raw)
-    → map to_ascii_lowercase name ≡ codes "includeif"
-    → ((spelled : List ℕ) → SpellsSubsection raw spelled → text ≡ spelled) → SpellsCondition text c
-    → (IsTrue b ↔ (Holds includes dir c)) → EntryFollows includes dir entry b
-followed_if includes dir entry name raw text c true key is named spelled names iff = follows.holds raw
-    (key, (name, is, named))
-    (λ t spells. (c, subst (λ s. SpellsCondition s c) (spelled t spells) names, iff.0 (search rules)))
-followed_if includes dir entry name raw text c false key is named spelled names iff = follows.fails raw
-    (key, (name, is, named))
-    (λ t spells. (c, subst (λ s. SpellsCondition s c) (spelled t spells) names, no_match false (search rules) iff))
-
-pub name_of_text : (directories : Directories) (file value text name : List ℕ) → value ≡ text
-    → IsNameOf directories file value name → IsNameOf directories file text name
-name_of_text directories file value text name same is = subst (λ v. IsNameOf directories file v name) same is
-
-pub unknown_text : (home install : Option (List ℕ)) (value text : List ℕ) → value ≡ text
-    → BeginsUnknown home install value → BeginsUnknown home install text
-unknown_text home install value text same is = subst (λ v. BeginsUnknown home install v) same is
+no_condition includes dir entry name raw is differs = follows.unrelated
+    (λ path. none-some raw (sym (path_in entry (name, Some raw) is path).0))
+    (λ other path. differs (path_in entry (name, Some raw) is path).1)
 
 pub if_always : (includes : Includes) (dir : List ℕ) (entry : Entry) (name : List ℕ) (result : Result Bool AllocError)
     → map to_ascii_lowercase entry.key ≡ codes "path" → entry.section ≡ Some (name, None)
     → map to_ascii_lowercase name ≡ codes "include"
     → IfOk result (λ b. IsTrue b ↔ (Holds includes dir Always))
     → IfOk result (EntryFollows includes dir entry)
-if_always includes dir entry name (Ok b) key is named iff =
-    followed_always includes dir entry name b key is named iff
+if_always includes dir entry name (Ok true) key is named iff =
+    follows.always (key, (name, is, named)) (iff.0 (search rules))
+if_always includes dir entry name (Ok false) key is named iff =
+    follows.never (key, (name, is, named)) (no_match false (search rules) iff)
 if_always includes dir entry name (Err e) key is named iff = tt
 
 pub if_named : (includes : Includes) (dir : List ℕ) (entry : Entry) (name raw text : List ℕ) (c : Condition)
@@ -179,17 +108,17 @@ pub if_named : (includes : Includes) (dir : List ℕ) (entry : Entry) (name raw 
     → entry.section ≡ Some (name, Some raw) → map to_ascii_lowercase name ≡ codes "includeif"
     → ((spelled : List ℕ) → SpellsSubsection raw spelled → text ≡ spelled) → SpellsCondition text c
     → IfOk result (λ b. IsTrue b ↔ (Holds includes dir c)) → IfOk result (EntryFollows includes dir entry)
-if_named includes dir entry name raw text c (Ok b) key is named spelled names iff =
-    followed_if includes dir entry name raw text c b key is named spelled names iff
+if_named includes dir entry name raw text c (Ok true) key is named spelled names iff = follows.holds raw
+    (key, (name, is, named)) (λ t spells. (c, rw (spelled t spells) at names, iff.0 (search rules)))
+if_named includes dir entry name raw text c (Ok false) key is named spelled names iff = follows.fails raw
+    (key, (name, is, named)) (λ t spells. (c, rw (spelled t spells) at names, no_match false (search rules) iff))
 if_named includes dir entry name raw text c (Err e) key is named spelled names iff = tt
 
 -- a condition that holds under some includes holds under the same includes
 pub same_holds : (includes others : Includes) (dir : List ℕ) (condition same : Condition) (b : Bool)
     → includes ≡ others → condition ≡ same → (IsTrue b ↔ (Holds others dir same))
     → IsTrue b ↔ (Holds includes dir condition)
-same_holds includes others dir condition same b is named iff =
-    subst (λ i. IsTrue b ↔ (Holds i dir condition)) (sym is)
-    (subst (λ k. IsTrue b ↔ (Holds others dir k)) (sym named) iff)
+same_holds includes others dir condition same b is named iff = rw (is, named) iff
 
 other_first : (home : Option (List ℕ)) (pattern : List ℕ) → LacksFront (codes "~") pattern
     → pattern ≡ at_home home pattern

@@ -1,10 +1,11 @@
 -- Settings with a key, searched one by one.
 use Rattle.std.proofs.Common.{◌≡◌, ◌≤◌, ◌<◌, ◌+◌, ◌++◌, ◌∙◌, ◌↔◌, ◌⊎◌, inl, inr, ℕ, Bool, true, false, List}
 use Rattle.std.proofs.Common.{[], ◌∷◌, Some, length, take, get_or}
-use Rattle.std.proofs.Common.{IsTrue, rules, refl, sym, subst, ap, arith, zero, suc}
+use Rattle.std.proofs.Common.{IsTrue, sym, subst, ap, arith}
 use Rattle.std.specs.List.{slice_get, AllWithin}
 use Rattle.std.proofs.lemmas.Option.{get_or_from_slice_get, slice_get-get_or}
 use Rattle.std.proofs.lemmas.List.{take_all}
+use Rattle.std.proofs.lemmas.Bool.{cases_lt}
 use Rattle.config_file.specs.Key.{Key, HasKey}
 use Rattle.config_file.specs.Listing.{IsListed}
 use Rattle.config_file.specs.Settings.{AreListed, IsLast, AllWithKey, Picks}
@@ -12,13 +13,6 @@ use Rattle.config_file.proofs.Picked.{picks_next}
 use Rattle.config_file.specs.Views.{entry_of}
 use Rattle.config_file.specs.declared.settings.Setting.{Setting}
 use Rattle.config_file.proofs.Patterns.{no_match}
-
-le_cases : (i k : ℕ) → i ≤ k → (i ≡ k) ⊎ (i < k)
-le_cases zero zero h = inl refl
-le_cases zero (suc k) h = inr (omega arith)
-le_cases (suc i) zero h = absurd (omega arith)
-le_cases (suc i) (suc k) h =
-    elim (le_cases i k (omega arith)) [ inl e ↦ inl (ap suc e) | inr l ↦ inr (omega arith) ]
 
 pub at_index : {X : Type 0} (xs : List X) (i : ℕ) (x : X) → i < length xs → x ≡ get_or xs i x
     → slice_get xs i ≡ Some x
@@ -35,8 +29,7 @@ pub listed_at : (settings : List Setting) (i : ℕ) (setting : Setting)
     → slice_get settings i ≡ Some setting → i < length settings → AreListed settings
     → (text : List ℕ) × IsListed (entry_of setting.entry).section (entry_of setting.entry).key text
 listed_at settings i setting at within listed =
-    subst (λ s. (text : List ℕ) × IsListed (entry_of s.entry).section (entry_of s.entry).key text)
-    (get_or_from_slice_get settings i setting setting at) (listed i setting within)
+    rw (get_or_from_slice_get settings i setting setting at) at (listed i setting within)
 
 tested : (settings : List Setting) (key : Key) (i : ℕ) (setting : Setting) (b : Bool)
     → slice_get settings i ≡ Some setting → i < length settings → AreListed settings → Tests setting key b
@@ -52,8 +45,8 @@ pub found : (settings : List Setting) (key : Key) (i low : ℕ) (setting : Setti
 found settings key i low setting b at within above is_true tests later listed = (
   i,
   at,
-  (tested settings key i setting b at within listed tests).0 (search rules),
-  subst (λ n. AllWithin (λ s. ¬ (HasKey (entry_of s.entry) key)) settings n (length settings)) above (later listed),
+  (tested settings key i setting b at within listed tests).0 is_true,
+  rw above at (later listed),
 )
 
 pub not_found : (settings : List Setting) (key : Key) (i low : ℕ) (setting : Setting) (b : Bool)
@@ -64,11 +57,13 @@ pub not_found : (settings : List Setting) (key : Key) (i low : ℕ) (setting : S
     → AreListed settings
     → AllWithin (λ later. ¬ (HasKey (entry_of later.entry) key)) settings i (length settings)
 not_found settings key i low setting b at within above is_false tests later listed k d from to =
-    elim (le_cases i k from) [
-      | inl same ↦ subst (λ s. ¬ (HasKey (entry_of s.entry) key))
+    elim (cases_lt i k) [
+      | inl more ↦ later listed k d (omega arith) to
+      | inr less ↦
+          let same : i ≡ k = omega arith in
+          subst (λ s. ¬ (HasKey (entry_of s.entry) key))
           (sym (ap (λ n. get_or settings n d) (sym same) ∙ get_or_from_slice_get settings i setting d at))
           (no_match b is_false (tested settings key i setting b at within listed tests))
-      | inr more ↦ later listed k d (omega (arith, above, more)) to
     ]
 
 pub all_next : {key : Key} {all : List Setting} (settings : List Setting) (i : ℕ) (setting : Setting) (next : List Setting)
@@ -83,5 +78,4 @@ all_next settings i setting next b at within tests either before listed =
 pub picks_done : {P : Setting → Type 0} {all : List Setting} (settings : List Setting) (i : ℕ)
     → length settings ≤ i
     → (AreListed settings → Picks P (take i settings) all) → AreListed settings → Picks P settings all
-picks_done {P = P} {all = all} settings i past is listed =
-    subst (λ s. Picks P s all) (take_all i settings past) (is listed)
+picks_done settings i past is listed = rw (take_all i settings past) at (is listed)

@@ -47,7 +47,6 @@ pub mod ShownTexts
 pub mod Last
 pub mod Scopes
 pub mod Sections
-pub mod Words
 pub mod OneInclude
 pub mod OneWalk
 pub mod OneAddition

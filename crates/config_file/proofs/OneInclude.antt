@@ -1,7 +1,7 @@
 -- An entry of a file aims at one file at most: its section and its value spell a text, and a text has one
 -- meaning.
-use Rattle.std.proofs.Common.{◌≡◌, ℕ, true, false, List, ◌++◌, codes, Option, None, Some}
-use Rattle.std.proofs.Common.{refl, sym, ap, ◌∙◌, subst, option_map}
+use Rattle.std.proofs.Common.{◌≡◌, ℕ, true, false, List, [], ◌++◌, codes, Option, None, Some}
+use Rattle.std.proofs.Common.{refl, sym, ap, ◌∙◌, subst, arith}
 use Rattle.std.proofs.lemmas.Bool.{true≢false}
 use Rattle.std.proofs.lemmas.Option.{same_Some, none-some}
 use Rattle.std.proofs.lemmas.List.{append_cancel_left}
@@ -29,22 +29,15 @@ use Rattle.config_file.proofs.EachListed.{IsRead, IsSpelled}
 
 -- ---- the condition that a text names
 
-abbrev git_dir : List ℕ
-git_dir = codes "gitdir:"
+abbrev prefix : Condition → List ℕ
+prefix (GitDir a) = codes "gitdir:"
+prefix (GitDirIgnoringCase a) = codes "gitdir/i:"
+prefix (OnBranch a) = codes "onbranch:"
+prefix (HasRemoteUrl a) = codes "hasconfig:remote.*.url:"
+prefix a = []
 
-abbrev ignoring_case : List ℕ
-ignoring_case = codes "gitdir/i:"
-
-abbrev branch : List ℕ
-branch = codes "onbranch:"
-
-abbrev url : List ℕ
-url = codes "hasconfig:remote.*.url:"
-
--- a text does not begin in two ways
-apart : (first second a b : List ℕ) {text : List ℕ} → is_front second (first ++ a) ≡ false → text ≡ first ++ a
-    → text ≡ second ++ b → ⊥
-apart first second a b differ e f = lacks second (first ++ a) differ b (sym e ∙ f)
+apart : (front text rest : List ℕ) → text ≡ front ++ rest → is_front front text ≡ false → ⊥
+apart front text rest e differ = lacks front text differ rest e
 
 same_rest : (front : List ℕ) {text a b : List ℕ} → text ≡ front ++ a → text ≡ front ++ b → a ≡ b
 same_rest front {a = a} {b = b} e f = append_cancel_left front a b (sym e ∙ f)
@@ -52,42 +45,21 @@ same_rest front {a = a} {b = b} e f = append_cancel_left front a b (sym e ∙ f)
 pub one_condition : (text : List ℕ) (a b : Condition) → SpellsCondition text a → SpellsCondition text b
     → IsSameCondition a b
 one_condition text Always b is so = absurd is
-one_condition text (GitDir a) Always is so = absurd so
-one_condition text (GitDir a) (GitDir b) is so = same_rest git_dir is so
-one_condition text (GitDir a) (GitDirIgnoringCase b) is so =
-    absurd (apart git_dir ignoring_case a.now b.now refl is so)
-one_condition text (GitDir a) (OnBranch b) is so = absurd (apart git_dir branch a.now b.now refl is so)
-one_condition text (GitDir a) (HasRemoteUrl b) is so = absurd (apart git_dir url a.now b.now refl is so)
+one_condition text a Always is so = absurd so
 one_condition text (GitDir a) Unknown is so = absurd (so.0 a.now is)
-one_condition text (GitDirIgnoringCase a) Always is so = absurd so
-one_condition text (GitDirIgnoringCase a) (GitDir b) is so =
-    absurd (apart git_dir ignoring_case b.now a.now refl so is)
-one_condition text (GitDirIgnoringCase a) (GitDirIgnoringCase b) is so = same_rest ignoring_case is so
-one_condition text (GitDirIgnoringCase a) (OnBranch b) is so =
-    absurd (apart ignoring_case branch a.now b.now refl is so)
-one_condition text (GitDirIgnoringCase a) (HasRemoteUrl b) is so =
-    absurd (apart ignoring_case url a.now b.now refl is so)
 one_condition text (GitDirIgnoringCase a) Unknown is so = absurd (so.1 a.now is)
-one_condition text (OnBranch a) Always is so = absurd so
-one_condition text (OnBranch a) (GitDir b) is so = absurd (apart git_dir branch b.now a.now refl so is)
-one_condition text (OnBranch a) (GitDirIgnoringCase b) is so =
-    absurd (apart ignoring_case branch b.now a.now refl so is)
-one_condition text (OnBranch a) (OnBranch b) is so = same_rest branch is so
-one_condition text (OnBranch a) (HasRemoteUrl b) is so = absurd (apart branch url a.now b.now refl is so)
 one_condition text (OnBranch a) Unknown is so = absurd (so.2 a.now is)
-one_condition text (HasRemoteUrl a) Always is so = absurd so
-one_condition text (HasRemoteUrl a) (GitDir b) is so = absurd (apart git_dir url b.now a.now refl so is)
-one_condition text (HasRemoteUrl a) (GitDirIgnoringCase b) is so =
-    absurd (apart ignoring_case url b.now a.now refl so is)
-one_condition text (HasRemoteUrl a) (OnBranch b) is so = absurd (apart branch url b.now a.now refl so is)
-one_condition text (HasRemoteUrl a) (HasRemoteUrl b) is so = same_rest url is so
 one_condition text (HasRemoteUrl a) Unknown is so = absurd (so.3 a.now is)
-one_condition text Unknown Always is so = absurd so
 one_condition text Unknown (GitDir b) is so = absurd (is.0 b.now so)
 one_condition text Unknown (GitDirIgnoringCase b) is so = absurd (is.1 b.now so)
 one_condition text Unknown (OnBranch b) is so = absurd (is.2 b.now so)
 one_condition text Unknown (HasRemoteUrl b) is so = absurd (is.3 b.now so)
 one_condition text Unknown Unknown is so = refl
+one_condition text (GitDir a) (GitDir b) is so = same_rest (codes "gitdir:") is so
+one_condition text (GitDirIgnoringCase a) (GitDirIgnoringCase b) is so = same_rest (codes "gitdir/i:") is so
+one_condition text (OnBranch a) (OnBranch b) is so = same_rest (codes "onbranch:") is so
+one_condition text (HasRemoteUrl a) (HasRemoteUrl b) is so = same_rest (codes "hasconfig:remote.*.url:") is so
+one_condition text a b is so = absurd (apart (prefix b) _ _ (sym is ∙ so) refl)
 
 -- ---- whether an entry is followed
 
@@ -96,19 +68,12 @@ same_condition_holds : (includes : Includes) (dir : List ℕ) (a b : Condition) 
 same_condition_holds Skipped dir a b same holds = absurd holds
 same_condition_holds All dir a b same holds = tt
 same_condition_holds (AsGit r u) dir Always Always same holds = tt
-same_condition_holds (AsGit None u) dir (GitDir a) b same holds = absurd holds
-same_condition_holds (AsGit None u) dir (GitDirIgnoringCase a) b same holds = absurd holds
-same_condition_holds (AsGit None u) dir (OnBranch a) b same holds = absurd holds
-same_condition_holds (AsGit r u) dir (HasRemoteUrl a) (HasRemoteUrl b) same holds =
-    subst (λ p. HasUrl p u) same holds
-same_condition_holds (AsGit r u) dir Unknown b same holds = absurd holds
-same_condition_holds (AsGit (Some r) u) dir (GitDir a) (GitDir b) same holds =
-    subst (λ p. IsGitDir false dir p r) same holds
+same_condition_holds (AsGit r u) dir (HasRemoteUrl a) (HasRemoteUrl b) same holds = rw same at holds
+same_condition_holds (AsGit (Some r) u) dir (GitDir a) (GitDir b) same holds = rw same at holds
 same_condition_holds (AsGit (Some r) u) dir (GitDirIgnoringCase a) (GitDirIgnoringCase b) same holds =
-    subst (λ p. IsGitDir true dir p r) same holds
-same_condition_holds (AsGit (Some r) u) dir (OnBranch a) (OnBranch b) same holds =
-    subst (λ p. IsOnBranch p (option_map (λ branch. branch.now) r.branch)) same holds
-same_condition_holds (AsGit r u) dir a b same holds = cc
+    rw same at holds
+same_condition_holds (AsGit (Some r) u) dir (OnBranch a) (OnBranch b) same holds = rw same at holds
+same_condition_holds (AsGit r u) dir a b same holds = grind arith
 
 -- the bytes of the subsection of an entry that Git lists spell a text
 spells : {section : Option Section} {key listed written raw : List ℕ} → IsListed section key listed
@@ -153,22 +118,17 @@ not_both includes dir entry read (include.holds raw is h) (include.unrelated n m
 home_or_prefix : {value a b : List ℕ} → value ≡ codes "~" ++ a → value ≡ codes "%(prefix)/" ++ b → ⊥
 home_or_prefix e f = cc
 
-same_dir : {known : Option (List ℕ)} {a b : List ℕ} → known ≡ Some a → known ≡ Some b → a ≡ b
-same_dir e f = same_Some _ _ (sym e ∙ f)
-
 one_path : {home install : Option (List ℕ)} {value p q : List ℕ} → Expands home install value p
     → Expands home install value q → p ≡ q
-one_path (path.below_home a r e is h f) (path.below_home b s g so i k) =
-    f ∙ rw (same_dir h i, same_rest (codes "~") e g) (sym k)
-one_path (path.below_home a r e is h f) (path.below_prefix b s g i k) = absurd (home_or_prefix e g)
+one_path (path.below_home a r e is h f) (path.below_home b s g so i k) = cc
+one_path (path.below_home a r e is h f) (path.below_prefix b s g i k) = cc
 one_path (path.below_home a r e is h f) (path.other m n k) = absurd (m r e)
-one_path (path.below_prefix b s g i k) (path.below_home a r e is h f) = absurd (home_or_prefix e g)
-one_path (path.below_prefix a r e h f) (path.below_prefix b s g i k) =
-    f ∙ rw (same_dir h i, same_rest (codes "%(prefix)/") e g) (sym k)
+one_path (path.below_prefix a r e h f) (path.below_home b s g so i k) = cc
+one_path (path.below_prefix a r e h f) (path.below_prefix b s g i k) = cc
 one_path (path.below_prefix a r e h f) (path.other m n k) = absurd (n r e)
 one_path (path.other m n k) (path.below_home a r e is h f) = absurd (m r e)
 one_path (path.other m n k) (path.below_prefix a r e h f) = absurd (n r e)
-one_path (path.other m n e) (path.other o p f) = e ∙ sym f
+one_path (path.other m n e) (path.other o p f) = cc
 
 known_or_unknown : {home install : Option (List ℕ)} {value p : List ℕ} → Expands home install value p
     → BeginsUnknown home install value → ⊥
@@ -219,7 +179,7 @@ known_and_unknown : (known : Known) (name included : List ℕ) {raw same : List 
 known_and_unknown known name included {raw = raw} spelled e f named lost =
     let (text, ending, is) = spelled raw e in
     let (p, expands, rest) = named text ending is in
-    known_or_unknown expands (lost text ending (subst (λ r. SpellsValue r text ending) (same_dir e f) is))
+    known_or_unknown expands (lost text ending (subst (λ r. SpellsValue r text ending) (cc) is))
 
 same_file : (known : Known) (name : List ℕ) {raw same a b : List ℕ} {value : Option (List ℕ)}
     → IsSpelled value
@@ -228,32 +188,20 @@ same_file : (known : Known) (name : List ℕ) {raw same a b : List ℕ} {value :
 same_file known name {raw = raw} spelled e f first second =
     let (text, ending, is) = spelled raw e in
     one_name known.directories name (first text ending is)
-    (second text ending (subst (λ r. SpellsValue r text ending) (same_dir e f) is))
+    (second text ending (subst (λ r. SpellsValue r text ending) (cc) is))
 
 pub one_aim : (known : Known) (name dir : List ℕ) (entry : Entry) (a b : Aim) → IsRead entry
     → Aims known name dir entry a → Aims known name dir entry b → a ≡ b
 one_aim known name dir entry no_file no_file read is so = refl
-one_aim known name dir entry no_file no_value read is so =
-    absurd (not_both known.includes dir entry read so.0 is)
-one_aim known name dir entry no_file unknown read is so =
-    absurd (not_both known.includes dir entry read so.0 is)
-one_aim known name dir entry no_file (file b) read is so =
-    absurd (not_both known.includes dir entry read so.0 is)
-one_aim known name dir entry no_value no_file read is so =
-    absurd (not_both known.includes dir entry read is.0 so)
+one_aim known name dir entry no_file b read is so = absurd (not_both known.includes dir entry read so.0 is)
+one_aim known name dir entry a no_file read is so = absurd (not_both known.includes dir entry read is.0 so)
 one_aim known name dir entry no_value no_value read is so = refl
-one_aim known name dir entry no_value unknown read is so = absurd (none-some _ (sym is.1 ∙ so.1.1))
-one_aim known name dir entry no_value (file b) read is so = absurd (none-some _ (sym is.1 ∙ so.1.1))
-one_aim known name dir entry unknown no_file read is so =
-    absurd (not_both known.includes dir entry read is.0 so)
-one_aim known name dir entry unknown no_value read is so = absurd (none-some _ (sym so.1 ∙ is.1.1))
+one_aim known name dir entry no_value b read is so = absurd (none-some _ (sym is.1 ∙ so.1.1))
+one_aim known name dir entry a no_value read is so = absurd (none-some _ (sym so.1 ∙ is.1.1))
 one_aim known name dir entry unknown unknown read is so = refl
-one_aim known name dir entry unknown (file b) read (follows, (raw, e, lost)) (also, (same, f, named)) =
-    absurd (known_and_unknown known name _ read.spelled f e named lost)
-one_aim known name dir entry (file a) no_file read is so =
-    absurd (not_both known.includes dir entry read is.0 so)
-one_aim known name dir entry (file a) no_value read is so = absurd (none-some _ (sym so.1 ∙ is.1.1))
-one_aim known name dir entry (file a) unknown read (follows, (raw, e, named)) (also, (same, f, lost)) =
-    absurd (known_and_unknown known name _ read.spelled e f named lost)
-one_aim known name dir entry (file a) (file b) read (follows, (raw, e, named)) (also, (same, f, so)) =
-    ap file (same_file known name read.spelled e f named so)
+one_aim known name dir entry unknown (file b) read is so =
+    absurd (known_and_unknown known name b read.spelled so.1.1 is.1.1 so.1.2 is.1.2)
+one_aim known name dir entry (file a) unknown read is so =
+    absurd (known_and_unknown known name a read.spelled is.1.1 so.1.1 is.1.2 so.1.2)
+one_aim known name dir entry (file a) (file b) read is so =
+    ap file (same_file known name read.spelled is.1.1 so.1.1 is.1.2 so.1.2)

@@ -1,8 +1,7 @@
 -- If each name has at most one content, a text has at most one walk.
 use Rattle.std.proofs.Common.{◌≡◌, ℕ, zero, suc, ◌+◌, Bool, true, false, List, [], ◌∷◌, ◌++◌, Option, None}
 use Rattle.std.proofs.Common.{Some, map}
-use Rattle.std.proofs.Common.{refl, sym, ap, ◌∙◌, subst, arith, ◌⊎◌, inl, inr}
-use Rattle.std.proofs.lemmas.Bool.{true≢false}
+use Rattle.std.proofs.Common.{refl, sym, ap, ◌∙◌, arith, ◌⊎◌, inl, inr}
 use Rattle.std.proofs.lemmas.List.{append_assoc, append-nil}
 use Rattle.std.proofs.lemmas.List.Elements.{All-head, All-tail}
 use Rattle.std.specs.List.{All}
@@ -37,19 +36,12 @@ flip (inr is) = inl is
 after : {X : Type 0} (front : List X) {a b : List X} {w : Bool} → Begins a w b
     → Begins (front ++ a) w (front ++ b)
 after front {a = a} is =
-    record {
-      more = is.more;
-      joined = ap (λ x. front ++ x) is.joined ∙ sym (append_assoc front a is.more);
-      all = is.all;
-    }
+    record { more = is.more; joined = rw is.joined (sym (append_assoc front a is.more)); all = is.all }
 
 agree_after : {X : Type 0} (front : List X) {a b : List X} {v w : Bool} → Agree a v b w
     → Agree (front ++ a) v (front ++ b) w
 agree_after front (inl is) = inl (after front is)
 agree_after front (inr is) = inr (after front is)
-
-nothing_begins : {X : Type 0} {a : List X} → Begins [] false a
-nothing_begins {a = a} = record { more = a; joined = refl; all = λ e. absurd (true≢false (sym e)) }
 
 itself : {X : Type 0} {a b : List X} {w : Bool} → b ≡ a → Begins a w b
 itself {a = a} is = record { more = []; joined = is ∙ sym (append-nil a); all = λ e. refl }
@@ -63,18 +55,36 @@ wholes_same (inr is) = whole_same is
 
 -- a walk that ends within a file begins the walk that goes on after that file
 cut_begins : {X : Type 0} {a b : List X} (rest : List X) → Agree a true b false → Begins b false (a ++ rest)
-cut_begins {a = a} {b = b} rest (inl is) =
-    record {
-      more = rest;
-      joined = ap (λ x. x ++ rest) (sym (whole_same is));
-      all = λ e. absurd (true≢false (sym e));
-    }
+cut_begins rest (inl is) = record { more = rest; joined = rw (whole_same is); all = λ e. cc }
 cut_begins {b = b} rest (inr is) =
-    record {
-      more = is.more ++ rest;
-      joined = ap (λ x. x ++ rest) is.joined ∙ append_assoc b is.more rest;
-      all = λ e. absurd (true≢false (sym e));
-    }
+    record { more = is.more ++ rest; joined = rw is.joined (append_assoc b is.more rest); all = λ e. cc }
+
+-- a walk that is cut comes to nothing more
+abbrev IsCut : {X : Type 0} → List X → Bool → Type 0
+IsCut items whole = (items ≡ []) × (whole ≡ false)
+
+-- what walks come to within two files, and then after them
+joins : {X : Type 0} {x y rest left : List X} {v w : Bool} (s t : Bool) → Agree x s y t
+    → (s ≡ false → IsCut rest v) → (t ≡ false → IsCut left w) → (s ≡ true → t ≡ true → Agree rest v left w)
+    → Agree (x ++ rest) v (y ++ left) w
+joins {y = y} true true is first second both = rw (wholes_same is) (agree_after y (both refl refl))
+joins {y = y} {rest = rest} true false is first second both =
+    let (none, cut) = second refl in rw (none, cut, append-nil y) (inr (cut_begins rest is))
+joins {x = x} {left = left} false true is first second both =
+    let (none, cut) = first refl in rw (none, cut, append-nil x) (inl (cut_begins left (flip is)))
+joins {x = x} {y = y} false false is first second both =
+    let (none, cut) = first refl in
+    let (no_more, also) = second refl in
+    rw (none, cut, no_more, also, append-nil x, append-nil y) is
+
+-- a walk that is cut begins each other one
+unless_cut : {X A B : Type 0} {a b : List X} {v w : Bool} → IsCut a v ⊎ A → IsCut b w ⊎ B
+    → (A → B → Agree a v b w) → Agree a v b w
+unless_cut {b = b} (inl (none, cut)) second both =
+    inl (record { more = b; joined = rw none; all = λ e. cc })
+unless_cut {a = a} (inr x) (inl (none, cut)) both =
+    inr (record { more = a; joined = rw none; all = λ e. cc })
+unless_cut (inr x) (inr y) both = both x y
 
 -- ---- what an entry leads to
 
@@ -99,8 +109,7 @@ Leads contents depth entry (aim.file name) to =
 entered : (entry : Entry) (depth less : ℕ) (name dir text : List ℕ) → depth ≡ less + 1
     → into less name dir text ≡ way entry depth name (Text dir text)
 entered entry zero less name dir text deep = absurd (omega arith)
-entered entry (suc n) less name dir text deep =
-    let same : less ≡ n = omega arith in ap (λ l. into l name dir text) same
+entered entry (suc n) less name dir text deep = let same : less ≡ n = omega arith in rw same
 
 one_way : {contents : List ℕ → Content → Type 0} (depth : ℕ) (entry : Entry) (at : Aim) (a b : Way)
     → HasOneContent contents → Leads contents depth entry at a → Leads contents depth entry at b → a ≡ b
@@ -119,12 +128,11 @@ abbrev GoesOn : (List ℕ → Content → Type 0) → Known → ℕ → FilePlac
 GoesOn contents known depth place entries error items whole (over all) = (rest : List (List ℕ × Item))
     × (items ≡ stops place.name.now all ++ rest) × Walks contents known depth place entries error rest whole
 GoesOn contents known depth place entries error items whole (into less name dir text) = (at : FilePlace)
-    × (inner : List Entry) × (end : Option FileError) × (within : List (List ℕ × Item))
+    × (inner : List Entry) × (end : Option FileError) × (within rest : List (List ℕ × Item)) × (all : Bool)
     × (depth ≡ less + 1) × (at.name.now ≡ name) × (at.real_dir.now ≡ dir) × IsFile text inner end
-    × (((rest : List (List ℕ × Item)) × (items ≡ within ++ rest)
-    × Walks contents known less at inner end within true
-    × Walks contents known depth place entries error rest whole)
-    ⊎ ((items ≡ within) × (whole ≡ false) × Walks contents known less at inner end within false))
+    × (items ≡ within ++ rest) × Walks contents known less at inner end within all
+    × (all ≡ true → Walks contents known depth place entries error rest whole)
+    × (all ≡ false → IsCut rest whole)
 
 record Turn (contents : List ℕ → Content → Type 0) (known : Known) (depth : ℕ) (place : FilePlace) (entry : Entry)
     (entries : List Entry) (error : Option FileError) (items : List (List ℕ × Item)) (whole : Bool) : Type 0 where
@@ -136,111 +144,57 @@ record Turn (contents : List ℕ → Content → Type 0) (known : Known) (depth 
   joined : items ≡ (place.name.now, Found entry) ∷ left
   goes_on : GoesOn contents known depth place entries error left whole to
 
-turn : {contents : List ℕ → Content → Type 0} {known : Known} {depth : ℕ} {place : FilePlace} {entry : Entry}
-    {entries : List Entry} {error : Option FileError} {items : List (List ℕ × Item)} {whole : Bool}
-    → Walks contents known depth place (entry ∷ entries) error items whole
-    → ((items ≡ []) × (whole ≡ false)) ⊎ Turn contents known depth place entry entries error items whole
-turn walk.cut = inl (refl, refl)
-turn (walk.plain {items = rest} is more) =
-    inr (record {
-      at = aim.no_file;
-      aims = is;
-      to = over [];
-      leads = refl;
-      left = rest;
-      joined = refl;
-      goes_on = (rest, refl, more);
-    })
-turn (walk.missing {items = rest} name is holds more) =
-    inr (record {
-      at = aim.file name;
-      aims = is;
-      to = over [];
-      leads = (Missing, holds, refl);
-      left = rest;
-      joined = refl;
-      goes_on = (rest, refl, more);
-    })
-turn {depth = depth} {entry = entry}
-    (walk.included {items = rest} less at text inner end within is holds file deep walks more) =
-    inr (record {
-      at = aim.file at.name.now;
-      aims = is;
-      to = into less at.name.now at.real_dir.now text;
-      leads = (Text at.real_dir.now text, holds, entered entry depth less at.name.now _ text deep);
-      left = within ++ rest;
-      joined = refl;
-      goes_on = (at, inner, end, within, deep, refl, refl, file, inl (rest, refl, walks, more));
-    })
-turn {depth = depth} {entry = entry}
-    (walk.cut_within less at text inner end within is holds file deep walks) =
-    inr (record {
-      at = aim.file at.name.now;
-      aims = is;
-      to = into less at.name.now at.real_dir.now text;
-      leads = (Text at.real_dir.now text, holds, entered entry depth less at.name.now _ text deep);
-      left = within;
-      joined = refl;
-      goes_on = (at, inner, end, within, deep, refl, refl, file, inr (refl, refl, walks));
-    })
-turn {place = place} {entry = entry} (walk.no_value {items = rest} is more) =
-    inr (record {
-      at = aim.no_value;
-      aims = is;
-      to = over (NoValue entry ∷ []);
-      leads = refl;
-      left = (place.name.now, Stops (NoValue entry)) ∷ rest;
-      joined = refl;
-      goes_on = (rest, refl, more);
-    })
-turn {place = place} {entry = entry} (walk.unknown {items = rest} is more) =
-    inr (record {
-      at = aim.unknown;
-      aims = is;
-      to = over (Unknown entry ∷ []);
-      leads = refl;
-      left = (place.name.now, Stops (Unknown entry)) ∷ rest;
-      joined = refl;
-      goes_on = (rest, refl, more);
-    })
-turn {place = place} {entry = entry} (walk.not_read {items = rest} name is holds more) =
-    inr (record {
-      at = aim.file name;
-      aims = is;
-      to = over (NotRead entry ∷ []);
-      leads = (Unreadable, holds, refl);
-      left = (place.name.now, Stops (NotRead entry)) ∷ rest;
-      joined = refl;
-      goes_on = (rest, refl, more);
-    })
-turn {depth = depth} {place = place} {entry = entry}
-    (walk.too_deep {items = rest} name dir text is holds deep more) =
-    inr (record {
-      at = aim.file name;
-      aims = is;
-      to = over (TooDeep entry ∷ []);
-      leads = (Text dir text, holds, rw deep refl);
-      left = (place.name.now, Stops (TooDeep entry)) ∷ rest;
-      joined = refl;
-      goes_on = (rest, refl, more);
-    })
+module _ {contents : List ℕ → Content → Type 0} {known : Known} {depth : ℕ} {place : FilePlace} {entry : Entry}
+    {entries : List Entry} {error : Option FileError} where
+  turn_over : {rest : List (List ℕ × Item)} {whole : Bool} (at : Aim) (all : List Stop)
+      → Aims known place.name.now place.real_dir.now entry at → Leads contents depth entry at (over all)
+      → Walks contents known depth place entries error rest whole
+      → Turn contents known depth place entry entries error
+      ((place.name.now, Found entry) ∷ (stops place.name.now all ++ rest)) whole
+  turn_over {rest = rest} at all is leads more = record {
+    at = at;
+    aims = is;
+    to = over all;
+    leads = leads;
+    left = stops place.name.now all ++ rest;
+    joined = refl;
+    goes_on = (rest, refl, more);
+  }
+
+  turn : {items : List (List ℕ × Item)} {whole : Bool}
+      → Walks contents known depth place (entry ∷ entries) error items whole
+      → IsCut items whole ⊎ Turn contents known depth place entry entries error items whole
+  turn walk.cut = inl (refl, refl)
+  turn (walk.plain is more) = inr (turn_over aim.no_file [] is refl more)
+  turn (walk.missing name is holds more) = inr (turn_over (aim.file name) [] is (Missing, holds, refl) more)
+  turn (walk.included {items = rest} less at text inner end within is holds file deep walks more) =
+      inr (record {
+        at = aim.file at.name.now;
+        aims = is;
+        to = into less at.name.now at.real_dir.now text;
+        leads = (Text at.real_dir.now text, holds, entered entry depth less at.name.now _ text deep);
+        left = within ++ rest;
+        joined = refl;
+        goes_on = (at, inner, end, within, rest, true, deep, refl, refl, file, refl, walks, λ e. more, λ e. cc);
+      })
+  turn (walk.cut_within less at text inner end within is holds file deep walks) =
+      inr (record {
+        at = aim.file at.name.now;
+        aims = is;
+        to = into less at.name.now at.real_dir.now text;
+        leads = (Text at.real_dir.now text, holds, entered entry depth less at.name.now _ text deep);
+        left = within;
+        joined = refl;
+        goes_on = (at, inner, end, within, [], false, deep, refl, refl, file, sym (append-nil within), walks, λ e. cc, λ e. (refl, refl));
+      })
+  turn (walk.no_value is more) = inr (turn_over aim.no_value (NoValue entry ∷ []) is refl more)
+  turn (walk.unknown is more) = inr (turn_over aim.unknown (Unknown entry ∷ []) is refl more)
+  turn (walk.not_read name is holds more) =
+      inr (turn_over (aim.file name) (NotRead entry ∷ []) is (Unreadable, holds, refl) more)
+  turn (walk.too_deep name dir text is holds deep more) =
+      inr (turn_over (aim.file name) (TooDeep entry ∷ []) is (Text dir text, holds, rw deep refl) more)
 
 -- ---- one walk
-
-begins_empty : {X : Type 0} {a : List X} {w : Bool} (b : List X) → a ≡ [] → w ≡ false → Begins a w b
-begins_empty {w = w} b none cut =
-    subst (λ x. Begins x w b) (sym none) (subst (λ x. Begins [] x b) (sym cut) nothing_begins)
-
-moved : {X : Type 0} {a b c d : List X} {v w : Bool} → a ≡ c → b ≡ d → Agree c v d w → Agree a v b w
-moved {b = b} {c = c} {v = v} {w = w} e f is =
-    subst (λ x. Agree x v b w) (sym e) (subst (λ x. Agree c v x w) (sym f) is)
-
--- two walks of these entries, of files with the same name in the same directory
-abbrev IsOne : (List ℕ → Content → Type 0) → Known → ℕ → List Entry → Type 0
-IsOne contents known n entries =
-    (p q : FilePlace) (error : Option FileError) (a b : List (List ℕ × Item)) (v w : Bool)
-    → p.name.now ≡ q.name.now → p.real_dir.now ≡ q.real_dir.now → All IsRead entries
-    → Walks contents known n p entries error a v → Walks contents known n q entries error b w → Agree a v b w
 
 abbrev last : List ℕ → Option FileError → List (List ℕ × Item)
 last name None = []
@@ -249,129 +203,73 @@ last name (Some error) = (name, Stops (Line error)) ∷ []
 no_entry : {contents : List ℕ → Content → Type 0} {known : Known} {depth : ℕ} {place : FilePlace}
     {error : Option FileError} {items : List (List ℕ × Item)} {whole : Bool}
     → Walks contents known depth place [] error items whole
-    → ((items ≡ []) × (whole ≡ false)) ⊎ (items ≡ last place.name.now error)
+    → IsCut items whole ⊎ (items ≡ last place.name.now error)
 no_entry walk.cut = inl (refl, refl)
 no_entry walk.ends = inr refl
 no_entry walk.line = inr refl
 
-at_end : (m n : List ℕ) (error : Option FileError) (a b : List (List ℕ × Item)) (v w : Bool) → m ≡ n
-    → ((a ≡ []) × (v ≡ false)) ⊎ (a ≡ last m error) → ((b ≡ []) × (w ≡ false)) ⊎ (b ≡ last n error)
-    → Agree a v b w
-at_end m n error a b v w same (inl (none, cut)) second = inl (begins_empty b none cut)
-at_end m n error a b v w same (inr is) (inl (none, cut)) = inr (begins_empty a none cut)
-at_end m n error a b v w same (inr is) (inr so) =
-    inl (itself (so ∙ ap (λ x. last x error) (sym same) ∙ sym is))
+-- all walks of these entries of the two files agree
+abbrev AllAgree : (List ℕ → Content → Type 0) → Known → ℕ → FilePlace → FilePlace → Option FileError
+    → List Entry → Type 0
+AllAgree contents known n p q error entries = (a b : List (List ℕ × Item)) (v w : Bool) → All IsRead entries
+    → Walks contents known n p entries error a v → Walks contents known n q entries error b w → Agree a v b w
 
-same_walks : {contents : List ℕ → Content → Type 0} {known : Known} {depth : ℕ} {place : FilePlace}
-    {a b : List Entry} {e f : Option FileError} {items : List (List ℕ × Item)} {whole : Bool} → a ≡ b → e ≡ f
-    → Walks contents known depth place a e items whole → Walks contents known depth place b f items whole
-same_walks {contents = contents} {known = known} {depth = depth} {place = place} {b = b} {e = e}
-    {items = items} {whole = whole} p q is =
-    subst (λ x. Walks contents known depth place b x items whole) q
-    (subst (λ x. Walks contents known depth place x e items whole) p is)
+-- so they do in all files with the same name in the same directory
+abbrev IsOne : (List ℕ → Content → Type 0) → Known → ℕ → Type 0
+IsOne contents known n = (p q : FilePlace) (error : Option FileError) → p.name.now ≡ q.name.now
+    → p.real_dir.now ≡ q.real_dir.now → (entries : List Entry) → AllAgree contents known n p q error entries
 
-agree_on : (contents : List ℕ → Content → Type 0) (known : Known) (n : ℕ)
-    → ((m : ℕ) → n ≡ m + 1 → (entries : List Entry) → IsOne contents known m entries)
-    → (entries : List Entry) → IsOne contents known n entries
-    → (p q : FilePlace) (error : Option FileError) (a b : List (List ℕ × Item)) (v w : Bool)
-    → p.name.now ≡ q.name.now → p.real_dir.now ≡ q.real_dir.now → All IsRead entries → (to : Way)
-    → GoesOn contents known n p entries error a v to → GoesOn contents known n q entries error b w to
-    → Agree a v b w
-agree_on contents known n below entries later p q error a b v w names dirs read (over all)
-    (rest, e, walks) (left, f, also) =
-    moved (e ∙ ap (λ x. stops x all ++ rest) names) f
-    (agree_after (stops q.name.now all) (later p q error rest left v w names dirs read walks also))
-agree_on contents known n below entries later p q error a b v w names dirs read (into less name dir text)
-    (at, inner, end, within, deep, at_name, at_dir, file, goes)
-    (to, others, stop, between, so, to_name, to_dir, same, on) =
-    let (entries_same, ends_same) = one_reading text inner others end stop file same in
-    let reach : (x y : List (List ℕ × Item)) (s t : Bool) → Walks contents known less at inner end x s
-    → Walks contents known less to others stop y t → Agree x s y t =
-    λ x y s t first second. below less deep others at to stop x y s t (at_name ∙ sym to_name)
-    (at_dir ∙ sym to_dir) (entries_are_read same) (same_walks entries_same ends_same first) second in
-    elim goes [
-      | inl whole ↦ elim on [
-        | inl also ↦
-            let (rest, e, first, more) = whole in
-            let (left, f, second, others_more) = also in
-            moved (e ∙ ap (λ x. x ++ rest) (wholes_same (reach within between true true first second))) f
-            (agree_after between (later p q error rest left v w names dirs read more others_more))
-        | inr cut ↦
-            let (rest, e, first, more) = whole in
-            let (f, no_more, second) = cut in
-            moved e f (inr (subst (λ x. Begins between x (within ++ rest)) (sym no_more)
-            (cut_begins rest (reach within between true false first second))))
-      ]
-      | inr cut ↦ elim on [
-        | inl also ↦
-            let (e, no_more, first) = cut in
-            let (left, f, second, others_more) = also in
-            moved e f (inl (subst (λ x. Begins within x (between ++ left)) (sym no_more)
-            (cut_begins left (flip (reach within between false true first second)))))
-        | inr too ↦
-            let (e, no_more, first) = cut in
-            let (f, also, second) = too in
-            moved e f (subst (λ x. Agree within x between w) (sym no_more)
-            (subst (λ x. Agree within false between x) (sym also)
-            (reach within between false false first second)))
-      ]
-    ]
+module _ (contents : List ℕ → Content → Type 0) (known : Known) (one : HasOneContent contents) (n : ℕ)
+    (below : (m : ℕ) → n ≡ m + 1 → IsOne contents known m) (p q : FilePlace) (error : Option FileError)
+    (names : p.name.now ≡ q.name.now) (dirs : p.real_dir.now ≡ q.real_dir.now) where
+  agree_on : (entries : List Entry) → AllAgree contents known n p q error entries → All IsRead entries
+      → (a b : List (List ℕ × Item)) (v w : Bool) (to : Way)
+      → GoesOn contents known n p entries error a v to → GoesOn contents known n q entries error b w to
+      → Agree a v b w
+  agree_on entries later read a b v w (over all) (rest, e, walks) (left, f, also) =
+      rw (e, f, names) (agree_after (stops q.name.now all) (later rest left v w read walks also))
+  agree_on entries later read a b v w (into less name dir text)
+      (at, inner, end, within, rest, s, deep, at_name, at_dir, file, e, walks, more, cut)
+      (to, others, stop, between, left, t, so, to_name, to_dir, same, f, also, goes, ends) =
+      let (inners, stops) = one_reading text inner others end stop file same in
+      let inside = below less deep at to stop (at_name ∙ sym to_name) (at_dir ∙ sym to_dir) others within between s t
+      (entries_are_read same) (rw (inners, stops) at walks) also in
+      rw (e, f) (joins s t inside cut ends (λ x y. later rest left v w read (more x) (goes y)))
 
-agree_here : (contents : List ℕ → Content → Type 0) (known : Known) (n : ℕ) → HasOneContent contents
-    → ((m : ℕ) → n ≡ m + 1 → (entries : List Entry) → IsOne contents known m entries)
-    → (entry : Entry) (entries : List Entry) → IsOne contents known n entries
-    → (p q : FilePlace) (error : Option FileError) (a b : List (List ℕ × Item)) (v w : Bool)
-    → p.name.now ≡ q.name.now → p.real_dir.now ≡ q.real_dir.now → All IsRead (entry ∷ entries)
-    → ((a ≡ []) × (v ≡ false)) ⊎ Turn contents known n p entry entries error a v
-    → ((b ≡ []) × (w ≡ false)) ⊎ Turn contents known n q entry entries error b w → Agree a v b w
-agree_here contents known n one below entry entries later p q error a b v w names dirs read
-    (inl (none, cut)) second =
-    inl (begins_empty b none cut)
-agree_here contents known n one below entry entries later p q error a b v w names dirs read
-    (inr first) (inl (none, cut)) =
-    inr (begins_empty a none cut)
-agree_here contents known n one below entry entries later p q error a b v w names dirs read
-    (inr first) (inr second) =
-    let aims : Aims known q.name.now q.real_dir.now entry first.at =
-    subst (λ x. Aims known q.name.now x entry first.at) dirs
-    (subst (λ x. Aims known x p.real_dir.now entry first.at) names first.aims) in
-    let same_aim = one_aim known q.name.now q.real_dir.now entry first.at second.at
-    (All-head IsRead entry entries read) aims second.aims in
-    let same_way = one_way n entry second.at first.to second.to one
-    (subst (λ x. Leads contents n entry x first.to) same_aim first.leads) second.leads in
-    moved (first.joined ∙ ap (λ x. (x, Found entry) ∷ first.left) names) second.joined
-    (agree_after ((q.name.now, Found entry) ∷ [])
-    (agree_on contents known n below entries later p q error first.left second.left v w names dirs
-    (All-tail IsRead entry entries read) second.to
-    (subst (λ x. GoesOn contents known n p entries error first.left v x) same_way first.goes_on)
-    second.goes_on))
+  agree_turns : (entry : Entry) (entries : List Entry) → AllAgree contents known n p q error entries
+      → (a b : List (List ℕ × Item)) (v w : Bool) → All IsRead (entry ∷ entries)
+      → Turn contents known n p entry entries error a v → Turn contents known n q entry entries error b w
+      → Agree a v b w
+  agree_turns entry entries later a b v w read x y =
+      let aims : Aims known q.name.now q.real_dir.now entry x.at = rw (names, dirs) at x.aims in
+      let aim = one_aim known q.name.now q.real_dir.now entry x.at y.at (All-head IsRead entry entries read) aims y.aims in
+      let ways = one_way n entry y.at x.to y.to one (rw aim at x.leads) y.leads in
+      rw (x.joined, y.joined, names) (agree_after ((q.name.now, Found entry) ∷ [])
+      (agree_on entries later (All-tail IsRead entry entries read) x.left y.left v w y.to (rw ways at x.goes_on)
+      y.goes_on))
 
-is_one : (contents : List ℕ → Content → Type 0) (known : Known) (n : ℕ) → HasOneContent contents
-    → ((m : ℕ) → n ≡ m + 1 → (entries : List Entry) → IsOne contents known m entries)
-    → (entries : List Entry) → IsOne contents known n entries
-is_one contents known n one below [] p q error a b v w names dirs read first second =
-    at_end p.name.now q.name.now error a b v w names (no_entry first) (no_entry second)
-is_one contents known n one below (entry ∷ entries) p q error a b v w names dirs read first second =
-    agree_here contents known n one below entry entries (is_one contents known n one below entries) p q error
-    a b v w names dirs read (turn first) (turn second)
+  is_one : (entries : List Entry) → AllAgree contents known n p q error entries
+  is_one [] a b v w read first second =
+      unless_cut (no_entry first) (no_entry second)
+      (λ is so. inl (itself (so ∙ ap (λ x. last x error) (sym names) ∙ sym is)))
+  is_one (entry ∷ entries) a b v w read first second =
+      unless_cut (turn first) (turn second) (agree_turns entry entries (is_one entries) a b v w read)
 
 are_one : (contents : List ℕ → Content → Type 0) (known : Known) → HasOneContent contents → (n : ℕ)
-    → (entries : List Entry) → IsOne contents known n entries
-are_one contents known one zero = is_one contents known zero one (λ m e. absurd (omega arith))
-are_one contents known one (suc n) = is_one contents known (suc n) one
-    (λ m e. let same : n ≡ m = omega arith in
-    subst (λ x. (entries : List Entry) → IsOne contents known x entries) same (are_one contents known one n))
+    → IsOne contents known n
+are_one contents known one zero = is_one contents known one zero (λ m e. absurd (omega arith))
+are_one contents known one (suc n) = is_one contents known one (suc n)
+    (λ m e. let same : n ≡ m = omega arith in rw same at (are_one contents known one n))
 
 pub texts_agree : {contents : List ℕ → Content → Type 0} {known : Known} {place : FilePlace} {text : List ℕ}
     {a b : List (List ℕ × Item)} {v w : Bool} → HasOneContent contents
     → WalksText contents known place text a v
     → WalksText contents known place text b w → Agree a v b w
-texts_agree {contents = contents} {known = known} {place = place} {text = text} {a = a} {b = b} {v = v}
-    {w = w} one
+texts_agree {contents = contents} {known = known} {place = place} {text = text} one
     (entries, error, is, walks) (others, other, so, also) =
     let (same, errors) = one_reading text entries others error other is so in
-    are_one contents known one 10 others place place other a b v w refl refl (entries_are_read so)
-    (same_walks same errors walks) also
+    are_one contents known one 10 place place other refl refl others _ _ _ _ (entries_are_read so)
+    (rw (same, errors) at walks) also
 
 pub whole_or_begins : {X : Type 0} {a b : List X} {w : Bool} → Agree a true b w
     → (more : List X) × (a ≡ b ++ more)

@@ -1,5 +1,5 @@
 -- What patterns match, by how they begin.
-use Rattle.std.proofs.Common.{◌≡◌, ◌≢◌, ℕ, Bool, true, false, List, [], ◌∷◌, refl, sym, ap, ◌∙◌, subst, arith}
+use Rattle.std.proofs.Common.{◌≡◌, ◌≢◌, ℕ, Bool, true, false, List, [], ◌∷◌, refl, sym, ap, ◌∙◌, arith}
 use Rattle.std.proofs.Common.{inl, inr, ◌⊎◌, ◌==◌, length, ◌<◌, ◌↔◌, IsTrue}
 use Rattle.std.proofs.lemmas.Bool.{true≢false}
 use Rattle.config_file.specs.Runs.{Run}
@@ -48,7 +48,7 @@ pub empty_no_item : {i : Bool} {b : ℕ} {rest : List ℕ} → Item i [] b rest 
 empty_no_item item = let short = item_shortens item in omega arith
 
 pub no_item : {i : Bool} {b : ℕ} (pattern rest : List ℕ) → pattern ≡ [] → ¬ (Item i pattern b rest)
-no_item {i = i} {b = b} pattern rest at item = empty_no_item (subst (λ p. Item i p b rest) at item)
+no_item pattern rest e item = empty_no_item (rw e at item)
 
 byte_inv : {i : Bool} {b c : ℕ} {more rest : List ℕ} → Item i (c ∷ more) b rest → c ≢ backslash
     → c ≢ left_bracket
@@ -72,20 +72,18 @@ set_inv (set is stands) e = stands
 pub no_escaped_item : {i : Bool} {b c : ℕ} {more : List ℕ} (pattern rest : List ℕ) → pattern ≡ c ∷ more
     → c ≡ backslash
     → ((r : List ℕ) → more ≢ folded i b ∷ r) → ¬ (Item i pattern b rest)
-no_escaped_item {i = i} {b = b} pattern rest at is never item =
-    never rest (escape_inv (subst (λ p. Item i p b rest) at item) is)
+no_escaped_item pattern rest e is never item = never rest (escape_inv (rw e at item) is)
 
 pub no_set_item : {i : Bool} {b c : ℕ} {more : List ℕ} (pattern rest : List ℕ) → pattern ≡ c ∷ more
     → c ≡ left_bracket
     → ((r : List ℕ) → ¬ (StandsForByte i more b r)) → ¬ (Item i pattern b rest)
-no_set_item {i = i} {b = b} pattern rest at is never item =
-    never rest (set_inv (subst (λ p. Item i p b rest) at item) is)
+no_set_item pattern rest e is never item = never rest (set_inv (rw e at item) is)
 
 pub no_byte_item : {i : Bool} {b c : ℕ} {more : List ℕ} (pattern rest : List ℕ) → pattern ≡ c ∷ more
     → c ≢ backslash
     → c ≢ left_bracket → stands_for i c b ≡ false → ¬ (Item i pattern b rest)
-no_byte_item {i = i} {b = b} pattern rest at plain closed never item =
-    true≢false (sym (byte_inv (subst (λ p. Item i p b rest) at item) plain closed) ∙ never)
+no_byte_item pattern rest e plain closed never item =
+    true≢false (sym (byte_inv (rw e at item) plain closed) ∙ never)
 
 -- ---- patterns that do not begin with a star
 
@@ -112,18 +110,16 @@ pub stars_inv : {i starts : Bool} {pattern more rest text : List ℕ} → Run is
     → Matches i starts (star ∷ pattern) text
     → MatchesNoDirectory i (crosses starts more rest) rest text ⊎ MatchesLater i (crosses starts more rest) rest text
 stars_inv run (one rest item match) = absurd (no_star_item item)
-stars_inv {pattern = pattern} {more = more} {rest = rest} run (stars more2 rest2 left is run2 passed match) =
-    let same = run_only run run2 in
-    rw (same.0, same.1) (inr (left, passed, match))
-stars_inv {pattern = pattern} {more = more} {rest = rest} run (no_directory more2 rest2 is run2 crossing match) =
-    let same = run_only run run2 in
-    rw (same.0, same.1) (inl (rest2, crossing, refl, match))
+stars_inv run (stars more2 rest2 left is run2 passed match) =
+    let same = run_only run run2 in rw (same.0, same.1) (inr (left, passed, match))
+stars_inv run (no_directory more2 rest2 is run2 crossing match) =
+    let same = run_only run run2 in rw (same.0, same.1) (inl (rest2, crossing, refl, match))
 
 pub stars_no_directory : {i starts : Bool} {pattern more text : List ℕ} (rest : List ℕ)
     → Run is_star pattern more rest
     → MatchesNoDirectory i (crosses starts more rest) rest text → MatchesStars i starts pattern text
-stars_no_directory {i = i} {starts = starts} {pattern = pattern} {more = more} rest run (after, crossing, at, match) =
-    no_directory more after refl (subst (λ r. Run is_star pattern more r) at run) (subst (λ r. crosses starts more r ≡ true) at crossing) match
+stars_no_directory {more = more} rest run (after, crossing, e, match) =
+    no_directory more after refl (rw e at run) (rw e at crossing) match
 
 pub stars_later : {i starts : Bool} {pattern more rest text : List ℕ} → Run is_star pattern more rest
     → MatchesLater i (crosses starts more rest) rest text → MatchesStars i starts pattern text
@@ -145,16 +141,16 @@ passes_inv : {crossing : Bool} {b : ℕ} {rest left : List ℕ} → Passes cross
 passes_inv no_more = inl refl
 passes_inv (passes is more) = inr (is, more)
 
-pub passes_none : {crossing : Bool} {left : List ℕ} → Passes crossing [] left → left ≡ []
+passes_none : {crossing : Bool} {left : List ℕ} → Passes crossing [] left → left ≡ []
 passes_none no_more = refl
 
 later_inv : {i crossing : Bool} {b : ℕ} {pattern rest : List ℕ} (at : List ℕ) → at ≡ b ∷ rest
     → ¬ (Matches i false pattern at)
     → MatchesLater i crossing pattern at
     → (is_passed crossing b ≡ true) × MatchesLater i crossing pattern rest
-later_inv {i = i} {crossing = crossing} {pattern = pattern} at e never (left, passed, match) =
-    elim (passes_inv (subst (λ x. Passes crossing x left) e passed)) [
-      | inl same ↦ absurd (never (subst (λ x. Matches i false pattern x) (same ∙ sym e) match))
+later_inv at e never (left, passed, match) =
+    elim (passes_inv (rw e at passed)) [
+      | inl same ↦ absurd (never (rw (same ∙ sym e) at match))
       | inr more ↦ (more.0, (left, more.1, match))
     ]
 
@@ -171,17 +167,9 @@ later_stops at e never stops later = true≢false (sym ((later_inv at e never la
 pub later_ends : {i crossing : Bool} {pattern : List ℕ} (at : List ℕ) → at ≡ []
     → ¬ (Matches i false pattern at)
     → ¬ (MatchesLater i crossing pattern at)
-later_ends {i = i} {crossing = crossing} {pattern = pattern} at e never (left, passed, match) =
-    let same = passes_none (subst (λ x. Passes crossing x left) e passed) in
-    never (subst (λ x. Matches i false pattern x) (same ∙ sym e) match)
+later_ends at e never (left, passed, match) = never (rw (passes_none (rw e at passed) ∙ sym e) at match)
 
 -- ---- results of tests
 
-pub not_true : (b : Bool) → b ≡ false → IsTrue b → ⊥
-not_true b e t = grind arith
-
-pub never_true : IsTrue false → ⊥
-never_true t = not_true false refl t
-
 pub no_match : {P : Type 0} (b : Bool) → b ≡ false → IsTrue b ↔ P → ¬ P
-no_match b e same whole = not_true b e (same.1 whole)
+no_match b e same whole = true≢false (sym (same.1 whole) ∙ e)

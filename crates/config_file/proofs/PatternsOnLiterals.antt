@@ -5,18 +5,17 @@ use Rattle.std.proofs.Common.{Option, Some, None, codes, length, drop, map, refl
 use Rattle.std.proofs.Common.{inl, inr, ◌⊎◌}
 use Rattle.std.proofs.lemmas.Bool.{true≢false}
 use Rattle.std.specs.List.{AllByRecursion}
-use Rattle.config_file.proofs.Pick.{cases}
 use Rattle.config_file.proofs.Fronts.{is_front, lacks}
 use Rattle.config_file.proofs.OneRun.{before}
 use Rattle.config_file.proofs.OnLiterals.{Known, carry}
-use Rattle.config_file.proofs.EachValue.{test_not}
 use Rattle.config_file.proofs.Runs.{run_split}
+use Rattle.config_file.proofs.Sets.{test, equal, given, cons_same, same, class_at}
 use Rattle.config_file.proofs.Sets.{not_opened, stands, stands_unwanted, stands_for_no_slash}
 use Rattle.config_file.proofs.Patterns.{no_item, byte_item, escaped_item, set_item, no_escaped_item}
 use Rattle.config_file.proofs.Patterns.{no_set_item, no_byte_item}
 use Rattle.config_file.proofs.Patterns.{one_inv, end_inv, stars_inv, stars_no_directory, stars_later}
 use Rattle.config_file.proofs.Patterns.{later_here, later_step, later_back, later_stops, later_ends}
-use Rattle.config_file.proofs.Same.{item_same}
+use Rattle.config_file.proofs.Places.{here_one}
 use Rattle.config_file.specs.Runs.{Run}
 use Rattle.config_file.specs.Set as set
 use Rattle.config_file.specs.Set.{slash, folded, range_has, opened, is_wanted, is_unclosed, IsNoClass, Class}
@@ -25,47 +24,25 @@ use Rattle.config_file.specs.Pattern as match
 use Rattle.config_file.specs.Pattern.{Item, Matches, MatchesText, MatchesLater, MatchesNoDirectory, LacksStar}
 use Rattle.config_file.specs.Pattern.{stands_for, crosses, is_passed, is_star}
 
--- ---- sets
+-- ---- choices, which compute
 
-pub cons_same : {x y : ℕ} {a b : List ℕ} → x ≡ y → a ≡ b → x ∷ a ≡ y ∷ b
-cons_same e f = rw (e, f)
+abbrev decided : {A B C : Type 0} → Option (A ⊎ B) → (A → Option C) → (B → Option C) → Option C
+decided None one other = None
+decided (Some (inl a)) one other = one a
+decided (Some (inr b)) one other = other b
+
+abbrev answer : {A B C D : Type 0} → Option (A ⊎ B) → (A → C) → (B → D) → Option (C ⊎ D)
+answer None one other = None
+answer (Some (inl a)) one other = Some (inl (one a))
+answer (Some (inr b)) one other = Some (inr (other b))
+
+-- ---- sets
 
 pub cons_head : {x y : ℕ} {a b : List ℕ} → x ∷ a ≡ y ∷ b → x ≡ y
 cons_head e = cc
 
 pub no_cons : {x : ℕ} {a : List ℕ} → [] ≢ x ∷ a
 no_cons e = cc
-
-abbrev same : (a b : List ℕ) → Option (a ≡ b)
-same [] [] = Some refl
-same [] (y ∷ b) = None
-same (x ∷ a) [] = None
-same (x ∷ a) (y ∷ b) =
-    elim (cases (x == y)) [
-      | inl head ↦ elim (same a b) [ None ↦ None | Some tail ↦ Some (cons_same (eqb-true x y head) tail) ]
-      | inr other ↦ None
-    ]
-
-abbrev or_class : {i : Bool} {b : ℕ} {name : List ℕ} (word : List ℕ) (has : Bool)
-    → (name ≡ word → has ≡ has → Class i b name has)
-    → Known (Class i b name) → Known (Class i b name)
-or_class {name = name} word has makes others =
-    elim (same name word) [ None ↦ others | Some e ↦ Some (has, makes e refl) ]
-
-abbrev class_at : (i : Bool) (b : ℕ) (name : List ℕ) → Known (Class i b name)
-class_at i b name =
-    or_class (codes "alnum") _ set.alnum
-    (or_class (codes "alpha") _ set.alpha
-    (or_class (codes "blank") _ set.blank
-    (or_class (codes "cntrl") _ set.cntrl
-    (or_class (codes "digit") _ set.digit
-    (or_class (codes "graph") _ set.graph
-    (or_class (codes "lower") _ set.lower
-    (or_class (codes "print") _ set.print
-    (or_class (codes "punct") _ set.punct
-    (or_class (codes "space") _ set.spaces
-    (or_class (codes "upper") _ set.upper
-    (or_class (codes "xdigit") _ set.xdigit None)))))))))))
 
 abbrev Byte : Bool → List ℕ → Type 0
 Byte starts text = Known (λ (p : ℕ × List ℕ). SetByte starts text p.0 p.1)
@@ -77,14 +54,9 @@ escaped_byte starts c (e ∷ rest) is = Some ((e, rest), set.after_backslash is)
 abbrev byte_at : (starts : Bool) (text : List ℕ) → Byte starts text
 byte_at starts [] = None
 byte_at starts (c ∷ rest) =
-    elim (cases (c == 92)) [
-      | inl is ↦ escaped_byte starts c rest (eqb-true c 92 is)
-      | inr other ↦ elim (cases (c == 93)) [
-        | inl ends ↦
-            elim (cases starts) [ inl first ↦ Some ((c, rest), set.bare (test_not c 92 other) (λ e. first)) | inr later ↦ None ]
-        | inr plain ↦ Some ((c, rest), set.bare (test_not c 92 other) (λ e. absurd (test_not c 93 plain e)))
-      ]
-    ]
+    equal c 92 (escaped_byte starts c rest) (λ other. equal c 93
+    (λ ends. test starts (λ first. Some ((c, rest), set.bare other (λ e. first))) (λ later. None))
+    (λ plain. Some ((c, rest), set.bare other (λ e. absurd (plain e)))))
 
 pub no_dash : {c last : ℕ} {text rest : List ℕ} → c ≢ 45 → RangeEnd (c ∷ text) last rest → ⊥
 no_dash other (set.to e is) = other e
@@ -100,47 +72,35 @@ abbrev after_byte : (i : Bool) (b : ℕ) (starts : Bool) (text : List ℕ) → I
     → (c : ℕ) (rest : List ℕ) → SetByte starts text c rest → Has i b starts text
 after_byte i b starts text none c [] byte = Some (_, set.single c none byte (λ last rest. no_end) refl)
 after_byte i b starts text none c (d ∷ rest) byte =
-    elim (cases (d == 45)) [
-      | inl is ↦
-          carry (λ p. (c == folded i b || range_has i c p.0 b, p.1)) (λ p last. set.range c p.0 (d ∷ rest) none byte (set.to (eqb-true d 45 is) last) refl)
-          (byte_at false rest)
-      | inr other ↦ Some (_, set.single c none byte (λ last rest. no_dash (test_not d 45 other)) refl)
-    ]
+    equal d 45
+    (λ is. carry (λ p. (c == folded i b || range_has i c p.0 b, p.1))
+    (λ p last. set.range c p.0 (d ∷ rest) none byte (set.to is last) refl) (byte_at false rest))
+    (λ other. Some (_, set.single c none byte (λ last rest. no_dash other) refl))
 
 pub closed_run : {c : ℕ} {inner inside front rest : List ℕ} → c ≡ 93 → inside ≡ front
     → Run is_unclosed inner inside (c ∷ rest)
     → Run is_unclosed inner front (93 ∷ rest)
-closed_run {c = c} {inner = inner} {inside = inside} {rest = rest} is e run =
-    subst (λ f. Run is_unclosed inner f (93 ∷ rest)) e (subst (λ x. Run is_unclosed inner inside (x ∷ rest)) is run)
+closed_run is e run = rw (e, is) at run
 
 -- the text after `[:`, whose run before the next `]` is this one
 abbrev class_in : (i : Bool) (b : ℕ) (starts : Bool) (inner inside closing : List ℕ)
     → Run is_unclosed inner inside closing → Has i b starts (codes "[:" ++ inner)
 class_in i b starts inner inside [] run = None
 class_in i b starts inner inside (c ∷ rest) run =
-    let name = before inside (58 ∷ []) in
-    elim (cases (c == 93)) [
-      | inl is ↦ elim (same inside (name ++ codes ":")) [
-        | None ↦ None
-        | Some e ↦ carry (λ has. (has, rest))
-            (λ has known. set.class name (record { inner = inner; opened = refl; closed = closed_run (eqb-true c 93 is) e run }) known) (class_at i b name)
-      ]
-      | inr other ↦ None
-    ]
+    equal c 93
+    (λ is. given (same inside (before inside (58 ∷ []) ++ codes ":")) (λ e. carry (λ has. (has, rest))
+    (λ has known. set.class (before inside (58 ∷ [])) (record { inner = inner; opened = refl; closed = closed_run is e run }) known)
+    (class_at i b (before inside (58 ∷ [])))))
+    (λ other. None)
 
 abbrev member_at : (i : Bool) (b : ℕ) (starts : Bool) (text : List ℕ) → Has i b starts text
 member_at i b starts text =
-    elim (cases (is_front (codes "[:") text)) [
-      | inl opens ↦ elim (same text (codes "[:" ++ drop 2 text)) [
-        | None ↦ None
-        | Some e ↦
-            carry (λ p. p) (λ p is. subst (λ t. Member i b starts t p.0 p.1) (sym e) is) (class_in i b starts (drop 2 text) _ _ (run_split is_unclosed (drop 2 text)))
-      ]
-      | inr none ↦ elim (byte_at starts text) [
-        | None ↦ None
-        | Some c ↦ after_byte i b starts text (not_opened (lacks (codes "[:") text none)) c.0.0 c.0.1 c.1
-      ]
-    ]
+    test (is_front (codes "[:") text)
+    (λ opens. given (same text (codes "[:" ++ drop 2 text)) (λ e. carry (λ p. p)
+    (λ p is. subst (λ t. Member i b starts t p.0 p.1) (sym e) is)
+    (class_in i b starts (drop 2 text) _ _ (run_split is_unclosed (drop 2 text)))))
+    (λ none. given (byte_at starts text)
+    (λ c. after_byte i b starts text (not_opened (lacks (codes "[:") text none)) c.0.0 c.0.1 c.1))
 
 abbrev All : Bool → ℕ → Bool → List ℕ → Type 0
 All i b starts text = Known (λ (p : Bool × List ℕ). SetHas i b starts text p.0 p.1)
@@ -156,10 +116,8 @@ abbrev members_at : ℕ → (i : Bool) (b : ℕ) (text : List ℕ) → All i b f
 members_at n i b [] = None
 members_at zero i b (c ∷ text) = None
 members_at (suc n) i b (c ∷ text) =
-    elim (cases (c == 93)) [
-      | inl is ↦ Some ((false, text), set.closes (eqb-true c 93 is))
-      | inr other ↦ and_more i b false (c ∷ text) (members_at n i b) (member_at i b false (c ∷ text))
-    ]
+    equal c 93 (λ is. Some ((false, text), set.closes is))
+    (λ other. and_more i b false (c ∷ text) (members_at n i b) (member_at i b false (c ∷ text)))
 
 -- ---- items
 
@@ -173,47 +131,27 @@ Follows P = Option (((rest : List ℕ) × P rest) ⊎ ((rest : List ℕ) → P r
 abbrev set_at : (i : Bool) (text : List ℕ) (b : ℕ) → Follows (StandsForByte i text b)
 set_at i text b =
     let inner = (opened text).1 in
-    elim (and_more i b true inner (members_at (length inner) i b) (member_at i b true inner)) [
-      | None ↦ None
-      | Some all ↦ elim (cases (b == 47)) [
-        | inl is ↦ Some (inr (stands_for_no_slash (eqb-true b 47 is)))
-        | inr apart ↦ elim (cases (is_wanted all.0.0 ((opened text).0))) [
-          | inl wanted ↦ Some (inl (all.0.1, stands {text = text} refl all.1 wanted (test_not b 47 apart)))
-          | inr unwanted ↦ Some (inr (stands_unwanted {text = text} refl all.1 unwanted))
-        ]
-      ]
-    ]
+    given (and_more i b true inner (members_at (length inner) i b) (member_at i b true inner))
+    (λ all. equal b 47 (λ is. Some (inr (stands_for_no_slash is)))
+    (λ apart. test (is_wanted all.0.0 ((opened text).0))
+    (λ wanted. Some (inl (all.0.1, stands {text = text} refl all.1 wanted apart)))
+    (λ unwanted. Some (inr (stands_unwanted {text = text} refl all.1 unwanted)))))
 
 abbrev escape_at : (i : Bool) (c b : ℕ) (more : List ℕ) → c ≡ 92 → Follows (Item i (c ∷ more) b)
 escape_at i c b [] is = Some (inr (λ rest. no_escaped_item (c ∷ []) rest refl is (λ r. no_cons)))
 escape_at i c b (e ∷ rest) is =
-    elim (cases (e == folded i b)) [
-      | inl fits ↦
-          Some (inl (rest, escaped_item (c ∷ e ∷ rest) refl is (cons_same (eqb-true e (folded i b) fits) refl)))
-      | inr other ↦
-          Some (inr (λ r. no_escaped_item (c ∷ e ∷ rest) r refl is (λ s at. test_not e (folded i b) other (cons_head at))))
-    ]
+    equal e (folded i b)
+    (λ fits. Some (inl (rest, escaped_item (c ∷ e ∷ rest) refl is (cons_same fits refl))))
+    (λ other. Some (inr (λ r. no_escaped_item (c ∷ e ∷ rest) r refl is (λ s at. other (cons_head at)))))
 
 abbrev item_at : (i : Bool) (pattern : List ℕ) (b : ℕ) → Follows (Item i pattern b)
 item_at i [] b = Some (inr (λ rest. no_item [] rest refl))
 item_at i (c ∷ more) b =
-    elim (cases (c == 92)) [
-      | inl is ↦ escape_at i c b more (eqb-true c 92 is)
-      | inr plain ↦ elim (cases (c == 91)) [
-        | inl is ↦ elim (set_at i more b) [
-          | None ↦ None
-          | Some found ↦ elim found [
-            | inl stands ↦ Some (inl (stands.0, set_item (c ∷ more) refl (eqb-true c 91 is) stands.1))
-            | inr never ↦ Some (inr (λ rest. no_set_item (c ∷ more) rest refl (eqb-true c 91 is) never))
-          ]
-        ]
-        | inr ordinary ↦ elim (cases (stands_for i c b)) [
-          | inl is ↦ Some (inl (more, byte_item (c ∷ more) refl is))
-          | inr never ↦
-              Some (inr (λ rest. no_byte_item (c ∷ more) rest refl (test_not c 92 plain) (test_not c 91 ordinary) never))
-        ]
-      ]
-    ]
+    equal c 92 (escape_at i c b more) (λ plain. equal c 91
+    (λ is. answer (set_at i more b) (λ stands. (stands.0, set_item (c ∷ more) refl is stands.1))
+    (λ never rest. no_set_item (c ∷ more) rest refl is never))
+    (λ ordinary. test (stands_for i c b) (λ is. Some (inl (more, byte_item (c ∷ more) refl is)))
+    (λ never. Some (inr (λ rest. no_byte_item (c ∷ more) rest refl plain ordinary never)))))
 
 -- ---- patterns
 
@@ -222,32 +160,13 @@ Decides i = (starts : Bool) (pattern text : List ℕ) → Answer (Matches i star
 
 abbrev later_at : (i crossing : Bool) → Decides i → (pattern text : List ℕ)
     → Answer (MatchesLater i crossing pattern text)
-later_at i crossing go pattern [] =
-    elim (go false pattern []) [
-      | None ↦ None
-      | Some found ↦
-          elim found [ inl match ↦ Some (inl (later_here match)) | inr never ↦ Some (inr (later_ends [] refl never)) ]
-    ]
+later_at i crossing go pattern [] = answer (go false pattern []) later_here (later_ends [] refl)
 later_at i crossing go pattern (b ∷ text) =
-    elim (go false pattern (b ∷ text)) [
-      | None ↦ None
-      | Some found ↦ elim found [
-        | inl match ↦ Some (inl (later_here match))
-        | inr never ↦ elim (cases (is_passed crossing b)) [
-          | inr stops ↦ Some (inr (later_stops (b ∷ text) refl never stops))
-          | inl is ↦ elim (later_at i crossing go pattern text) [
-            | None ↦ None
-            | Some more ↦ elim more [
-              | inl later ↦ Some (inl (later_step (b ∷ text) refl is later))
-              | inr none ↦ Some (inr (λ h. none (later_back (b ∷ text) refl never h)))
-            ]
-          ]
-        ]
-      ]
-    ]
-
-pub not_crossing : {i : Bool} {pattern text : List ℕ} → MatchesNoDirectory i false pattern text → ⊥
-not_crossing (rest, crossing, at, match) = true≢false (sym crossing)
+    decided (go false pattern (b ∷ text)) (λ match. Some (inl (later_here match)))
+    (λ never. test (is_passed crossing b)
+    (λ is. answer (later_at i crossing go pattern text) (later_step (b ∷ text) refl is)
+    (λ none h. none (later_back (b ∷ text) refl never h)))
+    (λ stops. Some (inr (later_stops (b ∷ text) refl never stops))))
 
 pub no_slash : {i crossing : Bool} {pattern text : List ℕ} → ((rest : List ℕ) → pattern ≢ slash ∷ rest)
     → MatchesNoDirectory i crossing pattern text → ⊥
@@ -255,67 +174,39 @@ no_slash never (rest, crossing, at, match) = never rest at
 
 pub past_slash : {i crossing : Bool} {c : ℕ} {pattern text : List ℕ} → (Matches i true pattern text → ⊥)
     → MatchesNoDirectory i crossing (c ∷ pattern) text → ⊥
-past_slash {i = i} {text = text} never (rest, crossing, at, match) =
-    never (subst (λ x. Matches i true x text) (sym (ap (drop 1) at)) match)
+past_slash never (rest, crossing, at, match) = never (rw (sym (ap (drop 1) at)) at match)
 
 abbrev no_directory_at : (i crossing : Bool) → Decides i → (pattern text : List ℕ)
     → Answer (MatchesNoDirectory i crossing pattern text)
-no_directory_at i false go pattern text = Some (inr not_crossing)
+no_directory_at i false go pattern text = Some (inr (λ m. true≢false (sym m.1)))
 no_directory_at i true go [] text = Some (inr (no_slash (λ rest. no_cons)))
 no_directory_at i true go (c ∷ pattern) text =
-    elim (cases (c == 47)) [
-      | inr other ↦ Some (inr (no_slash (λ rest e. test_not c 47 other (cons_head e))))
-      | inl is ↦ elim (go true pattern text) [
-        | None ↦ None
-        | Some found ↦ elim found [
-          | inl match ↦ Some (inl (pattern, refl, cons_same (eqb-true c 47 is) refl, match))
-          | inr never ↦ Some (inr (past_slash never))
-        ]
-      ]
-    ]
-
-pub no_stars : {i starts : Bool} {pattern more rest text : List ℕ} → Run is_star pattern more rest
-    → (MatchesNoDirectory i (crosses starts more rest) rest text → ⊥)
-    → (MatchesLater i (crosses starts more rest) rest text → ⊥)
-    → Matches i starts (42 ∷ pattern) text → ⊥
-no_stars run none never h = elim (stars_inv run h) [ inl direct ↦ none direct | inr later ↦ never later ]
+    equal c 47
+    (λ is. answer (go true pattern text) (λ match. (pattern, refl, cons_same is refl, match)) past_slash)
+    (λ other. Some (inr (no_slash (λ rest e. other (cons_head e)))))
 
 pub as_star : {i starts : Bool} {c : ℕ} {pattern text : List ℕ} → c ≡ 42
     → Matches i starts (42 ∷ pattern) text → Matches i starts (c ∷ pattern) text
 as_star is match = rw is match
 
-pub from_star : {i starts : Bool} {c : ℕ} {pattern text : List ℕ} → c ≡ 42
-    → Matches i starts (c ∷ pattern) text → Matches i starts (42 ∷ pattern) text
-from_star {i = i} {starts = starts} {pattern = pattern} {text = text} is match =
-    subst (λ x. Matches i starts (x ∷ pattern) text) is match
+pub no_stars : {i starts : Bool} {c : ℕ} {pattern more rest text : List ℕ} → c ≡ 42 → Run is_star pattern more rest
+    → (MatchesNoDirectory i (crosses starts more rest) rest text → ⊥)
+    → (MatchesLater i (crosses starts more rest) rest text → ⊥)
+    → Matches i starts (c ∷ pattern) text → ⊥
+no_stars is run none never h =
+    elim (stars_inv run (rw is at h)) [ inl direct ↦ none direct | inr later ↦ never later ]
 
 abbrev stars_of : (i starts : Bool) → Decides i → (c : ℕ) → c ≡ 42 → (pattern text more rest : List ℕ)
     → Run is_star pattern more rest
     → Answer (Matches i starts (c ∷ pattern) text)
 stars_of i starts go c is pattern text more rest run =
-    elim (no_directory_at i (crosses starts more rest) go rest text) [
-      | None ↦ None
-      | Some found ↦ elim found [
-        | inl direct ↦ Some (inl (as_star is (stars_no_directory rest run direct)))
-        | inr none ↦ elim (later_at i (crosses starts more rest) go rest text) [
-          | None ↦ None
-          | Some later ↦ elim later [
-            | inl match ↦ Some (inl (as_star is (stars_later run match)))
-            | inr never ↦ Some (inr (λ h. no_stars run none never (from_star is h)))
-          ]
-        ]
-      ]
-    ]
+    decided (no_directory_at i (crosses starts more rest) go rest text)
+    (λ direct. Some (inl (as_star is (stars_no_directory rest run direct))))
+    (λ none. answer (later_at i (crosses starts more rest) go rest text)
+    (λ match. as_star is (stars_later run match)) (no_stars is run none))
 
 pub no_star : {c : ℕ} {pattern : List ℕ} → c ≢ 42 → LacksStar (c ∷ pattern)
 no_star other rest e = other (cc (e))
-
-pub no_one : {i starts : Bool} {b : ℕ} {pattern rest text : List ℕ} → LacksStar pattern
-    → Item i pattern b rest
-    → (Matches i (b == 47) rest text → ⊥) → Matches i starts pattern (b ∷ text) → ⊥
-no_one {i = i} {b = b} {text = text} lacks item never match =
-    let (rest, also, more) = one_inv match lacks in
-    never (subst (λ x. Matches i (b == 47) x text) (item_same also item).0 more)
 
 pub not_one : {i starts : Bool} {b : ℕ} {pattern text : List ℕ} → LacksStar pattern
     → ((rest : List ℕ) → Item i pattern b rest → ⊥)
@@ -324,7 +215,7 @@ not_one lacks never match = let (rest, item, more) = one_inv match lacks in neve
 
 pub not_at_end : {i starts : Bool} {c : ℕ} {pattern : List ℕ} → LacksStar (c ∷ pattern)
     → Matches i starts (c ∷ pattern) [] → ⊥
-not_at_end lacks match = let e = end_inv match lacks in cc
+not_at_end lacks match = cc (end_inv match lacks)
 
 pub empty_lacks : LacksStar []
 empty_lacks rest e = cc
@@ -332,19 +223,10 @@ empty_lacks rest e = cc
 abbrev one_of : (i starts : Bool) → Decides i → (pattern : List ℕ) → LacksStar pattern
     → (b : ℕ) (text : List ℕ) → Answer (Matches i starts pattern (b ∷ text))
 one_of i starts go pattern lacks b text =
-    elim (item_at i pattern b) [
-      | None ↦ None
-      | Some found ↦ elim found [
-        | inr never ↦ Some (inr (not_one lacks never))
-        | inl item ↦ elim (go (b == 47) item.0 text) [
-          | None ↦ None
-          | Some more ↦ elim more [
-            | inl rest ↦ Some (inl (match.one item.0 item.1 rest))
-            | inr never ↦ Some (inr (no_one lacks item.1 never))
-          ]
-        ]
-      ]
-    ]
+    decided (item_at i pattern b)
+    (λ item. answer (go (b == 47) item.0 text) (match.one item.0 item.1)
+    (λ never m. never (here_one item.1 m)))
+    (λ never. Some (inr (not_one lacks never)))
 
 -- of patterns of at most n bytes
 abbrev decide : ℕ → (i : Bool) → Decides i
@@ -352,17 +234,11 @@ decide n i starts [] [] = Some (inl match.ends)
 decide n i starts [] (b ∷ text) = Some (inr (not_one empty_lacks (λ rest. no_item [] rest refl)))
 decide zero i starts (c ∷ pattern) text = None
 decide (suc n) i starts (c ∷ pattern) [] =
-    elim (cases (c == 42)) [
-      | inl is ↦
-          stars_of i starts (decide n i) c (eqb-true c 42 is) pattern [] _ _ (run_split is_star pattern)
-      | inr other ↦ Some (inr (not_at_end (no_star (test_not c 42 other))))
-    ]
+    equal c 42 (λ is. stars_of i starts (decide n i) c is pattern [] _ _ (run_split is_star pattern))
+    (λ other. Some (inr (not_at_end (no_star other))))
 decide (suc n) i starts (c ∷ pattern) (b ∷ text) =
-    elim (cases (c == 42)) [
-      | inl is ↦
-          stars_of i starts (decide n i) c (eqb-true c 42 is) pattern (b ∷ text) _ _ (run_split is_star pattern)
-      | inr other ↦ one_of i starts (decide n i) (c ∷ pattern) (no_star (test_not c 42 other)) b text
-    ]
+    equal c 42 (λ is. stars_of i starts (decide n i) c is pattern (b ∷ text) _ _ (run_split is_star pattern))
+    (λ other. one_of i starts (decide n i) (c ∷ pattern) (no_star other) b text)
 
 -- whether each pattern matches the text in its row
 abbrev Says : Bool → Bool → List ℕ → List ℕ → Type 0

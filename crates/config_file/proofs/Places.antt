@@ -1,6 +1,6 @@
 -- How far a pattern has matched a text, and why an earlier star need not be tried again.
-use Rattle.std.proofs.Common.{◌≡◌, ◌≢◌, ℕ, Bool, true, false, not, ◌||◌, ◌==◌, List, [], ◌∷◌, refl, sym, ◌∙◌}
-use Rattle.std.proofs.Common.{subst, arith, inl, inr, ◌↔◌, length, ◌≤◌, ◌<◌}
+use Rattle.std.proofs.Common.{◌≡◌, ◌≢◌, ℕ, Bool, true, false, ◌==◌, List, [], ◌∷◌, refl, sym, ap, ◌∙◌}
+use Rattle.std.proofs.Common.{arith, drop, eqb-true, inl, inr, ◌↔◌, length, ◌≤◌, ◌<◌}
 use Rattle.std.proofs.lemmas.Bool.{true≢false}
 use Rattle.config_file.specs.Runs.{Run}
 use Rattle.config_file.specs.Set.{slash}
@@ -20,18 +20,9 @@ use Rattle.config_file.proofs.Same.{item_same}
 
 -- ---- tests
 
-test_slash : (b : ℕ) → (b == slash) ≡ true → b ≡ slash
-test_slash b e = grind arith
-
 passed_any : (c : Bool) (b : ℕ) → is_passed false b ≡ true → is_passed c b ≡ true
 passed_any true b e = refl
 passed_any false b e = e
-
-passed_same : (c : Bool) (b e : ℕ) → (b == slash) ≡ (e == slash) → is_passed c b ≡ true → is_passed c e ≡ true
-passed_same c b e same is = subst (λ x. (c || not x) ≡ true) same is
-
-never : {A : Type 0} → false ≡ true → A
-never e = absurd (true≢false (sym e))
 
 slash_stands : (i : Bool) → stands_for i slash slash ≡ true
 slash_stands true = refl
@@ -46,10 +37,10 @@ past_item : {i c starts : Bool} {b : ℕ} {pattern rest : List ℕ} (text : List
     → is_passed c b ≡ true
     → Matches i starts pattern text → Further i c (b == slash) rest text
 past_item [] item is match = absurd (empty_no_item (rw (end_inv match (item_lacks item)) at item))
-past_item {c = c} {b = b} (e ∷ text) item is match =
+past_item (e ∷ text) item is match =
     let (rest2, item2, more) = one_inv match (item_lacks item) in
     let same = item_same item2 item in
-    next (passed_same c b e (sym same.1) is) (λ t. test_slash e (same.1 ∙ t)) (rw (same.0, same.1) at more)
+    next (rw (sym same.1) at is) (λ t. eqb-true e slash (same.1 ∙ t)) (rw same.1 at (rw same.0 at more))
 
 further_item : {i c starts : Bool} {b : ℕ} {pattern rest text : List ℕ} → Item i pattern b rest
     → is_passed c b ≡ true
@@ -62,10 +53,10 @@ after_one : {i c starts : Bool} {b : ℕ} {pattern rest text : List ℕ} → Ite
 after_one item (next {text = text} passed slashes match) = past_item text item passed match
 after_one item (beyond passed more) = further_item item passed more
 
-here_one : {i starts : Bool} {b : ℕ} {pattern rest text : List ℕ} → Item i pattern b rest
+pub here_one : {i starts : Bool} {b : ℕ} {pattern rest text : List ℕ} → Item i pattern b rest
     → Matches i starts pattern (b ∷ text) → Matches i (b == slash) rest text
 here_one item match =
-    let (rest2, item2, more) = one_inv match (item_lacks item) in rw ((item_same item2 item).0) at more
+    let (rest2, item2, more) = one_inv match (item_lacks item) in rw (item_same item2 item).0 at more
 
 follows_one : {i starts : Bool} {b : ℕ} {pattern rest text : List ℕ} → Item i pattern b rest
     → Follows i starts pattern (b ∷ text) (b == slash) rest text
@@ -105,7 +96,7 @@ from_back at e none (inr more) = further_back (rw e at more)
 from_step : {i c : Bool} {b : ℕ} {pattern text : List ℕ} → is_passed c b ≡ true
     → FromHere i c false pattern text
     → Further i c false pattern (b ∷ text)
-from_step is (inl m) = next is never m
+from_step is (inl m) = next is (λ e. cc) m
 from_step is (inr more) = beyond is more
 
 from_passes : {i d c : Bool} {pattern text left : List ℕ}
@@ -133,28 +124,26 @@ to_later (inr more) = further_later refl more
 
 -- ---- the next star: what matches from an earlier star's later places matches from this star too
 
-module _ {starts : Bool} {pattern more rest : List ℕ} (run : Run is_star pattern more rest) (short : crosses starts more rest ≡ false) where
-  star_from : {i c : Bool} {text : List ℕ} → Matches i starts (star ∷ pattern) text
-      → FromHere i c false rest text
-  star_from {c = c} match =
-      elim (stars_inv run match) [
-        | inl (after, crossing, at, m) ↦ absurd (true≢false (sym crossing ∙ short))
-        | inr (left, passed, m) ↦ from_passes (λ b is. passed_any c b is) (rw short at passed) m
-      ]
+star_from : {i c starts : Bool} {pattern more rest text : List ℕ} → Run is_star pattern more rest
+    → crosses starts more rest ≡ false
+    → Matches i starts (star ∷ pattern) text → FromHere i c false rest text
+star_from {c = c} run short match =
+    elim (stars_inv run match) [
+      | inl (after, crossing, at, m) ↦ absurd (true≢false (sym crossing ∙ short))
+      | inr (left, passed, m) ↦ from_passes (passed_any c) (rw short at passed) m
+    ]
 
-  star_further : {i c : Bool} {text : List ℕ} → Further i c starts (star ∷ pattern) text
-      → Further i c false rest text
-  star_further (next is slashes match) = from_step is (star_from match)
-  star_further (beyond is more) = beyond is (star_further more)
+star_further : {i c starts : Bool} {pattern more rest text : List ℕ} → Run is_star pattern more rest
+    → crosses starts more rest ≡ false
+    → Further i c starts (star ∷ pattern) text → Further i c false rest text
+star_further run short (next is slashes match) = from_step is (star_from run short match)
+star_further run short (beyond is more) = beyond is (star_further run short more)
 
-  pub star_all : {i c : Bool} {text : List ℕ} → FromHere i c starts (star ∷ pattern) text
-      → FromHere i c false rest text
-  star_all (inl m) = star_from m
-  star_all (inr more) = inr (star_further more)
-
-  pub short_back : {i : Bool} {text : List ℕ} → MatchesLater i false rest text
-      → MatchesStars i starts pattern text
-  short_back m = stars_later run (rw short m)
+pub star_all : {i c starts : Bool} {pattern more rest text : List ℕ} → Run is_star pattern more rest
+    → crosses starts more rest ≡ false
+    → FromHere i c starts (star ∷ pattern) text → FromHere i c false rest text
+star_all run short (inl m) = star_from run short m
+star_all run short (inr more) = inr (star_further run short more)
 
 -- ---- the next stars that cross directories
 
@@ -163,31 +152,39 @@ slash_here : {i : Bool} {b : ℕ} {rest after text : List ℕ} → rest ≡ slas
     → Matches i false rest (b ∷ text)
 slash_here {i = i} {after = after} at e match = rw (at, e) (one after (byte (slash_stands i)) match)
 
+deep_further : {i starts : Bool} {pattern more rest text : List ℕ} → Run is_star pattern more rest
+    → crosses starts more rest ≡ true
+    → starts ≡ true → Further i true starts (star ∷ pattern) text → MatchesLater i true rest text
+deep_further run long name (next {b = b} {text = text} is slashes match) =
+    elim (stars_inv run match) [
+      | inl (after, crossing, at, m) ↦ (b ∷ text, no_more, slash_here at (slashes name) m)
+      | inr (left, passed, m) ↦ (left, passes refl (rw long at passed), m)
+    ]
+deep_further run long name (beyond is further) =
+    let (left, passed, m) = deep_further run long name further in (left, passes refl passed, m)
+
 crosses_starts : (starts : Bool) (more rest : List ℕ) → crosses starts more rest ≡ true → starts ≡ true
-crosses_starts starts [] rest e = never e
+crosses_starts starts [] rest e = cc
 crosses_starts true (c ∷ more) rest e = refl
-crosses_starts false (c ∷ more) rest e = never e
+crosses_starts false (c ∷ more) rest e = cc
 
-module _ {starts : Bool} {pattern more rest : List ℕ} (run : Run is_star pattern more rest) (long : crosses starts more rest ≡ true) where
-  deep_further : {i : Bool} {text : List ℕ} → Further i true starts (star ∷ pattern) text
-      → MatchesLater i true rest text
-  deep_further (next {b = b} {text = text} is slashes match) =
-      elim (stars_inv run match) [
-        | inl (after, crossing, at, m) ↦
-            (b ∷ text, no_more, slash_here at (slashes (crosses_starts starts more rest long)) m)
-        | inr (left, passed, m) ↦ (left, passes refl (rw long at passed), m)
-      ]
-  deep_further (beyond is further) =
-      let (left, passed, m) = deep_further further in (left, passes refl passed, m)
+pub deep_all : {i starts : Bool} {pattern more rest text : List ℕ} → Run is_star pattern more rest
+    → crosses starts more rest ≡ true
+    → FromHere i true starts (star ∷ pattern) text → MatchesDeep i rest text
+deep_all run long (inl m) = rw long at (stars_inv run m)
+deep_all {starts = starts} {more = more} {rest = rest} run long (inr further) =
+    inr (deep_further run long (crosses_starts starts more rest long) further)
 
-  pub deep_all : {i : Bool} {text : List ℕ} → FromHere i true starts (star ∷ pattern) text
-      → MatchesDeep i rest text
-  deep_all (inl m) = rw long at (stars_inv run m)
-  deep_all (inr further) = inr (deep_further further)
+pub deep_back : {i starts : Bool} {pattern more rest text : List ℕ} → Run is_star pattern more rest
+    → crosses starts more rest ≡ true
+    → MatchesDeep i rest text → MatchesStars i starts pattern text
+deep_back {rest = rest} run long (inl m) = stars_no_directory rest run (rw long m)
+deep_back run long (inr m) = stars_later run (rw long m)
 
-  pub deep_back : {i : Bool} {text : List ℕ} → MatchesDeep i rest text → MatchesStars i starts pattern text
-  deep_back (inl m) = stars_no_directory rest run (rw long m)
-  deep_back (inr m) = stars_later run (rw long m)
+pub short_back : {i starts : Bool} {pattern more rest text : List ℕ} → Run is_star pattern more rest
+    → crosses starts more rest ≡ false
+    → MatchesLater i false rest text → MatchesStars i starts pattern text
+short_back run short m = stars_later run (rw short m)
 
 -- ---- `/` after stars that cross directories
 
@@ -200,7 +197,7 @@ slash_further [] m = cc (end_inv m slash_lacks)
 slash_further {i = i} {after = after} (b ∷ text) m =
     let (rest, item, more) = one_inv m slash_lacks in
     let same = item_same item (byte {c = slash} {b = slash} {rest = after} (slash_stands i)) in
-    next refl (λ t. test_slash b same.1) (rw (same.0, same.1) at more)
+    next refl (λ t. eqb-true b slash same.1) (rw same.1 at (rw same.0 at more))
 
 slash_passes : {i : Bool} {after text left : List ℕ} → Passes true text left
     → Matches i false (slash ∷ after) left
@@ -208,24 +205,21 @@ slash_passes : {i : Bool} {after text left : List ℕ} → Passes true text left
 slash_passes {text = text} no_more m = slash_further text m
 slash_passes (passes is more) m = beyond is (slash_passes more m)
 
-pub slash_from : {i : Bool} {after text : List ℕ} (pattern : List ℕ) → pattern ≡ slash ∷ after
-    → MatchesDeep i pattern text
-    → FromHere i true true after text
-slash_from {i = i} {after = after} {text = text} pattern e (inl (rest, crossing, at, m)) =
-    inl (subst (λ r. Matches i true r text) (cc) m)
-slash_from pattern e (inr (left, passed, m)) = inr (slash_passes passed (rw e at m))
-
 pub slash_only : {i : Bool} {after text : List ℕ} (pattern : List ℕ) → pattern ≡ slash ∷ after
     → MatchesNoDirectory i true pattern text
     → Matches i true after text
-slash_only {i = i} {after = after} {text = text} pattern e (rest, crossing, at, m) =
-    subst (λ r. Matches i true r text) (cc) m
+slash_only pattern e (rest, crossing, at, m) = rw (sym (ap (drop 1) (sym e ∙ at))) at m
+
+pub slash_from : {i : Bool} {after text : List ℕ} (pattern : List ℕ) → pattern ≡ slash ∷ after
+    → MatchesDeep i pattern text
+    → FromHere i true true after text
+slash_from pattern e (inl match) = inl (slash_only pattern e match)
+slash_from pattern e (inr (left, passed, m)) = inr (slash_passes passed (rw e at m))
 
 -- ---- what is found
 
 pub star_map : (i : Bool) {P Q : Type 0} {F G : Bool → Type 0} (found : Found) → (P → Q)
-    → (found ≡ Nothing → Q → P) → ((c : Bool) → G c → F c)
-    → FindsStar i P F found → FindsStar i Q G found
+    → (found ≡ Nothing → Q → P) → ((c : Bool) → G c → F c) → FindsStar i P F found → FindsStar i Q G found
 star_map i Whole there back from is = there is
 star_map i Nothing there back from is = λ q. is (back refl q)
 star_map i (Stars place) there back from is = (λ m. there (is.0 m), λ c g. is.1 c (from c g))
@@ -236,23 +230,21 @@ deep_map i Whole there back from is = there is
 deep_map i Nothing there back from is = λ q. is (back refl q)
 deep_map i (Stars place) there back from is = (λ m. there (is.0 m), λ g. is.1 (from g))
 
-pub deep_stars : (i : Bool) (P : Type 0) (F : Bool → Type 0) {more rest : List ℕ} (found : Found) (place : FilePlace) → found ≡ Stars place
-    → FindsStar i P F found → Run is_star place.pattern.now more rest → crosses place.starts more rest ≡ true
+pub deep_stars : {i : Bool} {P : Type 0} (F : Bool → Type 0) {more rest : List ℕ} {found : Found} (place : FilePlace)
+    → found ≡ Stars place → FindsStar i P F found → Run is_star place.pattern.now more rest
+    → crosses place.starts more rest ≡ true
     → (MatchesDeep i rest place.text.now → P) × (F true → MatchesDeep i rest place.text.now)
-deep_stars i P F found place e is run long =
-    let both = rw e at is in
-    (λ d. both.0 (deep_back run long d), λ g. deep_all run long (both.1 true g))
+deep_stars F place e is run long =
+    let both = rw e at is in (λ d. both.0 (deep_back run long d), λ g. deep_all run long (both.1 true g))
 
-pub star_next : (i : Bool) (P : Type 0) (F : Bool → Type 0) {more rest : List ℕ} (found : Found) (place : FilePlace) → found ≡ Stars place
-    → FindsStar i P F found → Run is_star place.pattern.now more rest → crosses place.starts more rest ≡ false
-    → (P → F false)
-    → (found2 : Found)
+pub star_next : (i : Bool) {P : Type 0} (F : Bool → Type 0) {more rest : List ℕ} {found : Found} (place : FilePlace)
+    → found ≡ Stars place → FindsStar i P F found → Run is_star place.pattern.now more rest
+    → crosses place.starts more rest ≡ false → (P → F false) → (found2 : Found)
     → FindsStar i (MatchesLater i false rest place.text.now) (λ c. FromHere i c false rest place.text.now) found2
     → FindsStar i P F found2
-star_next i P F found place e is run short whole found2 is2 =
+star_next i F place e is run short whole found2 is2 =
     let both = rw e at is in
-    star_map i found2 (λ m. both.0 (short_back run short m))
-    (λ nothing p. to_later (star_all run short (both.1 false (whole p))))
+    star_map i found2 (λ m. both.0 (short_back run short m)) (λ n p. to_later (star_all run short (both.1 false (whole p))))
     (λ c f. star_all run short (both.1 c f)) is2
 
 pub smaller : {more rest : List ℕ} (found found2 : Found) (place : FilePlace) → found ≡ Stars place

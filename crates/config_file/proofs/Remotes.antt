@@ -1,7 +1,7 @@
 -- Entries that are the URLs of remotes.
 use Rattle.std.proofs.Common.{◌≡◌, ℕ, ◌<◌, true, false, List, [], ◌∷◌, ◌++◌, Option, Some, codes, length, map}
 use Rattle.std.proofs.Common.{nat_eq, get_or}
-use Rattle.std.proofs.Common.{slice_index_or, IsTrue, ◌↔◌, refl, sym, ap, ◌∙◌, subst, arith}
+use Rattle.std.proofs.Common.{slice_index_or, IsTrue, ◌↔◌, refl, sym, ap, ◌∙◌, arith}
 use Rattle.std.proofs.lemmas.Bool.{true≢false}
 use Rattle.std.proofs.lemmas.Bool.Decides.{nat_tests}
 use Rattle.std.proofs.lemmas.Option.{same_Some, none-some}
@@ -28,24 +28,12 @@ section_listed : {given : Option Section} {section : Section} {written text : Li
     → IsListed given written text → given ≡ Some section → (listed : List ℕ) × IsListedSection section listed
 section_listed alone is = absurd (none-some _ is)
 section_listed (in_section {listed = l} h) is =
-    (l, subst (λ s. IsListedSection s l) (same_Some _ _ is) h)
+    (l, rw (same_Some _ _ is) at h)
 
 of_remote : (entry : Entry) (section : Section) → entry.section ≡ Some section → IsRemoteUrl entry
     → (name : List ℕ) × IsRemote section name
 of_remote entry section is (name, has) =
-    (name, subst (λ s. IsRemote s name) (same_Some _ _ (sym has.in_section ∙ is)) has.stem_listed)
-
-is_url : (entry : Entry) (section : Section) (name : List ℕ) → entry.section ≡ Some section
-    → lower entry.key ≡ lower (codes "url") → IsRemote section name → IsRemoteUrl entry
-is_url entry section name is url listed = (
-  name,
-  record {
-    section = section;
-    in_section = is;
-    stem_listed = listed;
-    same_name = url;
-  },
-)
+    (name, rw (same_Some _ _ (sym has.in_section ∙ is)) at has.stem_listed)
 
 -- a section whose name does not begin with `remote` is that of no remote
 pub no_remote : (entry : Entry) (name : List ℕ) (sub : Option (List ℕ)) → entry.section ≡ Some (name, sub)
@@ -68,8 +56,8 @@ dotted_remote entry name (b ∷ more) sub listed is url front within = (
       let n = lower more ++ dotted left in
       let dot : b ≡ 46 = grind (arith, nat_tests) in
       let goes : 46 ∷ n ≡ lower (b ∷ more) ++ dotted left = rw dot refl in
-      is_url entry (name, sub) n is url
-      ((decides {r = true} remote (b ∷ more) (Some n) name sub left front goes (λ yes. s, λ s. refl)).0 refl),
+      let stem = (decides {r = true} remote (b ∷ more) (Some n) name sub left front goes (λ yes. s, λ s. refl)).0 refl in
+      (n, record { section = (name, sub); in_section = is; stem_listed = stem; same_name = url }),
   λ is_remote. let (n, h) = of_remote entry (name, sub) is is_remote in
       let (left, s, e) = listed_as h in
       let same = after_front remote (b ∷ more) name (Some n) left front e in

@@ -1,7 +1,6 @@
 -- The scopes of settings that are added.
-use Rattle.std.proofs.Common.{◌≡◌, ◌++◌, ◌∙◌, [], sym, ap, subst}
+use Rattle.std.proofs.Common.{◌≡◌, ◌++◌, ◌∙◌, [], sym}
 use Rattle.std.proofs.lemmas.List.{append_assoc, append-nil}
-use Rattle.std.specs.List.{All}
 use Rattle.std.proofs.lemmas.List.Elements.{All-nil, All-append}
 use Rattle.config_file.specs.Settings.{AddsInScope}
 use Rattle.config_file.specs.declared.settings.Settings.{Settings}
@@ -16,8 +15,7 @@ scope_both old new newer (same, (first, is, all)) (same2, (second, is2, all2)) =
   same2 ∙ same,
   (
     first ++ second,
-    is2 ∙ ap (λ s. s ++ second) is ∙ append_assoc old.entries.items first second,
-    All-append (λ s. s.scope ≡ old.scope) first second all
-        (subst (λ scope. All (λ s. s.scope ≡ scope) second) same all2),
+    rw (is2, is) (append_assoc old.entries.items first second),
+    All-append (λ s. s.scope ≡ old.scope) first second all (rw same at all2),
   ),
 )

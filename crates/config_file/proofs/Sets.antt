@@ -1,7 +1,8 @@
 -- Sets of bytes in patterns: their classes, their members, and what they match.
-use Rattle.std.proofs.Common.{◌≡◌, ◌≢◌, ℕ, suc, ◌<◌, ◌≤◌, ◌⊎◌, Bool, true, false, ◌||◌, ◌&&◌, ◌==◌}
+use Rattle.std.proofs.Common.{◌≡◌, ◌≢◌, ℕ, ◌<◌, ◌≤◌, ◌⊎◌, Bool, true, false, ◌||◌, ◌&&◌, ◌==◌}
 use Rattle.std.proofs.Common.{if◌then◌else◌, List, [], ◌∷◌, ◌++◌, Option, None, Some, length, drop, get_or}
-use Rattle.std.proofs.Common.{codes, refl, sym, ap, ◌∙◌, subst, arith, inl, inr, append_assoc}
+use Rattle.std.proofs.Common.{codes, option_map, eqb-true, refl, sym, ap, ◌∙◌, subst, arith, inl, inr}
+use Rattle.std.proofs.Common.{append_assoc, length-append}
 use Rattle.std.specs.List.{list_all}
 use Rattle.std.specs.Str.{bytes_eq}
 use Rattle.std.specs.Char.{is_ascii_alphanumeric, is_ascii_alphabetic, is_ascii_digit, is_ascii_control}
@@ -9,20 +10,36 @@ use Rattle.std.specs.Char.{is_ascii_graphic}
 use Rattle.std.specs.Char.{is_ascii_punctuation, is_ascii_hexdigit, is_ascii_lowercase, is_ascii_uppercase}
 use Rattle.std.proofs.lemmas.List.{append_cancel_left, append_cancel_right}
 use Rattle.std.proofs.lemmas.Option.{same_Some}
-use Rattle.std.proofs.lemmas.Bool.{cases_Bool, true≢false, and_parts}
+use Rattle.std.proofs.lemmas.Bool.{eqb-false, cases_Bool, true≢false, and_parts}
 use Rattle.std.proofs.lemmas.Bool.Decides.{nat_tests}
-use Rattle.std.proofs.Math.Bool.{or_assoc}
+use Rattle.std.proofs.Math.Bool.{or_assoc, or-false}
 use Rattle.config_text.specs.Bytes.{LacksFront}
 use Rattle.config_file.specs.Runs.{Run, StopsRun}
 use Rattle.config_file.specs.Reading.Places.{Closing}
 use Rattle.config_file.specs.Bytes.{right_bracket, backslash, dash, is_blank, is_space}
 use Rattle.config_file.proofs.OneRun.{run_only}
-use Rattle.config_file.specs.Set.{folded, is_negation, is_wanted, opened, is_unclosed, IsClass, IsNoClass}
-use Rattle.config_file.specs.Set.{IsNoRange, range_has, StandsForByte}
+use Rattle.config_file.specs.Set.{is_negation, is_wanted, opened, is_unclosed, IsClass, IsNoClass}
+use Rattle.config_file.specs.Set.{IsNoRange, StandsForByte}
 use Rattle.config_file.specs.Set.{SetByte, bare, after_backslash, RangeEnd, to, Member, class, single, range}
 use Rattle.config_file.specs.Set.{SetHas, closes, has}
 use Rattle.config_file.specs.Set.{Class, alnum, alpha, blank, cntrl, digit, graph, lower, print, punct}
 use Rattle.config_file.specs.Set.{spaces, upper, xdigit}
+
+-- ---- choices, which compute
+
+abbrev pub test : {X : Type 0} (b : Bool) → (b ≡ true → X) → (b ≡ false → X) → X
+test true one other = one refl
+test false one other = other refl
+
+abbrev pub equal : {X : Type 0} (c d : ℕ) → (c ≡ d → X) → (c ≢ d → X) → X
+equal c d one other = test (c == d) (λ e. one (eqb-true c d e)) (λ e. other (eqb-false c d e))
+
+abbrev pub given : {A B : Type 0} → Option A → (A → Option B) → Option B
+given None more = None
+given (Some a) more = more a
+
+pub cons_same : {x y : ℕ} {a b : List ℕ} → x ≡ y → a ≡ b → x ∷ a ≡ y ∷ b
+cons_same e f = rw (e, f)
 
 -- ---- classes
 
@@ -49,26 +66,22 @@ inner_before (inside, run) e = let (front, more) = inner_run inside run e in (fr
 run_before : {text inner inside closing : List ℕ} → Closes text closing
     → text ≡ codes "[:" ++ inner → inner ≡ inside ++ closing
     → Run is_unclosed inner inside closing
-run_before {inner = inner} {inside = inside} {closing = closing} (all, run) opens joined =
+run_before {inside = inside} {closing = closing} (all, run) opens joined =
     let (front, more) = inner_run all run opens in
-    subst (λ x. Run is_unclosed inner x closing) (append_cancel_right front inside closing (sym more.joined ∙ joined)) more
+    rw (append_cancel_right front inside closing (sym more.joined ∙ joined)) at more
 
 pub is_class : {text inner inside closing name rest : List ℕ} → Closes text closing
     → text ≡ codes "[:" ++ inner → inner ≡ inside ++ closing
     → inside ≡ name ++ codes ":" → closing ≡ right_bracket ∷ rest → IsClass text name rest
-is_class {inner = inner} {inside = inside} {rest = rest} ahead opens joined ends closing = record {
-  inner = inner;
-  opened = opens;
-  closed = subst (λ a. Run is_unclosed inner a (right_bracket ∷ rest)) ends
-      (subst (λ c. Run is_unclosed inner inside c) closing (run_before ahead opens joined));
-}
+is_class {inner = inner} ahead opens joined ends closing =
+    record { inner = inner; opened = opens; closed = rw (ends, closing) at (run_before ahead opens joined) }
 
 same_run : {text inner inside closing name rest : List ℕ}
     → text ≡ codes "[:" ++ inner → Run is_unclosed inner inside closing
     → IsClass text name rest → (inside ≡ name ++ codes ":") × (closing ≡ right_bracket ∷ rest)
-same_run {inner = inner} {inside = inside} {closing = closing} opens run is =
+same_run {inner = inner} opens run is =
     let inners : inner ≡ is.inner = append_cancel_left (codes "[:") inner is.inner (sym opens ∙ is.opened) in
-    run_only (subst (λ x. Run is_unclosed x inside closing) inners run) is.closed
+    run_only (rw inners at run) is.closed
 
 pub not_opened : {text : List ℕ} → LacksFront (codes "[:") text → IsNoClass text
 not_opened lacks name rest is = lacks is.inner is.opened
@@ -91,54 +104,52 @@ class_unique {name = name} {name2 = name2} one other =
     let (names, rests) = same_run one.opened one.closed other in
     (append_cancel_right name name2 (codes ":") names, ap (λ l. drop 1 l) rests)
 
-pub longer : (a r : List ℕ) → length r ≤ length (a ++ r)
-longer [] r = omega arith
-longer (b ∷ a) r = let more = longer a r in omega arith
+abbrev pub same : (a b : List ℕ) → Option (a ≡ b)
+same [] [] = Some refl
+same (x ∷ a) (y ∷ b) = equal x y (λ head. given (same a b) (λ tail. Some (cons_same head tail))) (λ other. None)
+same a b = None
 
-pub class_shortens : {text name rest : List ℕ} → IsClass text name rest → length rest < length text
-class_shortens {name = name} {rest = rest} is =
-    let more = longer (name ++ codes ":") (right_bracket ∷ rest) in
-    rw is.opened (rw is.closed.joined (omega arith))
+abbrev or_class : {i : Bool} {b : ℕ} {name : List ℕ} (word : List ℕ) (held : Bool)
+    → (name ≡ word → held ≡ held → Class i b name held)
+    → Option ((held : Bool) × Class i b name held) → Option ((held : Bool) × Class i b name held)
+or_class {name = name} word held makes others =
+    elim (same name word) [ None ↦ others | Some e ↦ Some (held, makes e refl) ]
 
--- the classes by name, and whether each has the byte
-abbrev rows : Bool → ℕ → List (List ℕ × Bool)
-rows i b =
-    (codes "alnum", is_ascii_alphanumeric b)
-    ∷ (codes "alpha", is_ascii_alphabetic b)
-    ∷ (codes "blank", is_space b)
-    ∷ (codes "cntrl", is_ascii_control b)
-    ∷ (codes "digit", is_ascii_digit b)
-    ∷ (codes "graph", is_ascii_graphic b)
-    ∷ (codes "lower", is_ascii_lowercase b || (i && is_ascii_uppercase b))
-    ∷ (codes "print", b == 32 || is_ascii_graphic b)
-    ∷ (codes "punct", is_ascii_punctuation b)
-    ∷ (codes "space", is_blank b || b == 10)
-    ∷ (codes "upper", is_ascii_uppercase b || (i && is_ascii_lowercase b))
-    ∷ (codes "xdigit", is_ascii_hexdigit b)
-    ∷ []
+-- the class of this name, with whether it has the byte
+abbrev pub class_at : (i : Bool) (b : ℕ) (name : List ℕ) → Option ((held : Bool) × Class i b name held)
+class_at i b name =
+    or_class (codes "alnum") _ alnum
+    (or_class (codes "alpha") _ alpha
+    (or_class (codes "blank") _ blank
+    (or_class (codes "cntrl") _ cntrl
+    (or_class (codes "digit") _ digit
+    (or_class (codes "graph") _ graph
+    (or_class (codes "lower") _ lower
+    (or_class (codes "print") _ print
+    (or_class (codes "punct") _ punct
+    (or_class (codes "space") _ spaces
+    (or_class (codes "upper") _ upper
+    (or_class (codes "xdigit") _ xdigit None)))))))))))
 
-abbrev row_of : List (List ℕ × Bool) → List ℕ → Option Bool
-row_of [] name = None
-row_of ((word, here) ∷ rows) name = if bytes_eq name word then Some here else row_of rows name
-
-class_row : {i : Bool} {b : ℕ} {name : List ℕ} {h : Bool} → Class i b name h → row_of (rows i b) name ≡ Some h
-class_row (alnum e f) = rw e (ap Some (sym f))
-class_row (alpha e f) = rw e (ap Some (sym f))
-class_row (blank e f) = rw e (ap Some (sym f))
-class_row (cntrl e f) = rw e (ap Some (sym f))
-class_row (digit e f) = rw e (ap Some (sym f))
-class_row (graph e f) = rw e (ap Some (sym f))
-class_row (lower e f) = rw e (ap Some (sym f))
-class_row (print e f) = rw e (ap Some (sym f))
-class_row (punct e f) = rw e (ap Some (sym f))
-class_row (spaces e f) = rw e (ap Some (sym f))
-class_row (upper e f) = rw e (ap Some (sym f))
-class_row (xdigit e f) = rw e (ap Some (sym f))
+class_is : {i : Bool} {b : ℕ} {name : List ℕ} {h : Bool} → Class i b name h
+    → option_map (λ k. k.0) (class_at i b name) ≡ Some h
+class_is (alnum e f) = rw e (ap Some (sym f))
+class_is (alpha e f) = rw e (ap Some (sym f))
+class_is (blank e f) = rw e (ap Some (sym f))
+class_is (cntrl e f) = rw e (ap Some (sym f))
+class_is (digit e f) = rw e (ap Some (sym f))
+class_is (graph e f) = rw e (ap Some (sym f))
+class_is (lower e f) = rw e (ap Some (sym f))
+class_is (print e f) = rw e (ap Some (sym f))
+class_is (punct e f) = rw e (ap Some (sym f))
+class_is (spaces e f) = rw e (ap Some (sym f))
+class_is (upper e f) = rw e (ap Some (sym f))
+class_is (xdigit e f) = rw e (ap Some (sym f))
 
 class_only : {i : Bool} {b : ℕ} {name name2 : List ℕ} {h h2 : Bool} → Class i b name h → Class i b name2 h2
     → name ≡ name2 → h ≡ h2
 class_only {i = i} {b = b} one other e =
-    same_Some _ _ (sym (class_row one) ∙ ap (row_of (rows i b)) e ∙ class_row other)
+    same_Some _ _ (sym (class_is one) ∙ ap (λ n. option_map (λ k. k.0) (class_at i b n)) e ∙ class_is other)
 
 -- ---- members
 
@@ -157,61 +168,23 @@ no_end_byte : {b c : ℕ} {rest after : List ℕ} → b ≡ right_bracket → Se
 no_end_byte e (bare other first) = true≢false (sym (first e))
 no_end_byte e (after_backslash e2) = omega (arith, e, e2)
 
-pub no_end_member : (i : Bool) (b c : ℕ) (rest : List ℕ) (here : Bool) (after : List ℕ) → c ≡ right_bracket
+no_end_member : {i : Bool} {b c : ℕ} {rest : List ℕ} {here : Bool} {after : List ℕ} → c ≡ right_bracket
     → Member i b false (c ∷ rest) here after → ⊥
-no_end_member i b c rest here after e (class name is known) =
-    let head : c ≡ 91 = ap (λ l. get_or l 0 0) is.opened in
-    omega (arith, e, head)
-no_end_member i b c rest here after e (single d none is alone found) = no_end_byte e is
-no_end_member i b c rest here after e (range first last mid none is more found) = no_end_byte e is
-
-escapes_none : {starts : Bool} {c d : ℕ} {after : List ℕ} → c ≡ backslash → SetByte starts (c ∷ []) d after
-    → ⊥
-escapes_none is (bare other first) = other is
-
-range_byte : {c last : ℕ} {mid rest : List ℕ} → RangeEnd (c ∷ mid) last rest → SetByte false mid last rest
-range_byte (to e is) = is
+no_end_member e (class name is known) = omega (arith, e, ap (λ l. get_or l 0 0) is.opened)
+no_end_member e (single d none is alone found) = no_end_byte e is
+no_end_member e (range first last mid none is more found) = no_end_byte e is
 
 pub is_first : (c d e : ℕ) (more : Bool) → c ≡ d → d ≡ e → (c == d) ≡ ((c == e) || more)
-is_first c d e more same too =
-    let here : (c == d) ≡ true = grind (arith, nat_tests) in
-    let there : (c == e) ≡ true = grind (arith, nat_tests) in
-    here ∙ sym (ap (λ x. x || more) there)
+is_first c d e more same too = grind (arith, nat_tests)
 
 pub is_no_first : (c d : ℕ) (more : Bool) → c ≢ d → more ≡ ((c == d) || more)
-is_no_first c d more apart =
-    let other : (c == d) ≡ false = grind (arith, nat_tests) in
-    sym (ap (λ x. x || more) other)
-
--- the next byte of a set
-pub bare_here : {starts : Bool} {text rest : List ℕ} {c : ℕ} → text ≡ c ∷ rest → c ≢ backslash
-    → (c ≡ right_bracket → starts ≡ true)
-    → SetByte starts text c rest
-bare_here e other first = rw e (bare other first)
-
-pub escaped_here : {starts : Bool} {text rest after : List ℕ} {c d : ℕ} → text ≡ c ∷ rest → c ≡ backslash
-    → rest ≡ d ∷ after
-    → SetByte starts text d after
-escaped_here e is f = rw (e, f) (after_backslash is)
-
-pub no_escaped : {starts : Bool} {text rest : List ℕ} {c : ℕ} → text ≡ c ∷ rest → c ≡ backslash → rest ≡ []
-    → (d : ℕ) (after : List ℕ) → ¬ (SetByte starts text d after)
-no_escaped {starts = starts} {c = c} e is none d after here =
-    escapes_none is (subst (λ x. SetByte starts (c ∷ x) d after) none (subst (λ x. SetByte starts x d after) e here))
-
-pub range_here : {text mid rest : List ℕ} {last : ℕ} → text ≡ dash ∷ mid → SetByte false mid last rest
-    → RangeEnd text last rest
-range_here e is = rw e (to refl is)
-
-pub no_range_byte : {text mid : List ℕ} → text ≡ dash ∷ mid
-    → ((c : ℕ) (rest : List ℕ) → ¬ (SetByte false mid c rest)) → IsNoRange text
-no_range_byte e none last rest here = none last rest (range_byte (subst (λ x. RangeEnd x last rest) e here))
+is_no_first c d more apart = grind (arith, nat_tests)
 
 pub of_no_class : {i : Bool} {b : ℕ} {starts : Bool} {text name after : List ℕ} → IsClass text name after
     → ((h : Bool) → ¬ (Class i b name h)) → (here : Bool) (rest : List ℕ)
     → ¬ (Member i b starts text here rest)
-of_no_class {i = i} {b = b} is unknown here rest (class name2 is2 known) =
-    unknown here (subst (λ n. Class i b n here) (sym ((class_unique is is2).0)) known)
+of_no_class is unknown here rest (class name2 is2 known) =
+    unknown here (rw (sym ((class_unique is is2).0)) at known)
 of_no_class is unknown here rest (single c none byte alone found) = none _ _ is
 of_no_class is unknown here rest (range first last mid none byte more found) = none _ _ is
 
@@ -226,77 +199,70 @@ of_no_byte none nothing here rest (range first last mid none2 byte more found) =
 pub member_same : {i : Bool} {b b2 : ℕ} {starts h h2 : Bool} {text r r2 : List ℕ}
     → Member i b starts text h r → Member i b2 starts text h2 r2
     → (r ≡ r2) × (b ≡ b2 → h ≡ h2)
-member_same {i = i} {b2 = b2} {h2 = h2} (class name is known) (class name2 is2 known2) =
-    let (names, rests) = class_unique is is2 in
-    (rests, λ e. class_only known (subst (λ x. Class i x name2 h2) (sym e) known2) names)
+member_same (class name is known) (class name2 is2 known2) =
+    let (names, rests) = class_unique is is2 in (rests, λ e. class_only known (rw (sym e) at known2) names)
 member_same (class name is known) (single c none byte alone found) = absurd (none _ _ is)
 member_same (class name is known) (range first last mid none byte more found) = absurd (none _ _ is)
 member_same (single c none byte alone found) (class name is known) = absurd (none _ _ is)
-member_same {i = i} {b = b} {b2 = b2} (single c none byte alone found) (single c2 none2 byte2 alone2 found2) =
-    let (bytes, rests) = byte_unique byte byte2 in
-    (rests, λ e. found ∙ ap (λ x. x == folded i b) bytes ∙ ap (λ x. c2 == folded i x) e ∙ sym found2)
+member_same (single c none byte alone found) (single c2 none2 byte2 alone2 found2) =
+    let (bytes, rests) = byte_unique byte byte2 in (rests, λ e. rw (found, found2, bytes, e))
 member_same {r2 = r2} (single c none byte alone found) (range first last mid none2 byte2 more found2) =
-    absurd (alone last r2 (subst (λ x. RangeEnd x last r2) (sym ((byte_unique byte byte2).1)) more))
+    absurd (alone last r2 (rw (sym ((byte_unique byte byte2).1)) at more))
 member_same (range first last mid none byte more found) (class name is known) = absurd (none _ _ is)
-member_same {r = r} (range first last mid none byte more found) (single c none2 byte2 alone found2) =
-    absurd (alone last r (subst (λ x. RangeEnd x last r) ((byte_unique byte byte2).1) more))
-member_same {i = i} {b = b} {b2 = b2} {r = r} (range first last mid none byte more found) (range first2 last2 mid2 none2 byte2 more2 found2) =
+member_same {r = r} (range first last mid none byte more found) (single c none2 byte2 alone2 found2) =
+    absurd (alone2 last r (rw ((byte_unique byte byte2).1) at more))
+member_same (range first last mid none byte more found) (range first2 last2 mid2 none2 byte2 more2 found2) =
     let (bytes, mids) = byte_unique byte byte2 in
-    let (ends, rests) = range_unique (subst (λ x. RangeEnd x last r) mids more) more2 in (
-      rests,
-      λ e. found ∙ ap (λ x. x == folded i b || range_has i x last b) bytes ∙ ap (λ x. first2 == folded i b || range_has i first2 x b) ends
-          ∙ ap (λ x. first2 == folded i x || range_has i first2 last2 x) e ∙ sym found2,
-    )
+    let (ends, rests) = range_unique (rw mids at more) more2 in (rests, λ e. rw (found, found2, bytes, ends, e))
 
 -- so what follows a member is the same, and with the same byte so is whether the members have it
 has_inv : {i : Bool} {b b2 : ℕ} {starts all : Bool} {text rest : List ℕ} (here : Bool) (after : List ℕ)
     → Member i b starts text here after → SetHas i b2 starts text all rest
     → (found : Bool) × SetHas i b2 false after found rest × (b ≡ b2 → all ≡ (here || found))
-has_inv {i = i} {b = b} here after is (closes {c = c} {rest = tail} e) =
-    absurd (no_end_member i b c tail here after e is)
-has_inv {i = i} {b2 = b2} {rest = rest} here after is (has here2 found after2 is2 more all) =
-    let (rests, heres) = member_same is is2 in
-    (found, subst (λ a. SetHas i b2 false a found rest) (sym rests) more, λ e. all ∙ ap (λ h. h || found) (sym (heres e)))
+has_inv here after is (closes e) = absurd (no_end_member e is)
+has_inv here after is (has here2 found after2 is2 more all) =
+    let (rests, heres) = member_same is is2 in (found, rw rests more, λ e. rw (all, heres e))
 
 pub set_same : {i : Bool} {b b2 : ℕ} {starts f f2 : Bool} {text r r2 : List ℕ} → SetHas i b starts text f r
     → SetHas i b2 starts text f2 r2 → (r ≡ r2) × (b ≡ b2 → f ≡ f2)
 set_same (closes e) (closes e2) = (refl, λ e3. refl)
-set_same {i = i} {b2 = b2} (closes {c = c} {rest = tail} e) (has here found after is more all) =
-    absurd (no_end_member i b2 c tail here after e is)
+set_same (closes e) (has here found after is more all) = absurd (no_end_member e is)
 set_same (has here found after is more all) other =
     let (found2, more2, all2) = has_inv here after is other in
     let (rests, founds) = set_same more more2 in
-    (rests, λ e. all ∙ ap (λ x. here || x) (founds e) ∙ sym (all2 e))
+    (rests, λ e. rw (all, all2 e, founds e))
 
-class_rest : {text name rest : List ℕ} → IsClass text name rest → (front : List ℕ) × (text ≡ front ++ rest)
+-- the rest is shorter: it follows at least one byte
+abbrev Follows : List ℕ → List ℕ → Type 0
+Follows text rest = (b : ℕ) × (front : List ℕ) × (text ≡ b ∷ (front ++ rest))
+
+follows_shorter : {text rest : List ℕ} → Follows text rest → length rest < length text
+follows_shorter {rest = rest} (b, front, e) = omega (arith, ap length e, length-append front rest)
+
+class_rest : {text name rest : List ℕ} → IsClass text name rest → Follows text rest
 class_rest {name = name} {rest = rest} is =
-    (codes "[:" ++ ((name ++ codes ":") ++ right_bracket ∷ []), is.opened ∙ ap (λ x. codes "[:" ++ x) (is.closed.joined ∙ simp append_assoc))
+    (91, 58 ∷ ((name ++ codes ":") ++ right_bracket ∷ []), rw (is.opened, is.closed.joined) (simp append_assoc))
 
-byte_rest : {starts : Bool} {text rest : List ℕ} {c : ℕ} → SetByte starts text c rest
-    → (front : List ℕ) × (text ≡ front ++ rest)
-byte_rest (bare {c = c} other first) = (c ∷ [], refl)
-byte_rest (after_backslash {c = c} {e = e} is) = (c ∷ e ∷ [], refl)
+byte_rest : {starts : Bool} {text rest : List ℕ} {c : ℕ} → SetByte starts text c rest → Follows text rest
+byte_rest (bare {c = c} other first) = (c, [], refl)
+byte_rest (after_backslash {c = c} {e = e} is) = (c, e ∷ [], refl)
 
-range_rest : {text rest : List ℕ} {c : ℕ} → RangeEnd text c rest → (front : List ℕ) × (text ≡ front ++ rest)
-range_rest (to {c = c} e is) = let (front, f) = byte_rest is in (c ∷ front, ap (◌∷◌ c) f)
-
-byte_shortens : {starts : Bool} {text rest : List ℕ} {c : ℕ} → SetByte starts text c rest
-    → length rest < length text
-byte_shortens (bare other first) = omega arith
-byte_shortens (after_backslash e) = omega arith
-
-range_shortens : {text rest : List ℕ} {c : ℕ} → RangeEnd text c rest → length rest < length text
-range_shortens (to e is) = let short = byte_shortens is in omega arith
+member_rest : {i : Bool} {b : ℕ} {starts here : Bool} {text after : List ℕ}
+    → Member i b starts text here after → Follows text after
+member_rest (class name is known) = class_rest is
+member_rest (single c none byte alone found) = byte_rest byte
+member_rest {after = after} (range first last mid none byte (to {c = c} dashed more) found) =
+    let (b, front, e) = byte_rest byte in
+    let (d, ends, f) = byte_rest more in (
+      b,
+      front ++ c ∷ d ∷ ends,
+      e ∙ ap (λ t. b ∷ (front ++ c ∷ t)) f ∙ ap (λ t. b ∷ t) (sym (append_assoc front (c ∷ d ∷ ends) after)),
+    )
 
 pub member_shortens : {i : Bool} {b : ℕ} {starts here : Bool} {text after : List ℕ}
     → Member i b starts text here after
     → length after < length text
-member_shortens (class name is known) = class_shortens is
-member_shortens (single c none byte alone found) = byte_shortens byte
-member_shortens (range first last mid none byte more found) =
-    let short = byte_shortens byte in
-    let shorter = range_shortens more in
-    omega arith
+member_shortens is = follows_shorter (member_rest is)
 
 has_shortens : {i : Bool} {b : ℕ} {starts f : Bool} {text r : List ℕ} → SetHas i b starts text f r
     → length r < length text
@@ -319,33 +285,21 @@ set_shortens {text = text} stands =
 
 -- ---- the next `]`
 
-member_rest : {i : Bool} {b : ℕ} {starts here : Bool} {text after : List ℕ}
-    → Member i b starts text here after
-    → (front : List ℕ) × (text ≡ front ++ after)
-member_rest (class name is known) = class_rest is
-member_rest (single c none byte alone found) = byte_rest byte
-member_rest (range first last mid none byte more found) =
-    let (front, e) = byte_rest byte in
-    let (ends, f) = range_rest more in
-    (front ++ ends, e ∙ ap (◌++◌ front) f ∙ sym (append_assoc front ends _))
-
 -- either the first `]` is still ahead, or it has been passed
 passed : (front inside after closing : List ℕ) → list_all is_unclosed inside ≡ true
     → front ++ after ≡ inside ++ closing
     → ((more : List ℕ) × (after ≡ more ++ closing) × (list_all is_unclosed more ≡ true)) ⊎ (length after < length closing)
 passed [] inside after closing all e = inl (inside, e, all)
 passed (f ∷ front) [] after closing all e =
-    let less = longer front after in
-    let whole : suc (length (front ++ after)) ≡ length closing = ap length e in
-    inr (omega arith)
+    inr (omega (arith, ap length e, length-append front after))
 passed (f ∷ front) (x ∷ inside) after closing all e =
     passed front inside after closing ((and_parts (is_unclosed x) (list_all is_unclosed inside) all).1) (cc)
 
 pub closing_after : {i : Bool} {b : ℕ} {starts here : Bool} {text after closing : List ℕ} (inside : List ℕ)
     → Run is_unclosed text inside closing → Member i b starts text here after → Closing after closing
 closing_after {after = after} {closing = closing} inside run is =
-    let (front, e) = member_rest is in
-    elim (passed front inside after closing run.pass (sym e ∙ run.joined)) [
+    let (b, front, e) = member_rest is in
+    elim (passed (b ∷ front) inside after closing run.pass (sym e ∙ run.joined)) [
       | inl (more, f, all) ↦ inl (more, record { joined = f; pass = all; longest = run.longest })
       | inr less ↦ inr less
     ]
@@ -373,44 +327,26 @@ goes_on_more {here = here} {after = after} found on is = (
   λ g r whole. let (f, more) = on.1 g r whole in let (f2, more2, all) = has_inv here after is more in (f2, more2),
 )
 
-or_true : (x y : Bool) → x ≡ true → (x || y) ≡ x
-or_true true y e = refl
-or_true false y e = absurd (true≢false (sym e))
-
-or_else : (x y : Bool) → x ≡ false → (x || y) ≡ y
-or_else true y e = absurd (true≢false e)
-or_else false y e = refl
-
 pub goes_on_found : {i : Bool} {b : ℕ} {here : Bool} {text rest after : List ℕ} (found : Bool)
     → found ≡ true → GoesOn i b text found rest
     → Member i b false rest here after → GoesOn i b text found after
-goes_on_found {i = i} {b = b} {here = here} {text = text} {after = after} found e on is =
-    subst (λ x. GoesOn i b text x after) (or_true found here e) (goes_on_more found on is)
+goes_on_found found e on is = rw e (goes_on_more true (rw e at on) is)
 
 pub goes_on_here : {i : Bool} {b : ℕ} {here : Bool} {text rest after : List ℕ} (found : Bool)
     → found ≡ false → GoesOn i b text found rest
     → Member i b false rest here after → GoesOn i b text here after
-goes_on_here {i = i} {b = b} {here = here} {text = text} {after = after} found e on is =
-    subst (λ x. GoesOn i b text x after) (or_else found here e) (goes_on_more found on is)
-
-or_false : (x : Bool) → x ≡ (x || false)
-or_false true = refl
-or_false false = refl
+goes_on_here found e on is = goes_on_more false (rw e at on) is
 
 pub set_closed : {i : Bool} {b : ℕ} {found : Bool} {text after : List ℕ} (rest : List ℕ)
     → GoesOn i b text found rest
     → rest ≡ right_bracket ∷ after → SetHas i b true text found after
 set_closed {found = found} {after = after} rest on e =
-    on.0 false found after (rw e (closes refl)) (or_false found)
-
-no_start : {i : Bool} {b : ℕ} {g : Bool} {text r : List ℕ} → SetHas i b true text g r
-    → ((here : Bool) (after : List ℕ) → ¬ (Member i b true text here after)) → ⊥
-no_start (has here found after is more all) none = none here after is
+    on.0 false found after (rw e (closes refl)) (sym (or-false found))
 
 pub no_first : {i : Bool} {b : ℕ} (text : List ℕ)
     → ((here : Bool) (after : List ℕ) → ¬ (Member i b true text here after))
     → (g : Bool) (r : List ℕ) → ¬ (SetHas i b true text g r)
-no_first text none g r whole = no_start whole none
+no_first text none g r (has here found after is more all) = none here after is
 
 no_more : {i : Bool} {b : ℕ} {f : Bool} {rest r : List ℕ} → SetHas i b false rest f r
     → ((r : List ℕ) → rest ≢ right_bracket ∷ r)
@@ -430,28 +366,21 @@ not_closed found rest on never none g r whole = let (f, more) = on.1 g r whole i
 pub stands : {i : Bool} {b : ℕ} {negated found : Bool} {text inner rest : List ℕ}
     → (negated, inner) ≡ opened text
     → SetHas i b true inner found rest → is_wanted found negated ≡ true → b ≢ 47 → StandsForByte i text b rest
-stands {i = i} {b = b} {found = found} {rest = rest} e whole wanted apart = record {
-  found = found;
-  members = subst (λ x. SetHas i b true x found rest) (ap (λ p. p.1) e) whole;
-  wanted = subst (λ x. is_wanted found x ≡ true) (ap (λ p. p.0) e) wanted;
-  no_slash = apart;
-}
+stands {found = found} e whole wanted apart =
+    record { found = found; members = rw (sym e) whole; wanted = rw (sym e) wanted; no_slash = apart }
 
 pub stands_not : {i : Bool} {b : ℕ} {negated : Bool} {text inner : List ℕ} → (negated, inner) ≡ opened text
     → ((g : Bool) (r : List ℕ) → ¬ (SetHas i b true inner g r)) → (rest : List ℕ)
     → ¬ (StandsForByte i text b rest)
-stands_not {i = i} {b = b} e never rest is =
-    never is.found rest (subst (λ x. SetHas i b true x is.found rest) (sym (ap (λ p. p.1) e)) is.members)
+stands_not e never rest is = never is.found rest (rw (sym e) at is.members)
 
 pub stands_unwanted : {i : Bool} {b : ℕ} {negated found : Bool} {text inner after : List ℕ}
     → (negated, inner) ≡ opened text
     → SetHas i b true inner found after → is_wanted found negated ≡ false → (rest : List ℕ)
     → ¬ (StandsForByte i text b rest)
-stands_unwanted {i = i} {b = b} {negated = negated} e whole unwanted rest is =
-    let members = subst (λ x. SetHas i b true x is.found rest) (sym (ap (λ p. p.1) e)) is.members in
-    let wanted = subst (λ x. is_wanted is.found x ≡ true) (sym (ap (λ p. p.0) e)) is.wanted in
-    let same = subst (λ f. is_wanted f negated ≡ false) ((set_same whole members).1 refl) unwanted in
-    true≢false (sym wanted ∙ same)
+stands_unwanted e whole unwanted rest is =
+    let same = (set_same whole (rw (sym e) at is.members)).1 refl in
+    true≢false (sym (rw (sym e) at is.wanted) ∙ rw same at unwanted)
 
 pub stands_for_no_slash : {i : Bool} {b : ℕ} {text : List ℕ} → b ≡ 47 → (rest : List ℕ)
     → ¬ (StandsForByte i text b rest)

@@ -31,13 +31,11 @@ stands_none = tt
 
 pub none_stand : (b : ℕ) (h : List ℕ) → ¬ (Stands [] (b ∷ h))
 unfolding pieces
-none_stand b h all =
-    let (p, rest, e) = pieces_some b h in subst (λ ps. AllZip StandsFor [] ps) e all
+none_stand b h all = let (p, rest, e) = pieces_some b h in rw e at all
 
 pub stand_none : (b : ℕ) (p : List ℕ) → ¬ (Stands (b ∷ p) [])
 unfolding pieces
-stand_none b p all =
-    let (w, rest, e) = pieces_some b p in subst (λ ps. AllZip StandsFor ps []) e all
+stand_none b p all = let (w, rest, e) = pieces_some b p in rw e at all
 
 not_zero : (n : ℕ) → (suc n == 0) ≡ false
 not_zero n = grind (arith, nat_tests)
@@ -74,4 +72,4 @@ number_done n text e = rw e refl
 pub digits_next : (d : ℕ) (text rest : List ℕ) → text ≡ d ∷ rest → list_all is_ascii_digit text ≡ true
     → (is_ascii_digit d ≡ true) × (list_all is_ascii_digit rest ≡ true)
 digits_next d text rest e all =
-    and_parts (is_ascii_digit d) (list_all is_ascii_digit rest) (subst (λ t. list_all is_ascii_digit t ≡ true) e all)
+    and_parts (is_ascii_digit d) (list_all is_ascii_digit rest) (rw e at all)

@@ -1,6 +1,6 @@
 -- Patterns of URLs: paths, and what fits.
 use Rattle.std.proofs.Common.{◌≡◌, ◌≢◌, ◌+◌, ◌++◌, ◌∙◌, ◌↔◌, inl, inr, ◌==◌, not, ℕ, Bool, true, false, List}
-use Rattle.std.proofs.Common.{[], ◌∷◌, Some, None, Option, length, IsTrue}
+use Rattle.std.proofs.Common.{[], ◌∷◌, Some, None, Option, length, IsTrue, eqb-true}
 use Rattle.std.proofs.Common.{refl, sym, subst, ap, arith, Result, Ok, Err, IfOk, MatchOption}
 use Rattle.std.specs.Prelude.{unwrap_or, is_some}
 use Rattle.std.specs.List.{AllZip}
@@ -29,9 +29,6 @@ closed_more [] x e = rw e refl
 closed_more (b ∷ []) x e = rw e refl
 closed_more (b ∷ c ∷ a) x e = ap (λ t. b ∷ t) (closed_more (c ∷ a) x e)
 
-other_byte : (x : ℕ) → x ≢ 47 → (x == 47) ≡ false
-other_byte x other = grind (arith, nat_tests)
-
 pub closed_slash : (path front : List ℕ) (last : ℕ) → path ≡ front ++ last ∷ [] → last ≡ 47
     → closed path ≡ front ++ 47 ∷ []
 closed_slash path front last e f =
@@ -40,7 +37,8 @@ closed_slash path front last e f =
 pub closed_other : (path front : List ℕ) (last : ℕ) → path ≡ front ++ last ∷ [] → last ≢ 47
     → closed path ≡ path ++ 47 ∷ []
 closed_other path front last e f =
-    ap closed e ∙ closed_more front last (other_byte last f) ∙ ap (λ p. p ++ 47 ∷ []) (sym e)
+    let off : (last == 47) ≡ false = grind (arith, nat_tests) in
+    ap closed e ∙ closed_more front last off ∙ ap (λ p. p ++ 47 ∷ []) (sym e)
 
 pub closed_none : (path : List ℕ) → length path ≡ 0 → closed path ≡ path ++ 47 ∷ []
 unfolding closed
@@ -52,34 +50,11 @@ closed_none (b ∷ path) e = absurd (omega (arith, e))
 abbrev pub Below : List ℕ → List ℕ → Type 0
 Below front path = (rest : List ℕ) × (path ++ 47 ∷ [] ≡ (front ++ 47 ∷ []) ++ rest)
 
-below_same : (b : ℕ) (front path : List ℕ) → (Below front path ↔ Below (b ∷ front) (b ∷ path))
-below_same b front path = (
-  λ p. (p.0, ap (λ t. b ∷ t) p.1),
-  λ p. let tails : path ++ 47 ∷ [] ≡ (front ++ 47 ∷ []) ++ p.0 = cc in (p.0, tails),
-)
-
-pub below_next : (b : ℕ) (wanted left more after front path : List ℕ) → wanted ≡ b ∷ more → left ≡ b ∷ after
-    → (Below wanted left ↔ Below front path) → (Below more after ↔ Below front path)
-below_next b wanted left more after front path e f same =
-    let step = below_same b more after in (
-      λ p. same.0 (subst (λ w. Below w left) (sym e) (subst (λ l. Below (b ∷ more) l) (sym f) (step.0 p))),
-      λ p. step.1 (subst (λ l. Below (b ∷ more) l) f (subst (λ w. Below w left) e (same.1 p))),
-    )
-
-slash_test : (b : ℕ) → b ≡ 47 → (b == 47) ≡ true
-slash_test b e = rw e refl
-
-slash_is : (b : ℕ) → IsTrue (b == 47) → b ≡ 47
-slash_is b t = grind (arith, nat_tests)
-
 pub below_slash : (b : ℕ) (wanted left after front path : List ℕ) (r : Bool) → wanted ≡ [] → left ≡ b ∷ after
     → r ≡ (b == 47) → (Below wanted left ↔ Below front path) → (IsTrue r ↔ Below front path)
 below_slash b wanted left after front path r e f test same = (
-  λ t. let is : b ≡ 47 = slash_is b (subst IsTrue test t) in
-      same.0 (subst (λ w. Below w left) (sym e) (subst (λ l. Below [] l) (sym f)
-      (subst (λ x. Below [] (x ∷ after)) (sym is) (after ++ 47 ∷ [], refl)))),
-  λ p. let (rest, whole) = subst (λ l. Below [] l) f (subst (λ w. Below w left) e (same.1 p)) in
-      let heads : b ≡ 47 = cc in test ∙ slash_test b heads,
+  λ t. same.0 (rw (e, f, eqb-true b 47 (rw test at t)) (after ++ 47 ∷ [], refl)),
+  λ p. let (rest, whole) = rw (e, f) at (same.1 p) in let heads : b ≡ 47 = cc in rw (test, heads),
 )
 
 -- ---- one URL
@@ -87,7 +62,7 @@ below_slash b wanted left after front path r e f test same = (
 some_not_default : (scheme digits : List ℕ) (n : ℕ) → IsPort scheme digits None
     → IsPort scheme digits (Some n) → ⊥
 some_not_default scheme digits n (inl e) is = is.0 e
-some_not_default scheme digits n (inr d) is = is.4 (subst (λ m. IsDefault scheme m) is.1 d)
+some_not_default scheme digits n (inr d) is = is.4 (rw is.1 at d)
 
 pub port_only : (scheme digits : List ℕ) (a b : Option ℕ) → IsPort scheme digits a → IsPort scheme digits b
     → a ≡ b
@@ -99,33 +74,26 @@ port_only scheme digits (Some n) (Some m) p q = ap Some (sym p.1 ∙ q.1)
 pub user_only : (login : Option (List ℕ)) (a b : Option (List ℕ)) → IsUser login a → IsUser login b → a ≡ b
 user_only None a b p q = p ∙ sym q
 user_only (Some login) a b (n, x, r, is, cut, e) (m, y, s, other, also, f) =
-    let same = normal_only is other in
-    let (names, rest) = run_only (subst (λ t. Run (λ c. not (c == 58)) t x r) same cut) also in
-    e ∙ ap Some names ∙ sym f
+    let (names, rest) = run_only (rw (normal_only is other) at cut) also in e ∙ ap Some names ∙ sym f
 
-url_same : (a b : Url) → a.scheme ≡ b.scheme → a.user ≡ b.user → a.host ≡ b.host → a.port ≡ b.port
-    → a.path ≡ b.path → a ≡ b
-url_same a b e f g h i =
-    ap (λ x. url x a.user a.host a.port a.path) e ∙ ap (λ x. url b.scheme x a.host a.port a.path) f
-    ∙ ap (λ x. url b.scheme b.user x a.port a.path) g ∙ ap (λ x. url b.scheme b.user b.host x a.path) h
-    ∙ ap (λ x. url b.scheme b.user b.host b.port x) i
+url_same : {s t h i x y : List ℕ} {u v : Option (List ℕ)} {p q : Option ℕ} → s ≡ t → u ≡ v → h ≡ i → p ≡ q → x ≡ y
+    → url s u h p x ≡ url t v i q y
+url_same e f g h i = rw (e, f, g, h, i)
 
 pub form_only : {p : SplitUrl} (a b : Url) → IsForm p a → IsForm p b → a ≡ b
 form_only {p = p} a b f g =
     let schemes : a.scheme ≡ b.scheme = f.scheme ∙ sym g.scheme in
-    url_same a b schemes (user_only p.login a.user b.user f.user g.user) (f.host ∙ sym g.host)
-    (port_only b.scheme (unwrap_or p.port []) a.port b.port
-    (subst (λ s. IsPort s (unwrap_or p.port []) a.port) schemes f.port) g.port)
+    url_same schemes (user_only p.login a.user b.user f.user g.user) (f.host ∙ sym g.host)
+    (port_only b.scheme (unwrap_or p.port []) a.port b.port (rw schemes at f.port) g.port)
     (path_only a.path b.path f.path g.path)
 
 pub url_only : {s : Bool} {text : List ℕ} (a b : Url) → IsUrl s text a → IsUrl s text b → a ≡ b
-url_only a b (p, w, f) (q, v, g) =
-    let same = written_only p q w v in form_only a b (subst (λ r. IsForm r a) same f) g
+url_only a b (p, w, f) (q, v, g) = form_only a b (rw (written_only p q w v) at f) g
 
 -- what is written so has no URL if its parts have none
 pub no_url : {s : Bool} {text : List ℕ} (p : SplitUrl) → IsWritten s text p → ((u : Url) → ¬ (IsForm p u))
     → (u : Url) → ¬ (IsUrl s text u)
-no_url p w never u (q, v, f) = never u (subst (λ r. IsForm r u) (sym (written_only p q w v)) f)
+no_url p w never u (q, v, f) = never u (rw (sym (written_only p q w v)) at f)
 
 pub read_is : {V E : Type 0} (view : V → Url) {s : Bool} {text : List ℕ} (p : SplitUrl) (r : Result (Option V) E)
     → IsWritten s text p
@@ -137,25 +105,16 @@ read_is view p (Err e) w h = h
 
 -- ---- what matches
 
-pub path_length : (path front : List ℕ) → closed path ≡ front ++ 47 ∷ []
-    → length (closed path) ≡ length front + 1
-path_length path front e = omega (arith, ap length e, length-append front (47 ∷ []))
-
 pub matches : (pattern u : Url) (front : List ℕ) → pattern.scheme ≡ u.scheme → AllowsUser pattern.user u.user
     → AllZip StandsFor (pieces 46 pattern.host) (pieces 46 u.host) → pattern.port ≡ u.port
     → Below front u.path
     → closed pattern.path ≡ front ++ 47 ∷ [] → Matches pattern u
-matches pattern u front scheme user host port below e = record {
-  scheme = scheme;
-  user = user;
-  host = host;
-  port = port;
-  path = (below.0, below.1 ∙ ap (λ t. t ++ below.0) (sym e));
-}
+matches pattern u front scheme user host port below e =
+    record { scheme = scheme; user = user; host = host; port = port; path = (below.0, rw e below.1) }
 
 pub fit_same : (p : Url) (front : List ℕ) (h n : ℕ) (b : Bool) → h ≡ length p.host
     → closed p.path ≡ front ++ 47 ∷ []
     → n ≡ length front + 1 → b ≡ is_some p.user → fit h n b ≡ fit_of p
 fit_same p front h n b e f g i =
-    ap (λ x. fit x n b) e ∙ ap (λ x. fit (length p.host) x b) (g ∙ sym (path_length p.path front f))
-    ∙ ap (λ x. fit (length p.host) (length (closed p.path)) x) i
+    let long : n ≡ length (closed p.path) = omega (arith, g, ap length f, length-append front (47 ∷ [])) in
+    rw (e, long, i)

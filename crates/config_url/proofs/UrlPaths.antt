@@ -1,11 +1,11 @@
 -- Paths of URLs, name by name.
 use Rattle.std.proofs.Common.{◌≡◌, ◌≢◌, ◌≤◌, ◌+◌, ◌++◌, ◌∙◌, ◌↔◌, ◌==◌, ℕ, true, false, List, [], ◌∷◌, Some}
-use Rattle.std.proofs.Common.{None, Option, length, take, map}
+use Rattle.std.proofs.Common.{None, Option, length, take, drop, map}
 use Rattle.std.proofs.Common.{refl, sym, subst, ap}
-use Rattle.std.specs.Prelude.{codes, flat_map}
+use Rattle.std.specs.Prelude.{codes, flat_map, reverse}
 use Rattle.std.specs.Borrow.{Bor}
 use Rattle.std.proofs.lemmas.Bool.{true≢false}
-use Rattle.std.proofs.lemmas.List.{take_all}
+use Rattle.std.proofs.lemmas.List.{take_all, reverse-append, reverse-reverse}
 use Rattle.config_file.specs.Runs.{Run}
 use Rattle.config_url.specs.Url.{IsNormal, IsPath, is_path_byte, without_root}
 use Rattle.config_url.specs.Url.{Leads, ends, stays, drops, keeps, pieces, joined_names}
@@ -17,18 +17,10 @@ use Rattle.config_url.proofs.UrlPieces.{closed_next, closed_last}
 dots : codes "." ≡ codes ".." → ⊥
 dots e = true≢false (ap (λ t. length t == 1) e)
 
-nil_snoc : {X : Type 0} (b : List X) (y : X) → [] ≡ b ++ y ∷ [] → ⊥
-nil_snoc [] y e = cc
-nil_snoc (z ∷ b) y e = cc
-
 snoc_same : {X : Type 0} (a b : List X) (x y : X) → a ++ x ∷ [] ≡ b ++ y ∷ [] → a ≡ b
-snoc_same [] [] x y e = refl
-snoc_same [] (z ∷ b) x y e = let tails : [] ≡ b ++ y ∷ [] = cc in absurd (nil_snoc b y tails)
-snoc_same (z ∷ a) [] x y e = let tails : [] ≡ a ++ x ∷ [] = cc in absurd (nil_snoc a x tails)
-snoc_same (z ∷ a) (w ∷ b) x y e =
-    let heads : z ≡ w = cc in
-    let tails : a ++ x ∷ [] ≡ b ++ y ∷ [] = cc in
-    let fronts : a ≡ b = snoc_same a b x y tails in cc
+snoc_same a b x y e =
+    let turned = sym (reverse-append a (x ∷ [])) ∙ ap reverse e ∙ reverse-append b (y ∷ []) in
+    sym (reverse-reverse a) ∙ ap (λ t. reverse (drop 1 t)) turned ∙ reverse-reverse b
 
 here_back : {kept rest all : List (List ℕ)} {name : List ℕ} → name ≡ codes "." → Leads kept (name ∷ rest) all
     → Leads kept rest all
@@ -43,8 +35,7 @@ here_steps kept name e rest all = (λ l. stays e l, λ l. here_back e l)
 up_back : {kept front rest all : List (List ℕ)} {name : List ℕ} (last : List ℕ) → name ≡ codes ".."
     → kept ≡ front ++ last ∷ [] → Leads kept (name ∷ rest) all → Leads front rest all
 up_back last e f (stays g l) = absurd (dots (sym g ∙ e))
-up_back {front = front} {rest = rest} {all = all} last e f (drops {front = other} one g h l) =
-    subst (λ k. Leads k rest all) (snoc_same other front one last (sym h ∙ f)) l
+up_back last e f (drops {front = other} one g h l) = rw (snoc_same other _ one last (sym h ∙ f)) at l
 up_back last e f (keeps n m l) = absurd (m e)
 
 pub up_steps : (kept front : List (List ℕ)) (name last : List ℕ) → name ≡ codes ".."
@@ -76,69 +67,44 @@ pub names_stop : (kept next : List (List ℕ)) (name left path : List ℕ) (afte
     → CutsPiece 47 left name after → Steps kept name false next → LeadsAs kept left path
     → (all : List (List ℕ)) → ¬ (Leads [] (pieces 47 (path ++ 47 ∷ [])) all)
 names_stop kept next name left path after cut never same all leads =
-    let (more, e) = some_piece left name after cut in
-    never more all (subst (λ ps. Leads kept ps all) e ((same all).1 leads))
+    let (more, e) = some_piece left name after cut in never more all (rw e at ((same all).1 leads))
 
 pub names_end : (kept next : List (List ℕ)) (name left path : List ℕ) → CutsPiece 47 left name None
     → Steps kept name true next → LeadsAs kept left path → Leads [] (pieces 47 (path ++ 47 ∷ [])) next
 names_end kept next name left path cut steps same =
-    (same next).0 (subst (λ ps. Leads kept ps next) (sym (closed_last 47 left name cut)) ((steps [] next).0 ends))
+    (same next).0 (rw (closed_last 47 left name cut) ((steps [] next).0 ends))
 
 pub names_more : (kept next : List (List ℕ)) (name left after path : List ℕ)
     → CutsPiece 47 left name (Some after)
     → Steps kept name true next → LeadsAs kept left path → LeadsAs next after path
-names_more kept next name left after path cut steps same all = (
-  λ l. (same all).0 (subst (λ ps. Leads kept ps all) (sym (closed_next 47 left name after cut))
-      ((steps (pieces 47 (after ++ 47 ∷ [])) all).0 l)),
-  λ l. (steps (pieces 47 (after ++ 47 ∷ [])) all).1
-      (subst (λ ps. Leads kept ps all) (closed_next 47 left name after cut) ((same all).1 l)),
-)
+names_more kept next name left after path cut steps same all =
+    let e = closed_next 47 left name after cut in
+    let (there, back) = steps (pieces 47 (after ++ 47 ∷ [])) all in
+    (λ l. (same all).0 (rw e (there l)), λ l. back (rw e at ((same all).1 l)))
 
 -- ---- joined names
 
 abbrev pub Joined : List (Bor (List ℕ)) → List ℕ
 Joined names = flat_map (λ n. 47 ∷ n) (map (λ n. n.now) names)
 
-joined_some : (names : List (Bor (List ℕ))) → (length names == 0) ≡ false
-    → joined_names (map (λ n. n.now) names) ≡ Joined names
-joined_some [] e = absurd (true≢false e)
-joined_some (n ∷ names) e = refl
-
-pub joined_done : (names : List (Bor (List ℕ))) (i : ℕ) (start out : List ℕ) → length names ≤ i
-    → (length names == 0) ≡ false → out ≡ start ++ Joined (take i names)
-    → out ≡ start ++ joined_names (map (λ n. n.now) names)
-joined_done names i start out past some e =
-    e ∙ ap (λ ns. start ++ Joined ns) (take_all i names past) ∙ ap (λ t. start ++ t) (sym (joined_some names some))
-
 -- ---- one path
 
 pub leads_only : {kept names a b : List (List ℕ)} → Leads kept names a → Leads kept names b → a ≡ b
 leads_only ends ends = refl
-leads_only (stays e l) (stays f m) = leads_only l m
-leads_only (stays e l) (drops one f g m) = absurd (dots (sym e ∙ f))
-leads_only (stays e l) (keeps d u m) = absurd (d e)
-leads_only (drops one f g l) (stays e m) = absurd (dots (sym e ∙ f))
-leads_only {b = b} (drops {front = x} {rest = rest} one f g l) (drops {front = y} two h i m) =
-    leads_only l (subst (λ k. Leads k rest b) (snoc_same y x two one (sym i ∙ g)) m)
-leads_only (drops one f g l) (keeps d u m) = absurd (u f)
-leads_only (keeps d u l) (stays e m) = absurd (d e)
-leads_only (keeps d u l) (drops one f g m) = absurd (u f)
-leads_only (keeps d u l) (keeps v w m) = leads_only l m
+leads_only (stays e l) m = leads_only l (here_back e m)
+leads_only (drops last e f l) m = leads_only l (up_back last e f m)
+leads_only (keeps d u l) m = leads_only l (name_back d u m)
 
 pub no_path : {text normal : List ℕ} (names query root : List ℕ) → IsNormal text normal
     → Run is_path_byte normal names query → root ≡ without_root names
     → ((all : List (List ℕ)) → ¬ (Leads [] (pieces 47 (root ++ 47 ∷ [])) all)) → (path : List ℕ)
     → ¬ (IsPath text path)
 no_path names_of query root is cut e never path p =
-    let same = normal_only p.is_normal is in
-    let (names, rest) = run_only (subst (λ t. Run is_path_byte t p.names p.query) same p.is_cut) cut in
-    never p.kept (subst (λ t. Leads [] (pieces 47 (t ++ 47 ∷ [])) p.kept) (ap without_root names ∙ sym e) p.leads)
+    let (names, rest) = run_only (rw (normal_only p.is_normal is) at p.is_cut) cut in
+    never p.kept (rw (ap without_root names ∙ sym e) at p.leads)
 
 pub path_only : {text : List ℕ} (a b : List ℕ) → IsPath text a → IsPath text b → a ≡ b
 path_only a b p q =
-    let same = normal_only p.is_normal q.is_normal in
-    let (names, rest) = run_only (subst (λ t. Run is_path_byte t p.names p.query) same p.is_cut) q.is_cut in
-    let kept : p.kept ≡ q.kept =
-    leads_only (subst (λ t. Leads [] (pieces 47 (without_root t ++ 47 ∷ [])) p.kept) names p.leads)
-    q.leads in
+    let (names, rest) = run_only (rw (normal_only p.is_normal q.is_normal) at p.is_cut) q.is_cut in
+    let kept : p.kept ≡ q.kept = leads_only (rw names at p.leads) q.leads in
     p.joined ∙ ap (λ k. joined_names k ++ p.query) kept ∙ ap (λ r. joined_names q.kept ++ r) rest ∙ sym q.joined

@@ -3,7 +3,7 @@ use Rattle.std.proofs.Common.{◌≡◌, ◌≢◌, ◌++◌, ◌∙◌, ℕ, Bo
 use Rattle.std.proofs.Common.{drop, not, ◌==◌}
 use Rattle.std.proofs.Common.{refl, sym, subst, ap, arith}
 use Rattle.std.specs.List.{list_all, prefix_len}
-use Rattle.std.proofs.lemmas.Bool.{and_parts}
+use Rattle.std.proofs.lemmas.Bool.{and_parts, eq-eqb}
 use Rattle.std.proofs.lemmas.Bool.Decides.{nat_tests}
 use Rattle.std.proofs.lemmas.List.{append-nil, append_assoc}
 use Rattle.config_file.specs.Runs.{Run, StopsRun}
@@ -11,19 +11,12 @@ use Rattle.config_url.specs.Url.{pieces, onto}
 use Rattle.config_url.specs.Reading.Urls.{CutsPiece}
 use Rattle.config_file.proofs.Runs.{run_split}
 
-pub counted : (test : ℕ → Bool) {text front rest : List ℕ} (n : ℕ) → n ≡ prefix_len test text
-    → front ≡ take n text
-    → rest ≡ drop n text → Run test text front rest
-counted test {text = text} n e f g = rw (f, g, e) (run_split test text)
+pub counted : {test : ℕ → Bool} {text front rest : List ℕ} {n : ℕ} → n ≡ prefix_len test text
+    → front ≡ take n text → rest ≡ drop n text → Run test text front rest
+counted {test = test} {text = text} e f g = rw (f, g, e) (run_split test text)
 
-pub same_byte : (b s : ℕ) → not (b == s) ≡ false → b ≡ s
-same_byte b s h = grind (arith, nat_tests)
-
-pub other_byte : (b s : ℕ) → not (b == s) ≡ true → (b == s) ≡ false
+other_byte : (b s : ℕ) → not (b == s) ≡ true → (b == s) ≡ false
 other_byte b s h = grind (arith, nat_tests)
-
-pub self_byte : (s : ℕ) → (s == s) ≡ true
-self_byte s = grind (arith, nat_tests)
 
 pub piece_whole : (s : ℕ) {text front : List ℕ} (rest : List ℕ) → Run (λ b. not (b == s)) text front rest
     → rest ≡ []
@@ -34,13 +27,14 @@ pub piece_before : (s : ℕ) {text front after : List ℕ} {b : ℕ} (rest : Lis
     → Run (λ b. not (b == s)) text front rest
     → rest ≡ b ∷ after → CutsPiece s text front (Some after)
 piece_before s {front = front} {after = after} {b = b} rest run e =
-    let here : b ≡ s = same_byte b s (subst (λ x. StopsRun (λ c. not (c == s)) x) e run.longest) in
+    let stops : not (b == s) ≡ false = rw e at run.longest in
+    let here : b ≡ s = grind (arith, nat_tests) in
     (run.joined ∙ ap (λ r. front ++ r) (e ∙ ap (λ c. c ∷ after) here), run.pass)
 
 pub pieces_at : (s : ℕ) (piece rest : List ℕ) → list_all (λ b. not (b == s)) piece ≡ true
     → pieces s (piece ++ s ∷ rest) ≡ piece ∷ pieces s rest
 unfolding pieces
-pieces_at s [] rest pass = rw (self_byte s) refl
+pieces_at s [] rest pass = rw (eq-eqb s s refl) refl
 pieces_at s (b ∷ piece) rest pass =
     let (here, more) = and_parts (not (b == s)) (list_all (λ b. not (b == s)) piece) pass in
     rw (other_byte b s here, pieces_at s piece rest more) refl
@@ -49,7 +43,7 @@ pub pieces_last : (s b : ℕ) (piece : List ℕ) → list_all (λ b. not (b == s
     → pieces s (b ∷ piece) ≡ (b ∷ piece) ∷ []
 unfolding pieces
 pieces_last s b [] pass =
-    let (here, more) = and_parts (not (b == s)) true pass in rw (other_byte b s here) refl
+    rw (other_byte b s (and_parts (not (b == s)) true pass).0) refl
 pieces_last s b (c ∷ piece) pass =
     let (here, more) = and_parts (not (b == s)) (list_all (λ b. not (b == s)) (c ∷ piece)) pass in
     rw (other_byte b s here) (ap (onto b) (pieces_last s c piece more))

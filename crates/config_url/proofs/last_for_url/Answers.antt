@@ -5,9 +5,6 @@ use Rattle.config_file.proofs.Last.{at_index}
 use Rattle.config_url.proofs.UrlFits.{best_first, best_next, best_done}
 use Rattle.config_url.proofs.last_for_url.Goals as goal
 
-pub loop-setting-init : goal.loop-setting-init
-loop-setting-init c = λ listed. best_first fit_in (key_of c.args.key.now) (url_of c.args.url.now)
-
 pub loop-setting-preserved : goal.loop-setting-preserved
 loop-setting-preserved c =
     best_next fit_in (key_of c.args.key.now) (url_of c.args.url.now) c.args.settings.now.entries.items

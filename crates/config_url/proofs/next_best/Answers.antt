@@ -26,7 +26,6 @@ returns-then-is_below c settings text listed before =
 pub returns : goal.returns
 returns c settings text listed before =
     let (fits, only) = rw c.in-Some.is at (c.in_ok-fit.ensures text listed) in
-    best_taken fit_in (key_of c.args.key.now) (url_of c.args.url.now) settings c.in-Some.fit c.in-Some-best.other
-    c.args.setting c.in-Some-best.kept fits only
-    (λ closer. false≢true (sym c.if-is_below.false ∙ c.is_below.ensures.1 closer))
+    best_taken fit_in (key_of c.args.key.now) (url_of c.args.url.now) settings c.in-Some.fit c.args.setting fits only
+    c.in-Some-best.other c.in-Some-best.kept (λ closer. false≢true (sym c.if-is_below.false ∙ c.is_below.ensures.1 closer))
     (rw c.in-Some-best.is at before)

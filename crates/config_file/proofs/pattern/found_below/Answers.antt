@@ -6,8 +6,7 @@ use Rattle.config_file.proofs.pattern.found_below.Goals as goal
 pub returns-in_default : goal.returns-in_default
 returns-in_default c = record {
   is = deep_map c.args.ignores_case c.found_deep-found.result (λ m. c.places.invariant.there (later_here m))
-      (λ nothing. absurd (c.in_default.not-Nothing nothing))
-      (λ later. from_later (c.places.invariant.back later)) c.found_deep-found.ensures.is;
+      (λ e. absurd (c.in_default.not-Nothing e)) (λ later. from_later (c.places.invariant.back later)) c.found_deep-found.ensures.is;
   shorter = c.found_deep-found.ensures.shorter;
 }
 

@@ -5,8 +5,7 @@ use Rattle.config_file.proofs.pattern.found_later.Goals as goal
 pub returns-in_default : goal.returns-in_default
 returns-in_default c = record {
   is = star_map c.args.ignores_case c.found_here-found.result (λ m. c.places.invariant.there (later_here m))
-      (λ nothing. absurd (c.in_default.not-Nothing nothing))
-      c.places.invariant.from c.found_here-found.ensures.is;
+      (λ e. absurd (c.in_default.not-Nothing e)) c.places.invariant.from c.found_here-found.ensures.is;
   shorter = c.found_here-found.ensures.shorter;
 }
 

@@ -1,4 +1,4 @@
-use Rattle.config_file.proofs.Sets.{goes_on_first, goes_on_found, goes_on_here, not_closed, set_closed}
+use Rattle.config_file.proofs.Sets.{goes_on_first, goes_on_found, goes_on_here, not_closed}
 use Rattle.config_file.proofs.Sets.{closing_after}
 use Rattle.config_file.proofs.set.members.Goals as goal
 
@@ -7,12 +7,6 @@ members-init c = record {
   on = goes_on_first c.in_ok-found.ensures.is;
   ahead = closing_after c.unclosed.result.0.now c.unclosed.ensures c.in_ok-found.ensures.is;
 }
-
-pub returns-in-Some : goal.returns-in-Some
-returns-in-Some c = set_closed c.members.rest.now c.members.invariant.on c.in-Some.ensures
-
-pub next_closing-closing-requires : goal.next_closing-closing-requires
-next_closing-closing-requires c = c.members.invariant.ahead
 
 pub members-preserved-then-found : goal.members-preserved-then-found
 members-preserved-then-found c = record {

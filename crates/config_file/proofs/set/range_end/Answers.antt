@@ -1,9 +1,6 @@
-use Rattle.config_file.proofs.Sets.{range_here, no_range_byte}
+use Rattle.std.proofs.Common.{refl}
+use Rattle.config_file.specs.Set.{to}
 use Rattle.config_file.proofs.set.range_end.Goals as goal
 
 pub returns : goal.returns
-returns c = range_here c.in_ok-after.ensures c.in_ok-last.ensures
-
-pub returns-in_err-last : goal.returns-in_err-last
-returns-in_err-last c =
-    rw c.from_residual-in_err-last.ensures (no_range_byte c.in_ok-after.ensures c.in_err-last.ensures)
+returns c = rw c.in_ok-after.ensures (to refl c.in_ok-last.ensures)

@@ -1,19 +1,16 @@
 use Rattle.std.proofs.Common.{rules}
-use Rattle.config_file.proofs.Sets.{escaped_here, no_escaped, bare_here}
+use Rattle.config_file.specs.Set.{bare, after_backslash}
 use Rattle.config_file.proofs.set.set_byte.Goals as goal
 use Rattle.config_file.proofs.set.set_byte.Goals.{else-first-eq93-via-then-first-eq93+else-not-starts}
 use Rattle.config_file.proofs.set.set_byte.Goals.{else-first-eq93-via-else-first-eq93}
 
 pub returns-then-first-eq92 : goal.returns-then-first-eq92
-returns-then-first-eq92 c = escaped_here c.in_ok-first.ensures c.if-first-eq92.true c.in_ok-escaped.ensures
-
-pub returns-in_err-escaped : goal.returns-in_err-escaped
-returns-in_err-escaped c =
-    rw c.from_residual-in_err-escaped.ensures (no_escaped c.in_ok-first.ensures c.if-first-eq92.true c.in_err-escaped.ensures)
+returns-then-first-eq92 c =
+    rw (c.in_ok-first.ensures, c.in_ok-escaped.ensures) (after_backslash c.if-first-eq92.true)
 
 pub returns-else-first-eq93 : goal.returns-else-first-eq93
 returns-else-first-eq93 c =
-    bare_here c.in_ok-first.ensures c.if-first-eq92.false (elim c.else-first-eq93.branch [
+    rw c.in_ok-first.ensures (bare c.if-first-eq92.false (elim c.else-first-eq93.branch [
       | else-first-eq93-via-then-first-eq93+else-not-starts w ↦ λ e. search rules
       | else-first-eq93-via-else-first-eq93 w ↦ λ e. absurd (w.if-first-eq93.false e)
-    ])
+    ]))

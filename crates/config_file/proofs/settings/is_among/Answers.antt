@@ -1,10 +1,7 @@
 use Rattle.std.proofs.Common.{rules}
 use Rattle.config_file.proofs.Last.{at_index}
-use Rattle.config_file.proofs.Picked.{among_here, among_no_more, among_none, among_first}
+use Rattle.config_file.proofs.Picked.{among_here, among_no_more, among_none}
 use Rattle.config_file.proofs.settings.is_among.Goals as goal
-
-pub loop-other-init : goal.loop-other-init
-loop-other-init c = among_first (λ text. text.items) c.args.texts.now c.args.text.now
 
 pub loop-other-preserved : goal.loop-other-preserved
 loop-other-preserved c =

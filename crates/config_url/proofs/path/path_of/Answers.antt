@@ -6,8 +6,9 @@ use Rattle.config_url.proofs.path.path_of.Goals as goal
 
 pub returns-in_default-2 : goal.returns-in_default-2
 returns-in_default-2 c =
-    no_path c.split_at.result.0.now c.split_at.result.1.now c.without_root.result.now (rw c.in-Some.is at c.in_ok-text.ensures)
-    (counted is_path_byte {text = c.in-Some.text.items} c.path_length.result (search rules) (search rules) (search rules))
+    no_path c.split_at.result.0.now c.split_at.result.1.now c.without_root.result.now
+    (rw c.in-Some.is at c.in_ok-text.ensures)
+    (counted {text = c.in-Some.text.items} {n = c.path_length.result} (search rules) (search rules) (search rules))
     c.without_root.ensures (rw c.in_default-2.is at c.in_ok-kept.ensures)
 
 pub returns : goal.returns
@@ -17,10 +18,9 @@ returns c = record {
   query = c.split_at.result.1.now;
   kept = map (λ n. n.now) c.in-Some-2.kept.items;
   is_normal = rw c.in-Some.is at c.in_ok-text.ensures;
-  is_cut = counted is_path_byte {text = c.in-Some.text.items} c.path_length.result (search rules) (search rules)
+  is_cut = counted {text = c.in-Some.text.items} {n = c.path_length.result} (search rules) (search rules)
       (search rules);
-  leads = subst (λ t. Leads [] (pieces 47 (t ++ 47 ∷ [])) (map (λ n. n.now) c.in-Some-2.kept.items))
-      c.without_root.ensures (rw c.in-Some-2.is at c.in_ok-kept.ensures);
+  leads = rw c.without_root.ensures at (rw c.in-Some-2.is at c.in_ok-kept.ensures);
   joined = c.in_ok-extend_from_slice.ensures.items ∙ ap (λ t. t ++ c.split_at.result.1.now) (c.in_ok-push_names.ensures
       ∙ ap (λ t. t ++ joined_names (map (λ n. n.now) c.deref-3.result.now)) c.in_ok-path.ensures.items
       ∙ ap (λ k. joined_names (map (λ n. n.now) k)) c.deref-3.ensures.value);

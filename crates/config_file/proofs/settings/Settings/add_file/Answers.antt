@@ -22,7 +22,3 @@ pub returns-in-Err-add-clause-adds : goal.returns-in-Err-add-clause-adds
 returns-in-Err-add-clause-adds c =
     let (entries, reads, adds) = c.loop-entry.invariant.0 in
     (entries, first_of c.args.text.now entries c.loop-entry.entry-iterator reads, rw c.in-Err-add.ensures.adds adds)
-
-pub returns-in-Err-add-clause-scope : goal.returns-in-Err-add-clause-scope
-returns-in-Err-add-clause-scope c =
-    scope_both c.args.self.now c.loop-entry.self c.add.new.self c.loop-entry.invariant.1 c.add.ensures.scope

@@ -3,7 +3,6 @@ use Rattle.config_file.specs.Views.{entry_of}
 use Rattle.config_file.specs.Walk.{Line, TooDeep}
 use Rattle.config_file.proofs.Adding.{adds_none}
 use Rattle.config_file.proofs.Coming.{line_next, ends_next, passed_next, entered_next, deep_next, stop_comes}
-use Rattle.config_file.proofs.Scopes.{scope_none}
 use Rattle.config_file.proofs.settings.Settings.add_next.Goals as goal
 
 pub returns-in-Line-clause-adds : goal.returns-in-Line-clause-adds
@@ -41,9 +40,8 @@ returns-in-In-clause-adds g c = (
   (c.in-Entry.place.name.now, entry_of c.in-Entry.entry),
   c.in-Ok-add.ensures.adds,
   entered_next (g.S.Files.contents c.args.files.now) c.args.known.now c.args.walk.now.frames.items
-      c.next.new.self.frames.items c.in-Entry.place c.enter.new.self.frames.items c.in-In.place
-      c.in-Entry.entry c.in-Entry.include c.in-In.text.now
-      (λ answers. rw c.in-Entry.is at (c.in-Ok.ensures.takes answers))
+      c.next.new.self.frames.items c.enter.new.self.frames.items c.in-Entry.place c.in-In.place c.in-Entry.entry
+      c.in-Entry.include c.in-In.text.now (λ answers. rw c.in-Entry.is at (c.in-Ok.ensures.takes answers))
       (rw c.in-In.is at c.in-Ok-next_of.ensures) (c.enter.ensures.entered (search rules)),
 )
 
@@ -77,9 +75,3 @@ returns-in-Stops-clause-adds g c =
       tells,
       (c.next.new.self.frames.items, c.next.new.self.fits, comes),
     )
-
-pub returns-in-Line-clause-scope : goal.returns-in-Line-clause-scope
-returns-in-Line-clause-scope g c = scope_none c.args.self.now c.args.self.now refl refl
-
-pub returns-in-Ends-clause-scope : goal.returns-in-Ends-clause-scope
-returns-in-Ends-clause-scope g c = scope_none c.args.self.now c.args.self.now refl refl

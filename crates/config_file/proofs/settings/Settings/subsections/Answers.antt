@@ -1,7 +1,7 @@
 use Rattle.std.proofs.Common.{rules, ap, ◌∙◌, get_or}
 use Rattle.config_file.specs.Settings.{no_settings}
 use Rattle.config_file.proofs.Last.{at_index}
-use Rattle.config_file.proofs.Sections.{subs_next, subs_done}
+use Rattle.config_file.proofs.Sections.{subs_next}
 use Rattle.config_file.proofs.settings.Settings.subsections.Goals as goal
 
 pub loop-setting-init : goal.loop-setting-init
@@ -15,7 +15,3 @@ loop-setting-preserved c =
     (c.setting-item.is
     ∙ ap (λ s. get_or s c.loop-setting.setting-index c.setting-item.result) c.deref-setting-items.ensures.value))
     (search rules) c.in_ok-subsection.ensures (search rules) c.loop-setting.invariant
-
-pub returns : goal.returns
-returns c =
-    subs_done c.args.self.now.entries.items c.loop-setting.setting-index (search rules) c.loop-setting.invariant
