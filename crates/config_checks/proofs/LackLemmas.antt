@@ -36,48 +36,34 @@ cost_lacking z (y ∷ ys) lack (suc j) = elim (cases_Bool (z == y)) [
   | inr differ ↦ cost_lacking z ys (rw differ at lack) j
 ]
 
-row_lacking : (c before : ℕ → ℕ) (first m : ℕ) → ((j : ℕ) → m ≤ before j) → m + 1 ≤ first → ((j : ℕ) → 1 ≤ c j) → (k : ℕ)
-    → m + 1 ≤ next_row c before first k
+row_least : (c before : ℕ → ℕ) (first m : ℕ) → ((j : ℕ) → m ≤ before j + 1) → ((j : ℕ) → m ≤ before j + c j) → m ≤ first → (k : ℕ)
+    → m ≤ next_row c before first k
 unfolding next_row
-row_lacking c before first m so_far begins costs zero = begins
-row_lacking c before first m so_far begins costs (suc k) =
-    let left = row_lacking c before first m so_far begins costs k in
-    let above = so_far (suc k) in
-    let across = so_far k in
-    let cost = costs k in
-    omega (arith, clamps, left, above, across, cost)
-
-row_having : (c before : ℕ → ℕ) (first m : ℕ) → ((j : ℕ) → m ≤ before j) → m ≤ first → (k : ℕ) → m ≤ next_row c before first k
-unfolding next_row
-row_having c before first m so_far begins zero = begins
-row_having c before first m so_far begins (suc k) =
-    let left = row_having c before first m so_far begins k in
-    let above = so_far (suc k) in
-    let across = so_far k in
-    omega (arith, clamps, left, above, across)
+row_least c before first m above across begins zero = begins
+row_least c before first m above across begins (suc k) =
+    omega (arith, clamps, row_least c before first m above across begins k, above (suc k), across k)
 
 rows_lacking : (xs ys : List ℕ) (n m : ℕ) (before : ℕ → ℕ) → ((j : ℕ) → m ≤ before j) → m ≤ n → (k : ℕ)
     → m + length (filter (without ys) xs) ≤ rows nat_eq xs ys n before k
 unfolding rows
-rows_lacking [] ys n m before so_far fits k = let here = so_far k in omega (arith, here)
+rows_lacking [] ys n m before so_far fits k = omega (arith, so_far k)
 rows_lacking (x ∷ xs) ys n m before so_far fits k = elim (cases_Bool (without ys x)) [
   | inl lack ↦
       let more = rows_lacking xs ys (suc n) (m + 1) (next_row (cost_at nat_eq x ys) before (suc n))
-      (row_lacking (cost_at nat_eq x ys) before (suc n) m so_far (omega (arith, fits)) (cost_lacking x ys lack)) (omega (arith, fits)) k in
+      (row_least (cost_at nat_eq x ys) before (suc n) (m + 1) (λ j. omega (arith, so_far j))
+      (λ j. omega (arith, so_far j, cost_lacking x ys lack j)) (omega (arith, fits))) (omega (arith, fits)) k in
       rw lack (omega (arith, more))
   | inr has ↦
       let more = rows_lacking xs ys (suc n) m (next_row (cost_at nat_eq x ys) before (suc n))
-      (row_having (cost_at nat_eq x ys) before (suc n) m so_far (omega (arith, fits))) (omega (arith, fits)) k in
+      (row_least (cost_at nat_eq x ys) before (suc n) m (λ j. omega (arith, so_far j)) (λ j. omega (arith, so_far j))
+      (omega (arith, fits))) (omega (arith, fits)) k in
       rw has more
 ]
 
 -- ---- a swap
 
 either_first : (a b c : Bool) → (a || (b || c)) ≡ (b || (a || c))
-either_first true true c = refl
-either_first true false c = refl
-either_first false true c = refl
-either_first false false c = refl
+either_first a b c = grind arith
 
 any_swapped : (p : ℕ → Bool) (xs ys : List ℕ) → IsSwap xs ys → list_any p ys ≡ list_any p xs
 any_swapped p _ _ (at_front {x} {y} {rest} differ) = either_first (p y) (p x) (list_any p rest)
@@ -130,10 +116,7 @@ lacking_edits a b n (counted not is) =
 pub common_lower : (a b : List ℕ) → common (lower a) (lower b) ≡ prefix_len (λ p. is_same_byte p.0 p.1) (zip a b)
 common_lower [] b = refl
 common_lower (x ∷ a) [] = refl
-common_lower (x ∷ a) (y ∷ b) = elim (cases_Bool (is_same_byte x y)) [
-  | inl same ↦ rw same (ap (λ n. 1 + n) (common_lower a b))
-  | inr differ ↦ rw differ refl
-]
+common_lower (x ∷ a) (y ∷ b) = rw (common_lower a b)
 
 -- if a text ends with a word, what precedes the word is as long as the text is longer
 pub end_told : (text end word : List ℕ) → lower text ≡ word ++ lower end
