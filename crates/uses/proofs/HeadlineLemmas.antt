@@ -1,7 +1,6 @@
 -- The headline follows from what a text means, and from how joined texts are read.
-use Rattle.std.proofs.Common.{◌≡◌, ◌↔◌, ◌≤◌, ◌⊎◌, ◌++◌, inl, inr, codes, length, ℕ, List, Option, None, Some}
-use Rattle.std.proofs.Common.{arith, refl, sym, ap, subst}
-use Rattle.config_text.specs.declared.value.TheConstants.{LONGEST_TEXT}
+use Rattle.std.proofs.Common.{◌≡◌, ◌↔◌, ◌⊎◌, ◌++◌, inl, inr, codes, ℕ, List, Option, None, Some}
+use Rattle.std.proofs.Common.{arith, refl, ap}
 use Rattle.config_text.specs.Value.{IsRefused, IsTextOf, Means, Reads}
 use Rattle.config_color.specs.declared.color.Color.{Color}
 use Rattle.config_color.specs.Color.{ColorText}

@@ -1,9 +1,8 @@
 -- What settings say of the entries to which walks come.
 use Rattle.std.proofs.Common.{◌≡◌, ◌++◌, ◌∷◌, [], ◌<◌, ◌+◌, ℕ, zero, suc, List, Bool, Option, None, Some, Ok, Err}
 use Rattle.std.specs.Bool.{⊤}
-use Rattle.std.proofs.Common.{length, map, take, drop, get_or, codes, refl, sym, ap, subst, arith, ◌∙◌}
+use Rattle.std.proofs.Common.{length, map, take, drop, get_or, refl, sym, ap, subst, arith, ◌∙◌}
 use Rattle.std.specs.List.{All, AllByRecursion, AllWithin, AllZip, slice_get}
-use Rattle.std.specs.Option.{option_map_or}
 use Rattle.std.proofs.lemmas.List.{append_assoc, append-nil, take_more, take-append-drop}
 use Rattle.std.proofs.lemmas.List.Elements.{All-nil, All-cons, All-append, recursion_from_All}
 use Rattle.config_file.specs.File.{Entry, IsFile}
