@@ -2,6 +2,8 @@
 use Rattle.std.proofs.Common.{◌≡◌, ◌+◌, ◌≤◌, ℕ, zero, suc, List, [], ◌∷◌, ◌++◌, length, nat_eq, refl, sym, ap, ◌∙◌, arith, append_assoc}
 use Rattle.std.proofs.Common.{Bool, true, false, inl, inr, ◌==◌}
 use Rattle.std.proofs.lemmas.Int.{clamps}
+use Rattle.std.proofs.lemmas.List.Folds.{list_any-append}
+use Rattle.std.proofs.lemmas.Bool.Decides.{nat_tests}
 use Rattle.std.proofs.lemmas.Bool.{false≢true, cases_Bool, eq-eqb}
 use Rattle.std.specs.Char.{to_ascii_lowercase}
 use Rattle.std.specs.List.{filter, list_any}
@@ -27,14 +29,8 @@ without ys z = not (list_any (λ y. z == y) ys)
 cost_lacking : (z : ℕ) (ys : List ℕ) → without ys z ≡ true → (j : ℕ) → 1 ≤ cost_at nat_eq z ys j
 unfolding cost_at
 cost_lacking z [] lack j = omega arith
-cost_lacking z (y ∷ ys) lack zero = elim (cases_Bool (z == y)) [
-  | inl same ↦ absurd (false≢true (rw same at lack))
-  | inr differ ↦ rw differ (omega arith)
-]
-cost_lacking z (y ∷ ys) lack (suc j) = elim (cases_Bool (z == y)) [
-  | inl same ↦ absurd (false≢true (rw same at lack))
-  | inr differ ↦ cost_lacking z ys (rw differ at lack) j
-]
+cost_lacking z (y ∷ ys) lack zero = grind (arith, nat_tests)
+cost_lacking z (y ∷ ys) lack (suc j) = grind (arith, nat_tests, cost_lacking z ys)
 
 row_least : (c before : ℕ → ℕ) (first m : ℕ) → ((j : ℕ) → m ≤ before j + 1) → ((j : ℕ) → m ≤ before j + c j) → m ≤ first → (k : ℕ)
     → m ≤ next_row c before first k
@@ -70,11 +66,7 @@ any_swapped p _ _ (at_front {x} {y} {rest} differ) = either_first (p y) (p x) (l
 any_swapped p _ _ (further {x} {xs} {ys} swap) = ap (λ b. p x || b) (any_swapped p xs ys swap)
 
 any_here : (front : List ℕ) (x : ℕ) (behind : List ℕ) → list_any (λ y. x == y) (front ++ x ∷ behind) ≡ true
-any_here [] x behind = rw (eq-eqb x x refl) refl
-any_here (f ∷ front) x behind = elim (cases_Bool (x == f)) [
-  | inl same ↦ rw same refl
-  | inr differ ↦ rw differ (any_here front x behind)
-]
+any_here front x behind = grind (arith, list_any-append (λ y. x == y) front (x ∷ behind), eq-eqb x x refl)
 
 all_had : (front xs : List ℕ) → filter (without (front ++ xs)) xs ≡ []
 all_had front [] = refl
@@ -139,15 +131,3 @@ told_end text end n same = (
   ap lower (sym (take-append-drop n text)) ∙ map-append to_ascii_lowercase (take n text) (drop n text)
       ∙ ap (λ l. lower (take n text) ++ l) same,
 )
-
--- no text ends with a longer one
-pub no_end : (text end word : List ℕ) → lower text ≡ word ++ lower end → ¬ (length text < length end)
-no_end text end word is less =
-    absurd (omega (
-      arith,
-      less,
-      length-append word (lower end),
-      ap length is,
-      length-map text to_ascii_lowercase,
-      length-map end to_ascii_lowercase,
-    ))

@@ -75,25 +75,26 @@ rests_of (x ∷ a) (y ∷ b) = elim (cases_Bool (x == y)) [
 ]
 rests_of a b = record { front = []; first = refl; second = refl; apart = tt }
 
--- ---- a swap
+-- ---- a relation that holds of two texts exactly if it holds of what follows a byte that both begin with
 
-swap_behind : (front x y : List ℕ) → IsSwap x y → IsSwap (front ++ x) (front ++ y)
-swap_behind [] x y swap = swap
-swap_behind (f ∷ front) x y swap = further (swap_behind front x y swap)
+module _ (R : List ℕ → List ℕ → Type 0) (more : (x : ℕ) (a b : List ℕ) → R (x ∷ a) (x ∷ b) ↔ R a b) where
+  behind : (front a b : List ℕ) → R (front ++ a) (front ++ b) ↔ R a b
+  behind [] a b = (λ r. r, λ r. r)
+  behind (x ∷ front) a b =
+      let inner = behind front a b in let outer = more x (front ++ a) (front ++ b) in
+      (λ r. inner.0 (outer.0 r), λ r. outer.1 (inner.1 r))
+
+  of_rests : {a b x y : List ℕ} → AreRests a b x y → R a b ↔ R x y
+  of_rests {x = x} {y = y} r = rw (r.first, r.second) (behind r.front x y)
+
+-- ---- a swap
 
 swap_rest : (f g : ℕ) (x y : List ℕ) → f ≡ g → IsSwap (f ∷ x) (g ∷ y) → IsSwap x y
 swap_rest _ _ _ _ same (at_front differ) = absurd (differ same)
 swap_rest _ _ _ _ same (further swap) = swap
 
-swap_within : (front x y : List ℕ) → IsSwap (front ++ x) (front ++ y) → IsSwap x y
-swap_within [] x y swap = swap
-swap_within (f ∷ front) x y swap = swap_within front x y (swap_rest f f (front ++ x) (front ++ y) refl swap)
-
 pub swap_rests : {a b x y : List ℕ} → AreRests a b x y → IsSwap a b ↔ IsSwap x y
-swap_rests {a} {b} {x} {y} r = (
-  λ swap. swap_within r.front x y (rw (r.first, r.second) at swap),
-  λ swap. rw (r.first, r.second) (swap_behind r.front x y swap),
-)
+swap_rests = of_rests IsSwap (λ x a b. (swap_rest x x a b refl, further))
 
 pair_swap : (x y : List ℕ) → AreApart x y → IsSwap x y
     → (get_or x 0 0 ≡ get_or y 1 0) × (get_or x 1 0 ≡ get_or y 0 0) × (drop 2 x ≡ drop 2 y)
@@ -105,8 +106,7 @@ swap_pair (a ∷ b ∷ x) (c ∷ d ∷ y) apart some also e f same = rw (← e, 
 swap_pair x y apart some also e f same = absurd (omega (arith, some, also))
 
 same_told : (r : Bool) (xs ys : List ℕ) → MatchBool r (xs ≡ ys) (xs ≢ ys) → IsTrue r ↔ (xs ≡ ys)
-same_told true xs ys same = (λ yes. same, λ e. refl)
-same_told false xs ys other = (λ yes. absurd (false≢true yes), λ e. absurd (other e))
+same_told r xs ys told = grind arith
 
 -- if the first two bytes are swapped, the texts differ by a swap if and only if their rests are the same
 pub pair_told : (x y : List ℕ) (r : Bool) → AreApart x y → 2 ≤ length x → 2 ≤ length y → get_or x 0 0 ≡ get_or y 1 0
@@ -122,10 +122,6 @@ pair_told x y r apart some also e f told =
 
 -- ---- a run of bytes left out
 
-left_behind : (front x y : List ℕ) → LeavesOut x y → LeavesOut (front ++ x) (front ++ y)
-left_behind [] x y left = left
-left_behind (f ∷ front) x y left = kept (left_behind front x y left)
-
 left_word : (f : ℕ) (x y : List ℕ) (word : List ℕ) → f ∷ y ≡ word ++ f ∷ x → LeavesOut x y
 left_word f x y [] e = skipped [] (cc)
 left_word f x y (w ∷ word) e = skipped (word ++ f ∷ []) (let tails : y ≡ word ++ f ∷ x = cc in tails ∙ sym (append_assoc word (f ∷ []) x))
@@ -134,20 +130,15 @@ left_rest : (f g : ℕ) (x y : List ℕ) → f ≡ g → LeavesOut (f ∷ x) (g 
 left_rest f g x y same (skipped word e) = left_word f x y word (ap (λ h. h ∷ y) same ∙ e)
 left_rest _ _ _ _ same (kept left) = left
 
-left_within : (front x y : List ℕ) → LeavesOut (front ++ x) (front ++ y) → LeavesOut x y
-left_within [] x y left = left
-left_within (f ∷ front) x y left = left_within front x y (left_rest f f (front ++ x) (front ++ y) refl left)
-
 -- texts that do not begin with the same byte: one only leaves out what comes first
 left_apart : (x y : List ℕ) → AreApart x y → LeavesOut x y → (word : List ℕ) × (y ≡ word ++ x)
 left_apart x y apart (skipped word e) = (word, e)
 left_apart _ _ apart (kept left) = absurd (apart refl)
 
 pub left_rests : {a b x y : List ℕ} → AreRests a b x y → LeavesOut a b ↔ ((word : List ℕ) × (y ≡ word ++ x))
-left_rests {a} {b} {x} {y} r = (
-  λ left. left_apart x y r.apart (left_within r.front x y (rw (r.first, r.second) at left)),
-  λ (word, e). rw (r.first, r.second) (left_behind r.front x y (skipped word e)),
-)
+left_rests {x = x} {y = y} r =
+    let rests = of_rests LeavesOut (λ x a b. (left_rest x x a b refl, kept)) r in
+    (λ left. left_apart x y r.apart (rests.0 left), λ (word, e). rests.1 (skipped word e))
 
 -- there is at most one number of edits
 pub one_count : (a b : List ℕ) (m n : ℕ) → Edits a b m → Edits a b n → m ≡ n
@@ -176,8 +167,7 @@ module _ {A : Type 0} (Apart : A → ℕ → Type 0) where
   nothing = record { none_nearer = λ k d inside. absurd (omega (arith, inside)); found = refl }
 
   at_most_4 : (seen : List A) (least : ℕ) (best : Option (Bor A)) → Found seen best least → least ≤ 4
-  at_most_4 seen least None found = omega (arith, found)
-  at_most_4 seen least (Some item) found = omega (arith, found.0)
+  at_most_4 seen least best found = grind arith
 
   still_found : (seen more : List A) (least : ℕ) (best : Option (Bor A)) → Found seen best least
       → Found (seen ++ more) best least

@@ -208,16 +208,12 @@ module _ (git : Version) (row : Row) where
 module _ (options : Options) (row : Row) where
   pub finding_once : (value : Option (List ℕ)) (a b : Option Reason)
       → HasFinding options row value a → HasFinding options row value b → IsSameFinding a b
-  finding_once value a b (outside r out is) (outside s also is') =
-      as_same a b (is ∙ ap (λ x. Some x) (outside_once options.git row r s out also) ∙ sym is')
-  finding_once value a b (outside r out is) (wrong of s judged is') = absurd (not_outside options.git row of r out)
-  finding_once value a b (outside r out is) (right of judged remark) = absurd (not_outside options.git row of r out)
-  finding_once value a b (wrong of r judged is) (outside s also is') = absurd (not_outside options.git row of s also)
+  finding_once value a b (outside r out is) q = grind (arith, as_same, outside_once options.git row, not_outside options.git row)
+  finding_once value a b p (outside r out is) = grind (arith, not_outside options.git row)
   finding_once value a b (wrong of r judged is) (wrong of' s judged' is') =
       rw (is, is') (reason_once options.users row value (Some r) (Some s) judged judged')
   finding_once value a b (wrong of r judged is) (right of' judged' remark) =
       absurd (none_with r (reason_once options.users row value (Some r) None judged judged'))
-  finding_once value a b (right of judged remark) (outside s also is') = absurd (not_outside options.git row of s also)
   finding_once value a b (right of judged remark) (wrong of' s judged' is') =
       absurd (none_before s (reason_once options.users row value None (Some s) judged judged'))
   finding_once value a b (right of judged remark) (right of' judged' remark') =

@@ -26,9 +26,6 @@ loop-run-preserved c =
     c.loop-run.invariant c.in_default.ensures
 
 pub returns : goal.returns
-returns c = inr (
-  key_of c.in_ok-key.key,
-  c.in_ok-key.ensures,
-  subst (λ runs. CoversNone (rows_of runs) (key_of c.in_ok-key.key)) (take_all c.loop-run.run-index c.args.runs.now (omega (arith, c.loop-run-test.false)))
-      c.loop-run.invariant,
-)
+returns c =
+    let all = take_all c.loop-run.run-index c.args.runs.now (omega (arith, c.loop-run-test.false)) in
+    inr (key_of c.in_ok-key.key, c.in_ok-key.ensures, rw all at c.loop-run.invariant)

@@ -23,9 +23,6 @@ returns-then-is_same_word c =
 
 pub returns : goal.returns
 returns c =
-    let none = subst (λ runs. All (λ row. ¬ (SameWord (key_of row.key).section c.args.section.now)) (rows_of runs))
-    (take_all c.loop-run.run-index c.args.runs.now (omega (arith, c.loop-run-test.false))) c.loop-run.invariant in (
-      λ yes. absurd (search rules),
-      λ (place, row, inside, stands, same).
-          absurd (none place row inside (subst (λ row. SameWord (key_of row.key).section c.args.section.now) (sym stands) same)),
-    )
+    let all = take_all c.loop-run.run-index c.args.runs.now (omega (arith, c.loop-run-test.false)) in
+    let none = rw all at c.loop-run.invariant in
+    (λ yes. absurd (search rules), λ (place, row, inside, stands, same). absurd (none place row inside (rw stands same)))

@@ -31,9 +31,6 @@ loop-run-preserved c =
 
 pub returns : goal.returns
 returns c =
-    let t = c.args.subsection.now in
-    let none = subst (λ runs. HasNone (IsSlot t) (rows_of runs))
-    (take_all c.loop-run.run-index c.args.runs.now (omega (arith, c.loop-run-test.false))) c.loop-run.invariant in (
-      λ yes. absurd (search rules),
-      λ (place, row, inside, stands, is). absurd (none place row inside (subst (IsSlot t) (sym stands) is)),
-    )
+    let all = take_all c.loop-run.run-index c.args.runs.now (omega (arith, c.loop-run-test.false)) in
+    let none = rw all at c.loop-run.invariant in
+    (λ yes. absurd (search rules), λ (place, row, inside, stands, is). absurd (none place row inside (rw stands is)))

@@ -19,5 +19,4 @@ loop-run-preserved c =
     c.loop-run.invariant c.in_default.ensures
 
 pub returns : goal.returns
-returns c = subst (λ runs. HasNone (IsMovedRow (key_of c.args.key.now)) (rows_of runs))
-    (take_all c.loop-run.run-index c.args.runs.now (omega (arith, c.loop-run-test.false))) c.loop-run.invariant
+returns c = rw (take_all c.loop-run.run-index c.args.runs.now (omega (arith, c.loop-run-test.false))) at c.loop-run.invariant

@@ -16,5 +16,4 @@ loop-run-preserved c =
     c.loop-run.invariant c.in_ok-relation_between.ensures)
 
 pub returns : goal.returns
-returns c = subst (λ runs. AreRelations runs c.args.section.now c.loop-run.relations.items)
-    (take_all c.loop-run.run-index c.args.runs.now (omega (arith, c.loop-run-test.false))) c.loop-run.invariant
+returns c = rw (take_all c.loop-run.run-index c.args.runs.now (omega (arith, c.loop-run-test.false))) at c.loop-run.invariant
