@@ -1,7 +1,6 @@
 -- Numbers are booleans.
-use Rattle.std.proofs.Common.{arith, ◌≢◌, ◌↔◌, ℕ, zero, suc, pos, negsuc, ℤ, inl, inr, List, Bool, true, false, None, refl}
+use Rattle.std.proofs.Common.{arith, ◌≢◌, ◌↔◌, ℕ, zero, suc, pos, negsuc, ℤ, inl, inr, List, Bool, true, false, None}
 use Rattle.std.specs.Prelude.{IsTrue}
-use Rattle.std.proofs.lemmas.Bool.{false≢true}
 use Rattle.config_text.specs.Value.{IsAccepted}
 use Rattle.gix_config_value.specs.Boolean.{BooleanText}
 use Rattle.gix_config_value.specs.Amount.{AmountText}

@@ -1,6 +1,6 @@
 -- A check, setting by setting.
-use Rattle.std.proofs.Common.{◌≡◌, ◌+◌, ◌^◌, ◌≤◌, ◌<◌, ℕ, List, [], ◌∷◌, ◌++◌, Option, None, Some, refl, sym}
-use Rattle.std.proofs.Common.{ap, subst, ◌∙◌, append_assoc, append-nil, arith, Result, Ok, Err, length, option_map}
+use Rattle.std.proofs.Common.{◌≡◌, ◌+◌, ◌^◌, ◌≤◌, ◌<◌, ℕ, List, [], ◌∷◌, ◌++◌, Option, None, Some, refl}
+use Rattle.std.proofs.Common.{append_assoc, append-nil, arith, Result, Ok, Err, length, option_map}
 use Rattle.std.proofs.Common.{OnErr}
 use Rattle.config_file.specs.declared.errors.FileError as errors
 use Rattle.config_checks.specs.declared.options.Options.{Options}
@@ -14,12 +14,11 @@ use Rattle.config_checks.specs.Reading.Steps.{Reports, ReportsAll, ReportsEntrie
 use Rattle.config_checks.specs.Reading.Steps.{AreWithin, HasRoomForFinding, IsSaidAs, findings_as, is_some}
 use Rattle.config_checks.specs.Report.{ReportsSetting}
 use Rattle.config_checks.specs.Rows.{IsUnknown}
-use Rattle.config_checks.specs.Suggestions.{unknown_text}
 use Rattle.std.proofs.Common.{true, false}
 use Rattle.config_checks.specs.Settings.{IsSettingOf}
 use Rattle.config_checks.specs.Reasons.{severity_of}
 use Rattle.config_checks.specs.declared.reason.Severity.{Severity}
-use Rattle.config_checks.specs.declared.reason.Severity.TheVariants.{Error, Warning, Note}
+use Rattle.config_checks.specs.declared.reason.Severity.TheVariants.{Warning}
 use Rattle.config_file.specs.declared.entry.Entry as code
 use Rattle.config_file.specs.declared.reader.Entries.{Entries}
 use Rattle.config_file.specs.File.{Entry, IsFile, Begins}

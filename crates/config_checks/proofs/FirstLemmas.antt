@@ -1,5 +1,5 @@
 -- The first item of a list of which something holds.
-use Rattle.std.proofs.Common.{◌≡◌, ◌+◌, ◌<◌, ℕ, List, ◌++◌, length, take, get_or, sym, ap, subst, ◌∙◌, arith}
+use Rattle.std.proofs.Common.{◌≡◌, ◌+◌, ◌<◌, ℕ, List, ◌++◌, length, take, get_or, sym, ap, ◌∙◌, arith}
 use Rattle.std.proofs.lemmas.List.{get_or-take, get_or_default, length-take, length-append, take-append-le}
 use Rattle.std.proofs.lemmas.List.{get_or_append_left, get_or-append-add}
 use Rattle.std.proofs.lemmas.List.Elements.{All-append}

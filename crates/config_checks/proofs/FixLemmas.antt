@@ -1,5 +1,5 @@
 -- What mends a finding.
-use Rattle.std.proofs.Common.{◌≡◌, ◌↔◌, ℕ, List, reverse, Bool, true, false, IsTrue, Option, None, Some, option_map}
+use Rattle.std.proofs.Common.{◌≡◌, ◌↔◌, ℕ, List, reverse, Bool, true, IsTrue, Option, None, Some, option_map}
 use Rattle.std.proofs.Common.{refl, sym, ap, subst, ◌∙◌, if◌then◌else◌, Bor, arith}
 use Rattle.std.proofs.lemmas.Str.{IsUtf8-from_is_utf8, is_utf8-from_IsUtf8}
 use Rattle.std.specs.Str.{IsUtf8, is_utf8}

@@ -1,13 +1,12 @@
 -- The edits between texts, and the nearest of several items.
-use Rattle.std.proofs.Common.{◌≡◌, ◌+◌, ◌<◌, ◌≤◌, ℕ, zero, suc, List, [], ◌∷◌, ◌++◌, length, map, take, nat_eq, get_or}
-use Rattle.std.proofs.Common.{MatchOption, Option, None, Some, Bor, refl, sym, ap, ◌∙◌, subst, arith, ◌≢◌, ◌↔◌, IsTrue, Bool}
+use Rattle.std.proofs.Common.{◌≡◌, ◌+◌, ◌<◌, ◌≤◌, ℕ, zero, suc, List, [], ◌∷◌, ◌++◌, length, take, nat_eq, get_or}
+use Rattle.std.proofs.Common.{MatchOption, Option, None, Some, Bor, refl, sym, ap, ◌∙◌, arith, ◌≢◌, ◌↔◌, IsTrue, Bool}
 use Rattle.std.proofs.Common.{◌-◌, ◌==◌, drop, append_assoc, inl, inr}
 use Rattle.std.proofs.lemmas.Int.{clamps}
 use Rattle.std.specs.Char.{to_ascii_lowercase}
 use Rattle.strsim.specs.Edits.{next_row, rows, cost_at}
-use Rattle.std.proofs.Common.{true, false}
-use Rattle.std.proofs.lemmas.Bool.{false≢true, cases_Bool, eqb-true, eqb-false}
-use Rattle.std.proofs.lemmas.List.{take_more as one_more_taken, length-map, get_or-take, get_or_default, length-take, length-append, take-append-le, take_rest, get_or_append_left}
+use Rattle.std.proofs.lemmas.Bool.{cases_Bool, eqb-true, eqb-false}
+use Rattle.std.proofs.lemmas.List.{take_more as one_more_taken, length-map, length-append, take-append-le, take_rest, get_or_append_left}
 use Rattle.std.proofs.lemmas.List.Elements.{All-append, All-push, All-from_recursion}
 use Rattle.std.proofs.Math.Seq.{get_or-append_seam, take-append_seam}
 use Rattle.std.specs.List.{All, prefix_len, zip}

@@ -1,12 +1,10 @@
 -- A setting has at most one reason, and at most one finding.
-use Rattle.std.proofs.Common.{◌≡◌, ℕ, inl, inr, ◌<◌, List, Bool, true, false}
+use Rattle.std.proofs.Common.{◌≡◌, ℕ, inl, inr, List, Bool, true, false}
 use Rattle.std.proofs.Common.{Option, None, Some, refl, sym, ap, subst, ◌∙◌, arith}
-use Rattle.std.proofs.Common.{get_or, Bor, codes}
-use Rattle.std.proofs.lemmas.List.{get_or-take, get_or_default, length-take}
+use Rattle.std.proofs.Common.{Bor}
 use Rattle.config_text.specs.declared.errors.Fault.{Fault}
 use Rattle.config_text.specs.declared.errors.Fault.TheVariants as faults
 use Rattle.config_text.specs.Refusals.{OnlyFault}
-use Rattle.config_text.specs.Value.{IsRefused, IsAccepted}
 use Rattle.gix_config_value.specs.Boolean.{BooleanText, CanonicalBoolean}
 use Rattle.gix_config_value.specs.Integer.{IntegerText, CanonicalInteger}
 use Rattle.gix_config_value.specs.Amount.{AmountFault}
@@ -16,7 +14,6 @@ use Rattle.config_integer.specs.contracts.amount.AmountValue.TheImpl.Laws.{one_v
 use Rattle.config_integer.specs.contracts.amount.AmountValue.TheImpl.Laws.{decided-law as amount_decided}
 use Rattle.gix_config_value.proofs.OneAnswer.{text_once}
 use Rattle.config_checks.specs.declared.kind.Form.{Form}
-use Rattle.config_checks.specs.declared.kind.Form.TheVariants as forms
 use Rattle.config_checks.specs.declared.kind.WordList.{WordList}
 use Rattle.config_checks.specs.declared.kind.SettingKind.{SettingKind}
 use Rattle.config_checks.specs.declared.kind.SettingKind.TheVariants as kinds
@@ -24,10 +21,9 @@ use Rattle.config_checks.specs.declared.options.Options.{Options}
 use Rattle.config_checks.specs.declared.paths.KnownUsers.{KnownUsers}
 use Rattle.config_checks.specs.declared.row.Row.{Row}
 use Rattle.config_checks.specs.declared.reason.Reason.{Reason}
-use Rattle.config_checks.specs.declared.reason.Reason.TheVariants.{NoValue, Refused, OutOfRange, NoWord, NoHome, IsNot, NotCanonical}
-use Rattle.config_checks.specs.declared.reason.Reason.TheVariants.{TooNew, Gone, Deprecated, OtherCase}
+use Rattle.config_checks.specs.declared.reason.Reason.TheVariants.{Refused, OutOfRange, NoWord, NotCanonical}
 use Rattle.config_checks.specs.Kinds.{IsWord, IsFirstWord}
-use Rattle.config_checks.specs.Reasons.{IsJudged, IsWithin, IsJudgedWithin, IsJudgedBool, IsJudgedByWords}
+use Rattle.config_checks.specs.Reasons.{IsJudged, IsJudgedWithin, IsJudgedBool, IsJudgedByWords}
 use Rattle.config_checks.specs.Reasons.{WordEdits, IsMeant, IsJudgedPath, IsJudgedText, IsComparedTo, IsJudgedAlone, IsJudgedByRow, HasReason}
 use Rattle.config_checks.specs.Reasons.IsJudgedByRow.{refused, taken}
 use Rattle.config_checks.specs.Reasons.{IsRespelled, IsRespelledAs, IsRespelledByForm, IsRespelledByWords}

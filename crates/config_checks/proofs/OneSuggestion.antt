@@ -1,5 +1,5 @@
 -- For an unknown key at most one key is suggested.
-use Rattle.std.proofs.Common.{arith, ◌≡◌, ℕ, List, Option, None, Some, inl, inr, refl, sym, ap, subst, ◌∙◌, codes}
+use Rattle.std.proofs.Common.{arith, ◌≡◌, ℕ, List, Option, None, Some, refl, sym, ap, subst, ◌∙◌}
 use Rattle.config_file.specs.Key.{Key}
 use Rattle.config_file.specs.KeyView.{key_of}
 use Rattle.config_file.proofs.OneKey.{cut_same, cut_has_dot, same_parts}

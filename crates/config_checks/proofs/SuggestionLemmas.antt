@@ -1,23 +1,21 @@
 -- The edits between the keys of rows and a key.
-use Rattle.std.proofs.Common.{◌≡◌, ◌<◌, ◌≤◌, ℕ, zero, suc, Result, Ok, Err, IfOk, List, [], ◌∷◌, Option, None, Some, MatchOption}
-use Rattle.std.proofs.Common.{◌∙◌, sym, ap, subst, arith, length, get_or, nat_eq, nat_lt, Bool, IsTrue, ◌↔◌, codes, ◌||◌, if◌then◌else◌}
+use Rattle.std.proofs.Common.{◌≡◌, ◌<◌, ℕ, zero, suc, Result, Ok, Err, IfOk, List, [], ◌∷◌, Option, None, Some, MatchOption}
+use Rattle.std.proofs.Common.{◌∙◌, sym, ap, subst, arith, length, get_or, Bool, IsTrue, ◌↔◌, codes}
 use Rattle.std.proofs.lemmas.List.{length-map}
 use Rattle.std.specs.Char.{to_ascii_lowercase}
 use Rattle.std.specs.List.{AllZip}
-use Rattle.strsim.specs.Edits.{levenshtein_row}
 use Rattle.config_file.specs.KeyView.{key_of}
 use Rattle.config_checks.specs.declared.row.Row.{Row}
 use Rattle.config_checks.specs.declared.row.Run.{Run}
 use Rattle.config_checks.specs.declared.suggestion.Relation.{Relation}
 use Rattle.config_checks.specs.declared.suggestion.Relation.TheVariants as relations
-use Rattle.config_checks.specs.Nearest.{Edits, IsSwap, lower, AreFar}
+use Rattle.config_checks.specs.Nearest.{Edits, AreFar}
 use Rattle.config_checks.specs.Nearest.Edits.{swapped, counted}
 use Rattle.config_checks.specs.Reading.Steps.{IsFew, IsRelation}
 use Rattle.config_text.specs.SameWord.{SameWord}
 use Rattle.config_file.specs.Key.{Key, IsCut}
 use Rattle.config_checks.specs.Keys.{CoversSubsection, CoversName}
 use Rattle.config_checks.specs.Suggestions.{NameEdits, EditsAfter, OnePartEdits, RowEdits, SectionEdits, SubsectionEdits, HasSlots, IsOwn}
-use Rattle.config_checks.specs.Suggestions.NameEdits.{few, by_run}
 use Rattle.config_checks.specs.Suggestions.EditsAfter.{in_name, in_subsection}
 use Rattle.config_checks.specs.Suggestions.IsOwn.{alone, slot}
 use Rattle.config_checks.specs.Suggestions.IsPassed.{foreign}

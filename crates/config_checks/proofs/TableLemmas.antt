@@ -1,7 +1,7 @@
 -- The rows of a text, line by line.
 use Rattle.std.proofs.Common.{◌≡◌, ◌<◌, ◌+◌, ◌++◌, ℕ, List, [], ◌∷◌, length, map, take, drop, get_or, Bor}
-use Rattle.std.proofs.Common.{Bool, true, false, cond, All, suc}
-use Rattle.std.proofs.Common.{refl, sym, ap, subst, ◌∙◌, take-append-drop}
+use Rattle.std.proofs.Common.{Bool, true, false, All, suc}
+use Rattle.std.proofs.Common.{refl, sym, ap, ◌∙◌, take-append-drop}
 use Rattle.std.proofs.lemmas.List.{append-nil, at_drop_more, length-map}
 use mathlib.Core.List.{map-append}
 use denote.Param.Members.{Mut}
@@ -17,8 +17,7 @@ use Rattle.std.proofs.Common.{arith}
 use Rattle.config_file.specs.Key.{Key, IsCut}
 use Rattle.config_checks.specs.declared.row.Row.{Row}
 use Rattle.config_checks.specs.declared.table.RowFault.{RowFault}
-use Rattle.config_checks.specs.declared.table.RowFault.TheVariants.{NoKind, NoKey, UnknownKind, NoWords, Words, Bounds, NotInOrder}
-use Rattle.config_checks.specs.declared.table.RowFault.TheVariants.{NoVersion, Unwanted, Memory}
+use Rattle.config_checks.specs.declared.table.RowFault.TheVariants.{NoVersion}
 use Rattle.config_checks.specs.declared.table.BadRow.{BadRow}
 use Rattle.config_checks.specs.declared.table.Marks.{Marks}
 use Rattle.config_checks.specs.Rows.{lines_of, fields_of, is_no_comment, HasMarks, HasBadVersion, IsBadKind, IsBadRow, IsBadLine, AddsRow, AddsRows}

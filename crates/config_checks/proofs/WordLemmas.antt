@@ -3,7 +3,7 @@ use Rattle.std.proofs.Common.{◌≡◌, ◌∙◌, ◌<◌, ℕ, List, [], ◌�
 use Rattle.std.proofs.lemmas.List.{append_cancel_right, take_more}
 use Rattle.std.proofs.lemmas.List.Elements.{All-push}
 use mathlib.Core.List.{map-append}
-use Rattle.std.proofs.Common.{MatchOption, arith, Option, None, Some, option_copied}
+use Rattle.std.proofs.Common.{MatchOption, arith, Option, option_copied}
 use Rattle.config_checks.specs.Nearest.{AreFar, IsNearest}
 use Rattle.config_checks.specs.Reasons.{WordEdits, IsMeant}
 use Rattle.config_checks.proofs.NearestLemmas.{one_count}

@@ -1,8 +1,7 @@
-use Rattle.std.proofs.Common.{◌+◌, ◌∷◌, ◌∙◌, [], None, Some, option_map, refl, sym, ap, subst}
-use Rattle.config_checks.specs.Rows.{Decides, IsUnknown, rows_of}
-use Rattle.config_checks.specs.Reasons.{HasFinding}
+use Rattle.std.proofs.Common.{◌+◌, ◌∷◌, ◌∙◌, [], option_map, refl, sym, ap}
+use Rattle.config_checks.specs.Rows.{rows_of}
 use Rattle.config_checks.specs.Report.{right, found, counted, reason_finding}
-use Rattle.config_checks.specs.Reading.Steps.{IsSaidAs, said_findings}
+use Rattle.config_checks.specs.Reading.Steps.{said_findings}
 use Rattle.config_checks.proofs.CheckLemmas.{receives-nil, said_nothing, said_something}
 use Rattle.config_checks.proofs.check.report.Goals.{then-branch, else-branch}
 use Rattle.config_checks.proofs.check.report.Goals as goal

@@ -1,7 +1,5 @@
-use Rattle.std.proofs.Common.{arith, sym, subst, Some, None}
-use Rattle.config_file.specs.declared.reader.Entries.{Entries}
-use Rattle.config_checks.specs.Rows.{rows_of}
-use Rattle.config_checks.proofs.CheckLemmas.{IsReported, are_none, reported_start, one_more, reported, fails_reading}
+use Rattle.std.proofs.Common.{arith, Some, None}
+use Rattle.config_checks.proofs.CheckLemmas.{are_none, reported_start, one_more, reported, fails_reading}
 use Rattle.config_checks.proofs.CheckLemmas.{leaves_room, on_err, receives-nil}
 use Rattle.config_checks.proofs.check.report_entries.Goals as goal
 

@@ -1,6 +1,5 @@
-use Rattle.std.proofs.Common.{ℕ, List, ap, subst, option_copied}
+use Rattle.std.proofs.Common.{ap, option_copied}
 use Rattle.config_checks.specs.Findings.{finding_of}
-use Rattle.config_checks.specs.Fixes.{MendsValue, IsRenamed}
 use Rattle.config_checks.specs.Rows.{rows_of}
 use Rattle.config_checks.proofs.FixLemmas.{no_name}
 use Rattle.config_checks.proofs.fix.mend.Goals as goal

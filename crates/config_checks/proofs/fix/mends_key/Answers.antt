@@ -1,6 +1,6 @@
-use Rattle.std.proofs.Common.{◌↔◌, ◌∙◌, IsTrue, ap, subst, rules}
+use Rattle.std.proofs.Common.{◌∙◌, ap, rules}
 use Rattle.std.proofs.lemmas.Result.{IfOk-weaker}
-use Rattle.config_checks.specs.Fixes.{IsClean, IsOnlyKey}
+use Rattle.config_checks.specs.Fixes.{IsClean}
 use Rattle.config_checks.specs.Rows.{rows_of}
 use Rattle.config_checks.specs.Settings.{value_of}
 use Rattle.config_checks.proofs.FixLemmas.{key_if}

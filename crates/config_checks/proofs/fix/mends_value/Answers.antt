@@ -1,10 +1,8 @@
-use Rattle.std.proofs.Common.{◌≡◌, ◌↔◌, IsTrue, None, Some, rules, subst}
+use Rattle.std.proofs.Common.{None, Some, rules}
 use Rattle.std.proofs.lemmas.Bool.{false≢true}
 use Rattle.std.proofs.lemmas.Result.{IfOk-weaker}
-use Rattle.config_checks.specs.declared.code.Code.TheVariants.{NotAWord}
-use Rattle.config_checks.specs.Fixes.{IsOnlyMeant}
 use Rattle.config_checks.specs.Reasons.{HasFinding}
-use Rattle.config_checks.specs.Rows.{Decides, IsUnknown, rows_of}
+use Rattle.config_checks.specs.Rows.{rows_of}
 use Rattle.config_checks.proofs.OneKey.{known_once}
 use Rattle.config_checks.proofs.FixLemmas.{mends_if, mends_not}
 use Rattle.config_checks.proofs.fix.mends_value.Goals as goal

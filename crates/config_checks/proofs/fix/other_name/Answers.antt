@@ -1,7 +1,6 @@
-use Rattle.std.proofs.Common.{◌≡◌, ◌∙◌, sym, subst}
+use Rattle.std.proofs.Common.{◌≡◌, ◌∙◌, sym}
 use Rattle.std.proofs.lemmas.Bool.{false≢true}
 use Rattle.config_text.specs.SameWord.{SameWord}
-use Rattle.config_file.specs.KeyView.{key_of}
 use Rattle.config_file.proofs.OneKey.{cut_same}
 use Rattle.config_checks.proofs.fix.other_name.Goals as goal
 

@@ -1,8 +1,8 @@
-use Rattle.std.proofs.Common.{◌≡◌, IfOk, rules, sym, subst}
+use Rattle.std.proofs.Common.{◌≡◌, IfOk, rules}
 use Rattle.std.proofs.lemmas.Result.{IfOk-weaker}
 use Rattle.serde_json.specs.Written.{compact_text}
 use Rattle.config_checks.specs.Findings.{finding_of}
-use Rattle.config_checks.specs.Json.{finding_json, IsOneLine}
+use Rattle.config_checks.specs.Json.{finding_json}
 use Rattle.config_checks.proofs.OneLine.{data_one_line}
 use Rattle.config_checks.proofs.json_line.json_text.Goals as goal
 

@@ -1,9 +1,8 @@
-use Rattle.std.proofs.Common.{arith, rules, sym, subst, inr}
+use Rattle.std.proofs.Common.{arith, rules, sym, inr}
 use Rattle.std.proofs.lemmas.List.{take_all}
 use Rattle.config_text.specs.SameWord.{SameWord}
 use Rattle.config_file.specs.KeyView.{key_of}
 use Rattle.config_checks.specs.Keys.{Covers}
-use Rattle.config_checks.specs.Rows.{CoversNone, rows_of}
 use Rattle.config_checks.proofs.RunLemmas.{other_section, all_more, decides}
 use Rattle.config_checks.proofs.lookup.row_for.Goals as goal
 

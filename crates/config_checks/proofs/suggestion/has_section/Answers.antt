@@ -1,9 +1,7 @@
-use Rattle.std.proofs.Common.{arith, rules, sym, subst, refl, ◌∙◌}
+use Rattle.std.proofs.Common.{arith, rules, sym, refl, ◌∙◌}
 use Rattle.std.proofs.lemmas.List.{take_all}
-use Rattle.std.specs.List.{All}
 use Rattle.config_text.specs.SameWord.{SameWord}
 use Rattle.config_file.specs.KeyView.{key_of}
-use Rattle.config_checks.specs.Rows.{rows_of}
 use Rattle.config_checks.proofs.RunLemmas.{all_more, has_run}
 use Rattle.config_checks.proofs.suggestion.has_section.Goals as goal
 

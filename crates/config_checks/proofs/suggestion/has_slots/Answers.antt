@@ -1,8 +1,6 @@
-use Rattle.std.proofs.Common.{arith, rules, sym, subst, refl, ◌∙◌}
+use Rattle.std.proofs.Common.{arith, rules, sym, refl, ◌∙◌}
 use Rattle.std.proofs.lemmas.List.{take_all}
 use Rattle.std.proofs.lemmas.Bool.{false≢true}
-use Rattle.config_checks.specs.Rows.{rows_of}
-use Rattle.config_checks.specs.Suggestions.{HasNone}
 use Rattle.config_checks.proofs.RunLemmas.{IsSlot, all_more, slots_in, no_slots, no_colors}
 use Rattle.config_checks.proofs.suggestion.has_slots.Goals.{else-is_same_word-via-then-is_same_word+else-is_some, else-is_same_word-via-else-is_same_word}
 use Rattle.config_checks.proofs.suggestion.has_slots.Goals as goal

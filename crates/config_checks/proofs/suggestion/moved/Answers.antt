@@ -1,8 +1,7 @@
-use Rattle.std.proofs.Common.{arith, sym, subst}
+use Rattle.std.proofs.Common.{arith, sym}
 use Rattle.std.proofs.lemmas.List.{take_all}
 use Rattle.config_file.specs.KeyView.{key_of}
-use Rattle.config_checks.specs.Rows.{rows_of}
-use Rattle.config_checks.specs.Suggestions.{IsMovedRow, HasNone}
+use Rattle.config_checks.specs.Suggestions.{IsMovedRow}
 use Rattle.config_checks.proofs.RunLemmas.{all_more, first_such}
 use Rattle.config_checks.proofs.suggestion.moved.Goals as goal
 

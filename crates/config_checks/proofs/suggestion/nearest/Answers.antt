@@ -1,4 +1,4 @@
-use Rattle.std.proofs.Common.{◌++◌, ◌∷◌, [], ◌∙◌, ap, arith, sym, subst, take, append_assoc, append-nil, ℕ, Option, Bor, get_or}
+use Rattle.std.proofs.Common.{◌++◌, ◌∷◌, [], ◌∙◌, arith, sym, subst, take, append_assoc, append-nil, get_or}
 use Rattle.std.proofs.lemmas.List.{take_all}
 use Rattle.std.proofs.lemmas.Bool.{false≢true}
 use Rattle.std.proofs.lemmas.Slice.Zip.{AllZip-long}
@@ -8,10 +8,10 @@ use Rattle.config_checks.specs.declared.row.Row.{Row}
 use Rattle.config_checks.specs.declared.row.Run.{Run}
 use Rattle.config_checks.specs.declared.suggestion.Relation.{Relation}
 use Rattle.config_checks.specs.declared.suggestion.Relation.TheVariants.{Same}
-use Rattle.config_checks.specs.Reading.Steps.{IsFew, IsRelation}
+use Rattle.config_checks.specs.Reading.Steps.{IsRelation}
 use Rattle.config_checks.specs.Rows.{rows_of}
-use Rattle.config_checks.specs.Suggestions.{OnePartEdits, RowEdits}
-use Rattle.config_checks.proofs.NearestLemmas.{IsBest, nothing, take_more, passes, far_one, keeps, betters, whole}
+use Rattle.config_checks.specs.Suggestions.{RowEdits}
+use Rattle.config_checks.proofs.NearestLemmas.{nothing, take_more, passes, far_one, keeps, betters, whole}
 use Rattle.config_checks.proofs.RunLemmas.{rows_more}
 use Rattle.config_checks.proofs.SuggestionLemmas.{one_number, zipped_at, same_relation, far_run}
 use Rattle.config_checks.proofs.suggestion.nearest.Goals.{in-Some+then-edits-least, in-Some+else-edits-least, in_default, in_default-2, in-Far}

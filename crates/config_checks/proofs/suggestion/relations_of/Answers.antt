@@ -1,6 +1,6 @@
-use Rattle.std.proofs.Common.{sym, subst, arith}
+use Rattle.std.proofs.Common.{sym, arith}
 use Rattle.std.proofs.lemmas.List.{take_all}
-use Rattle.config_checks.specs.Reading.Steps.{AreRelations, IsRelation}
+use Rattle.config_checks.specs.Reading.Steps.{IsRelation}
 use Rattle.std.proofs.lemmas.Slice.Zip.{all_zipped_more}
 use Rattle.config_checks.specs.declared.row.Run.{Run}
 use Rattle.config_checks.specs.declared.suggestion.Relation.{Relation}

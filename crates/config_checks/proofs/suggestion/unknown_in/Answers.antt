@@ -1,9 +1,4 @@
-use Rattle.std.proofs.Common.{◌↔◌, IsTrue, MatchOption, subst, rules}
-use Rattle.config_file.specs.KeyView.{key_of}
-use Rattle.config_checks.specs.Nearest.{AreFar, IsNearest}
-use Rattle.config_checks.specs.Reading.Steps.{AreRelations}
-use Rattle.config_checks.specs.Rows.{rows_of}
-use Rattle.config_checks.specs.Suggestions.{RowEdits, HasSection}
+use Rattle.std.proofs.Common.{IsTrue, rules}
 use Rattle.config_checks.specs.Suggestions.IsSuggested.{near, moved}
 use Rattle.config_checks.proofs.suggestion.unknown_in.Goals as goal
 

@@ -1,6 +1,6 @@
-use Rattle.std.proofs.Common.{rules, arith, subst, sym, ap, length, get_or, ◌<◌, [], IsTrue, Bor, List, ℕ}
+use Rattle.std.proofs.Common.{rules, arith, subst, ap, length, ◌<◌, [], IsTrue}
 use Rattle.std.proofs.lemmas.List.{take_all, get_or_default}
-use Rattle.config_checks.specs.Kinds.{IsNoWord, IsWord}
+use Rattle.config_checks.specs.Kinds.{IsNoWord}
 use Rattle.config_checks.proofs.WordLemmas.{no_more}
 use Rattle.config_checks.proofs.kind.WordList.find.Goals as goal
 
