@@ -1,5 +1,5 @@
 -- The lines that are added to no text are the whole text.
-use Rattle.std.proofs.Common.{◌≡◌, List, ℕ, [], ◌∷◌, ◌++◌, sym, ap, subst, ◌∙◌}
+use Rattle.std.proofs.Common.{◌≡◌, List, ℕ, [], ◌∷◌, ◌++◌}
 use Rattle.config_file.specs.Command.{Accepts, AddsSettings, KeyValue, SettingsOf}
 
 pub alone : (setting : KeyValue) (old new text : List ℕ) → old ≡ [] → text ≡ new

@@ -1,6 +1,6 @@
 -- The frames of a walk in C, one more at a time.
 use Rattle.std.proofs.Common.{arith, ◌≡◌, ◌<◌, ◌≤◌, ◌+◌, ◌++◌, ℕ, zero, suc, List, [], ◌∷◌, Option, None, Some}
-use Rattle.std.proofs.Common.{length, take, drop, subst, sym, ap, ◌∙◌, slice_index_or, slice_set}
+use Rattle.std.proofs.Common.{length, take, drop, sym, ap, ◌∙◌, slice_index_or, slice_set}
 use Rattle.std.specs.List.{AllZip}
 use Rattle.std.proofs.lemmas.List.{take_more, take_more_set, length-take-le}
 use Rattle.std.proofs.lemmas.Slice.Zip.{AllZip-long, all_zipped_more}

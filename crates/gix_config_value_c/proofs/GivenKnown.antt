@@ -1,6 +1,5 @@
 -- The repository that a walk in C is given.
 use Rattle.std.proofs.Common.{arith, ◌≡◌, ℕ, List, Option, None, Some, MatchOption, option_copied}
-use Rattle.std.proofs.Common.{sym, subst}
 use Rattle.config_file.specs.declared.include.Repository.{Repository}
 use Rattle.gix_config_value_c.specs.declared.walk.GcvKnown.{GcvKnown}
 use Rattle.gix_config_value_c.specs.Paths.{IsGiven}

@@ -1,28 +1,14 @@
 -- No two values have the same number, since each value is found again from its number.
-use Rattle.std.proofs.Common.{◌≡◌, ◌≢◌, ◌≤◌, ◌<◌, ◌⊎◌, inl, inr, ℕ, ◌-◌, List, [], ◌∷◌, Option, None, Some, Bool, true, false, codes, refl, sym, ap, ◌∙◌, arith}
+use Rattle.std.proofs.Common.{◌≡◌, ◌≢◌, ℕ, List, [], ◌∷◌, Option, None, Some, codes, refl, sym, ap, ◌∙◌, arith}
 use Rattle.std.specs.List.{slice_get}
-use Rattle.std.specs.Prelude.{nat_lt, if◌then◌else◌}
 use Rattle.std.proofs.lemmas.Option.{same_Some}
 use Rattle.config_boolean.specs.declared.boolean.Boolean.{Boolean}
-use Rattle.config_color.specs.declared.depth.Depth.{Depth}
-use Rattle.config_color.specs.declared.depth.Depth.TheVariants.{Ansi16, Ansi256, TrueColor}
 use Rattle.config_integer.specs.declared.suffix.Suffix.{Suffix}
-use Rattle.config_integer.specs.declared.suffix.Suffix.TheVariants.{Kibi, Mebi, Gibi}
 use Rattle.config_text.specs.Faults.{fault_text}
 use Rattle.config_text.specs.declared.errors.Fault.{Fault}
 use Rattle.config_text.specs.declared.errors.Fault.TheVariants as faults
 use Rattle.config_path.specs.Interpolation.{path_error_text}
 use Rattle.config_path.specs.declared.interpolate.Error.{Error}
-use Rattle.config_path.specs.declared.interpolate.Error.TheVariants.{PathMissing, InstallDirMissing}
-use Rattle.config_path.specs.declared.interpolate.Error.TheVariants.{HomeMissing, LookupMissing, UserNotFound}
-use Rattle.config_path.specs.declared.interpolate.Error.TheVariants.{IllFormed, Memory}
-use Rattle.config_path.specs.declared.interpolate.Place.{Place}
-use Rattle.config_path.specs.declared.interpolate.Place.TheVariants.{PastPrefix, PastHome, Username, PastUser}
-use Rattle.config_path.specs.declared.interpolate.Place.TheVariants.{Whole}
-use Rattle.gix_config_value.specs.declared.kind.Kind.{Kind}
-use Rattle.gix_config_value.specs.declared.kind.Kind.TheVariants as kinds
-use Rattle.gix_config_value_c.specs.declared.roles.Role.{Role}
-use Rattle.gix_config_value_c.specs.declared.roles.Role.TheVariants as roles
 use Rattle.gix_config_value_c.specs.declared.status.Status.{Status}
 use Rattle.gix_config_value_c.specs.declared.status.Status.TheVariants as statuses
 use Rattle.gix_config_value_c.specs.Answers.{TellsApart}

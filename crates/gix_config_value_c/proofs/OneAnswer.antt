@@ -1,25 +1,16 @@
 -- From the same input a call writes and returns the same.
-use Rattle.std.proofs.Common.{◌≡◌, ℕ, List, None, Some, refl, sym, ap, subst, ◌∙◌, arith}
-use Rattle.std.proofs.lemmas.Option.{same_Some, none-some}
+use Rattle.std.proofs.Common.{◌≡◌, ℕ, List, refl, sym, ◌∙◌, arith}
 use Rattle.config_text.specs.declared.errors.Fault.{Fault}
 use Rattle.config_text.specs.declared.errors.Fault.TheVariants as faults
 use Rattle.gix_config_value.specs.Amount.{AmountFault}
-use Rattle.gix_config_value.specs.Integer.{product}
-use Rattle.gix_config_value.specs.Numerals.{IsInI64}
 use Rattle.gix_config_value.specs.Refusals.{OnlyFault}
 use Rattle.gix_config_value_c.specs.declared.status.Status.{Status}
-use Rattle.gix_config_value_c.specs.declared.status.Status.TheVariants as statuses
 use Rattle.gix_config_value_c.specs.declared.structs.GcvInteger.{GcvInteger}
 use Rattle.gix_config_value_c.specs.Answers.{TellsApart, HasOneResult, HasOneAnswer}
 use Rattle.gix_config_value_c.specs.Buffers.{PutsText, AnswersText, LeavesBuffer}
-use Rattle.gix_config_value_c.specs.Buffers.PutsText.{whole, short}
-use Rattle.gix_config_value_c.specs.Buffers.AnswersText.{put, none}
-use Rattle.gix_config_value_c.specs.Faults.{numbered_text, TellsFault}
-use Rattle.gix_config_value_c.specs.Numbers.{status_number}
+use Rattle.gix_config_value_c.specs.Faults.{TellsFault}
 use Rattle.gix_config_value_c.specs.Readers.{ReadsInto, Faults}
-use Rattle.gix_config_value_c.specs.Readers.ReadsInto.{read, refused}
-use Rattle.gix_config_value_c.specs.Values.{IsNoValue, IsShownAs, Shows, Multiplies}
-use Rattle.gix_config_value_c.specs.Values.Multiplies.{multiplied, overflow, bad_suffix}
+use Rattle.gix_config_value_c.specs.Values.{Shows, Multiplies}
 use Rattle.gix_config_value_c.proofs.StructsApart.{integers_apart}
 
 pub reads_once : {V C : Type 0} (struct : V → C) (grammar : List ℕ → V → Type 0) (faults : List ℕ → ℕ → Type 0)

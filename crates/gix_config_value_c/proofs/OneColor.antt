@@ -1,5 +1,5 @@
 -- From the same input the calls that lay colors over colors, reduce them, and tell a depth have one result.
-use Rattle.std.proofs.Common.{arith, ◌≡◌, inl, inr, ℕ, List, [], ◌∷◌, Bool, Option, sym, ap, subst, ◌∙◌}
+use Rattle.std.proofs.Common.{arith, ◌≡◌, ℕ, List, [], ◌∷◌, Bool, Option, sym, ap, ◌∙◌}
 use Rattle.config_color.specs.declared.color.Color.{Color}
 use Rattle.config_color.specs.declared.depth.Depth.{Depth}
 use Rattle.config_color.specs.Composition.{IsOver}
@@ -9,11 +9,10 @@ use Rattle.gix_config_value_c.specs.Answers.{HasOneResult}
 use Rattle.gix_config_value_c.specs.Colors.{LaysOver, ReducesInto}
 use Rattle.gix_config_value_c.specs.Colors.LaysOver.{laid, bad_name}
 use Rattle.gix_config_value_c.specs.Colors.ReducesInto.{reduced, bad_depth, bad_name as no_color}
-use Rattle.gix_config_value_c.specs.Numbers.{flag_number, written_depth}
+use Rattle.gix_config_value_c.specs.Numbers.{flag_number}
 use Rattle.gix_config_value_c.specs.Paths.{IsGiven, HasBadFlag}
 use Rattle.gix_config_value_c.specs.Structs.{color_struct}
 use Rattle.gix_config_value_c.specs.Terminals.{TellsDepth}
-use Rattle.gix_config_value_c.specs.Terminals.TellsDepth.{told, bad_flag}
 use Rattle.gix_config_value_c.specs.declared.structs.GcvColor.{GcvColor}
 use Rattle.gix_config_value_c.proofs.NumbersApart.{depths_apart, flags_apart}
 use Rattle.gix_config_value_c.proofs.OneComposition.{same_first, same_second, are_values}

@@ -1,18 +1,15 @@
 -- From the same input the path call writes and returns the same.
-use Rattle.std.proofs.Common.{◌≡◌, inl, inr, ℕ, List, [], ◌∷◌, length, Bool, true, false, Option, None, Some}
-use Rattle.std.proofs.Common.{refl, sym, ap, subst, ◌∙◌, arith}
+use Rattle.std.proofs.Common.{◌≡◌, ℕ, List, [], ◌∷◌, Bool, true, false, Option, None, Some}
+use Rattle.std.proofs.Common.{refl, sym, subst, ◌∙◌, arith}
 use Rattle.config_path.specs.Laws.Interpolation.{one_result_of}
 use Rattle.gix_config_value.specs.Path.{Marked}
 use Rattle.gix_config_value.specs.Interpolation.{PathResult, PathTable, HaveOneHome}
-use Rattle.gix_config_value.specs.Interpolation.PathResult.{text, fault as path_fault, ill_formed}
 use Rattle.gix_config_value_c.specs.declared.status.Status.TheVariants as statuses
 use Rattle.gix_config_value_c.specs.Answers.{HasOneAnswer}
-use Rattle.gix_config_value_c.specs.Buffers.{PutsText}
 use Rattle.gix_config_value_c.specs.Numbers.{flag_number}
 use Rattle.gix_config_value_c.specs.Values.{IsNoValue}
 use Rattle.gix_config_value_c.specs.Paths.{IsGiven, HasBadFlag, users_in, known_of, longest_block}
 use Rattle.gix_config_value_c.specs.Paths.{IsPathFault, PutsPath, InterpolatesInto}
-use Rattle.gix_config_value_c.specs.Paths.PutsPath.{put, too_long, refused}
 use Rattle.gix_config_value_c.specs.Paths.InterpolatesInto.{interpolated, bad_flag}
 use Rattle.gix_config_value_c.proofs.OneAnswer.{puts_once, left_once}
 

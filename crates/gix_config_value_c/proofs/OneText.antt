@@ -1,5 +1,5 @@
 -- A text of a kind is normalized in one way, and two texts are compared in one way.
-use Rattle.std.proofs.Common.{arith, ◌≡◌, ℕ, List, None, Some, Bool, true, false, IsTrue, ◌⊎◌, inl, inr, refl, sym, ap, subst, ◌∙◌, ◌↔◌}
+use Rattle.std.proofs.Common.{arith, ◌≡◌, ℕ, List, None, Some, Bool, IsTrue, ◌⊎◌, inl, inr, sym, ap, subst, ◌∙◌, ◌↔◌}
 use Rattle.config_integer.specs.contracts.suffix.SuffixValue.TheImpl.Laws as suffix
 use Rattle.config_integer.specs.contracts.integer.IntegerValue.TheImpl.Laws as integer
 use Rattle.config_integer.specs.contracts.amount.AmountValue.TheImpl.Laws as amount

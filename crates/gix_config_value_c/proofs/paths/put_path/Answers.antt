@@ -1,8 +1,5 @@
 use Rattle.std.proofs.Common.{arith, refl}
 use Rattle.config_path.specs.declared.interpolate.Error.{Error}
-use Rattle.config_path.specs.declared.interpolate.Error.TheVariants.{PathMissing, InstallDirMissing}
-use Rattle.config_path.specs.declared.interpolate.Error.TheVariants.{HomeMissing, LookupMissing, UserNotFound}
-use Rattle.config_path.specs.declared.interpolate.Error.TheVariants.{IllFormed, Memory}
 use Rattle.config_path.specs.Interpolation.{refusal}
 use Rattle.gix_config_value_c.specs.Faults.{path_fault_number}
 use Rattle.gix_config_value_c.specs.Paths.{IsPathFault}
