@@ -1,7 +1,6 @@
 -- Numbers are booleans.
-use Rattle.std.proofs.Common.{◌≢◌, ◌↔◌, ℕ, zero, suc, pos, negsuc, ℤ, inl, inr, List, Bool, true, false, None, refl}
+use Rattle.std.proofs.Common.{arith, ◌≢◌, ◌↔◌, ℕ, zero, suc, pos, negsuc, ℤ, inl, inr, List, Bool, true, false, None}
 use Rattle.std.specs.Prelude.{IsTrue}
-use Rattle.std.proofs.lemmas.Bool.{false≢true}
 use Rattle.config_text.specs.Value.{IsAccepted}
 use Rattle.gix_config_value.specs.Boolean.{BooleanText}
 use Rattle.gix_config_value.specs.Amount.{AmountText}
@@ -16,9 +15,7 @@ truth_of (pos (suc n)) = true
 truth_of (negsuc n) = true
 
 tells : (z : ℤ) → IsTrue (truth_of z) ↔ (z ≢ pos 0)
-tells (pos zero) = (λ yes. absurd (false≢true yes), λ other. absurd (other refl))
-tells (pos (suc n)) = (λ yes same. absurd (cc), λ other. refl)
-tells (negsuc n) = (λ yes same. absurd (cc), λ other. refl)
+tells z = grind arith
 
 number_is_boolean : (t : List ℕ) (n : Amount) → AmountText t n → IsAccepted BooleanText t
 number_is_boolean t n is = (record { 0 = truth_of n.0 }, boolean.counted n is (tells n.0))

@@ -1,6 +1,6 @@
 -- A check, setting by setting.
-use Rattle.std.proofs.Common.{◌≡◌, ◌+◌, ◌^◌, ◌≤◌, ◌<◌, ℕ, List, [], ◌∷◌, ◌++◌, Option, None, Some, refl, sym}
-use Rattle.std.proofs.Common.{ap, subst, ◌∙◌, append_assoc, append-nil, arith, Result, Ok, Err, length}
+use Rattle.std.proofs.Common.{◌≡◌, ◌+◌, ◌^◌, ◌≤◌, ◌<◌, ℕ, List, [], ◌∷◌, ◌++◌, Option, None, Some, refl}
+use Rattle.std.proofs.Common.{append_assoc, append-nil, arith, Result, Ok, Err, length, option_map}
 use Rattle.std.proofs.Common.{OnErr}
 use Rattle.config_file.specs.declared.errors.FileError as errors
 use Rattle.config_checks.specs.declared.options.Options.{Options}
@@ -14,37 +14,32 @@ use Rattle.config_checks.specs.Reading.Steps.{Reports, ReportsAll, ReportsEntrie
 use Rattle.config_checks.specs.Reading.Steps.{AreWithin, HasRoomForFinding, IsSaidAs, findings_as, is_some}
 use Rattle.config_checks.specs.Report.{ReportsSetting}
 use Rattle.config_checks.specs.Rows.{IsUnknown}
-use Rattle.config_checks.specs.Suggestions.{unknown_text}
 use Rattle.std.proofs.Common.{true, false}
 use Rattle.config_checks.specs.Settings.{IsSettingOf}
 use Rattle.config_checks.specs.Reasons.{severity_of}
 use Rattle.config_checks.specs.declared.reason.Severity.{Severity}
-use Rattle.config_checks.specs.declared.reason.Severity.TheVariants.{Error, Warning, Note}
+use Rattle.config_checks.specs.declared.reason.Severity.TheVariants.{Warning}
 use Rattle.config_file.specs.declared.entry.Entry as code
 use Rattle.config_file.specs.declared.reader.Entries.{Entries}
 use Rattle.config_file.specs.File.{Entry, IsFile, Begins}
 use Rattle.config_file.specs.Left.{GivesEntry, HasLeft}
-use Rattle.config_file.specs.Views.{entry_of}
+use Rattle.config_file.specs.Views.{entry_of, section_of}
 use Rattle.std.specs.List.{AllZip}
-use Rattle.config_file.proofs.EachReading.{each_is_read}
+use Rattle.config_file.proofs.EachReading.{are_read, each_is_read}
 use Rattle.config_file.proofs.Steps.{file_begins}
-use Rattle.config_checks.proofs.ReadLemmas.{HasRead, zip_push, file_more, file_end, first_of}
+use Rattle.std.proofs.lemmas.Slice.Zip.{all_zipped_more}
 
 -- ---- what is received
 
 pub receives-nil : (a : Option (List Finding)) → Receives a a []
-receives-nil None = tt
-receives-nil (Some x) = sym (append-nil x)
+receives-nil a = grind (arith, append-nil)
 
 pub receives-trans : (a b c : Option (List Finding)) (bs cs : List Finding) → Receives a b bs → Receives b c cs
     → Receives a c (bs ++ cs)
-receives-trans None b c bs cs p q = tt
-receives-trans (Some x) None c bs cs p q = absurd p
-receives-trans (Some x) (Some y) None bs cs p q = absurd q
-receives-trans (Some x) (Some y) (Some z) bs cs p q = q ∙ ap (λ l. l ++ cs) p ∙ append_assoc x bs cs
+receives-trans a b c bs cs p q = grind (arith, append_assoc)
 
 receives-none : (a b c : Option (List Finding)) (bs : List Finding) → Receives a b bs → Receives b c [] → Receives a c bs
-receives-none a b c bs p q = subst (Receives a c) (append-nil bs) (receives-trans a b c bs [] p q)
+receives-none a b c bs p q = rw append-nil at (receives-trans a b c bs [] p q)
 
 -- ---- counts
 
@@ -56,75 +51,47 @@ pub record AddsOne (s s' : Counts) : Type 0 where
   pub errors : s'.errors ≤ s.errors + 1
   pub warnings : s'.warnings ≤ s.warnings + 1
 
-counted_one : (severity : Severity) (s t : Counts) → t.entries ≡ s.entries + 1 → t.unknown ≤ s.unknown + 1
-    → t.findings ≡ s.findings → t.errors ≡ s.errors → t.warnings ≡ s.warnings → AddsOne s (counted severity t)
-counted_one Error s t a b c d e =
-    record { entries = a; unknown = b; findings = omega (arith, c); errors = omega (arith, d); warnings = omega (arith, e) }
-counted_one Warning s t a b c d e =
-    record { entries = a; unknown = b; findings = omega (arith, c); errors = omega (arith, d); warnings = omega (arith, e) }
-counted_one Note s t a b c d e =
-    record { entries = a; unknown = b; findings = omega (arith, c); errors = omega (arith, d); warnings = omega (arith, e) }
+counted_one : (severity : Severity) (s : Counts) → AddsOne s (counted severity (record s { entries = s.entries + 1 }))
+counted_one severity s = grind arith
 
 pub adds_one : (rows : List Row) (options : Options) (setting : Setting) (s s' : Counts) (x x' : Option (List Finding))
     → Reports rows options setting s s' x x' → AddsOne s s'
 adds_one rows options setting s s' x x' (line, adds, appended) = elim adds [
-  | unknown is passed none after ↦ rw after (record {
-    entries = refl;
-    unknown = omega arith;
-    findings = omega arith;
-    errors = omega arith;
-    warnings = omega arith;
-  })
-  | misspelled key is line after ↦
-      rw after (counted_one Warning s (record s { entries = s.entries + 1; unknown = s.unknown + 1 }) refl (omega arith) refl refl refl)
-  | right row decides is none after ↦ rw after (record {
-    entries = refl;
-    unknown = omega arith;
-    findings = omega arith;
-    errors = omega arith;
-    warnings = omega arith;
-  })
-  | found row reason decides is line after ↦
-      rw after (counted_one (severity_of row.goes_on reason) s (record s { entries = s.entries + 1 }) refl (omega arith) refl refl refl)
+  | unknown is passed none after ↦ rw after (omega arith)
+  | misspelled key is line after ↦ rw after (omega arith)
+  | right row decides is none after ↦ rw after (omega arith)
+  | found row reason decides is line after ↦ rw after (counted_one (severity_of row.goes_on reason) s)
 ]
 
 pub within_after : (s s' : Counts) → AreWithin s → AddsOne s s' → AreWithin s'
-within_after s s' within adds = record {
-  unknown = omega (arith, adds.entries, adds.unknown, within.unknown);
-  findings = omega (arith, adds.entries, adds.findings, within.findings);
-  errors = omega (arith, adds.entries, adds.errors, within.errors);
-  warnings = omega (arith, adds.entries, adds.warnings, within.warnings);
-}
+within_after s s' within adds = omega arith
 
 -- if there is room for one more entry, there is room for one more finding
 pub leaves_room : (s : Counts) → AreWithin s → s.entries + 1 < 2 ^ 64 → HasRoomForFinding s
-leaves_room s within room = record {
-  findings = omega (arith, within.findings, room);
-  errors = omega (arith, within.errors, room);
-  warnings = omega (arith, within.warnings, room);
-}
+leaves_room s within room = omega arith
 
 pub are_none : (s : Counts) → s.entries ≡ 0 → s.unknown ≡ 0 → s.findings ≡ 0 → s.errors ≡ 0 → s.warnings ≡ 0 → s ≡ no_counts
 are_none s a b c d e i = record { entries = a i; unknown = b i; findings = c i; errors = d i; warnings = e i }
 
 -- ---- a file
 
+-- these entries of the file were read, and the reader still has the others
+abbrev pub HasRead : List ℕ → List Entry → Entries → Type 0
+HasRead text entries reader =
+    (left : List Entry) (error : Option errors.FileError) → HasLeft reader left error → IsFile text (entries ++ left) error
+
 module _ (rows : List Row) (options : Options) (file text : List ℕ) where
   all_first : (settings : List Setting) (error : Option errors.FileError) → HasSettings file text settings error
       → HasFirstSettings file text settings
-  all_first settings error (entries, is_file, are) = record {
-    before = entries;
-    after = [];
-    error = error;
-    is_file = subst (λ es. IsFile text es error) (sym (append-nil entries)) is_file;
-    are = are;
-  }
+  all_first settings error (entries, is_file, are) =
+      record { before = entries; after = []; error = error; is_file = rw append-nil is_file; are = are }
 
   first_settings : (entries : List Entry) (settings : List Setting) (reader : Entries) → HasRead text entries reader
       → AllZip (IsSettingOf file) entries settings → HasFirstSettings file text settings
   first_settings entries settings reader read are =
-      let (after, error, is_file) = first_of text entries reader read in
-      record { before = entries; after = after; error = error; is_file = is_file; are = are }
+      let (left, error, reads) = are_read (length reader.rest.now) (option_map section_of reader.section) reader.line reader.rest.now
+      (omega arith) in
+      record { before = entries; after = left; error = error; is_file = read left error reads; are = are }
 
   -- the check ends after the findings of these settings
   pub stops : (w x y : Option (List Finding)) (settings : List Setting) (s : Counts) → HasFirstSettings file text settings
@@ -153,14 +120,14 @@ module _ (rows : List Row) (options : Options) (file text : List ℕ) where
       → Begins text reader.line reader.rest.now → s ≡ no_counts → IsReported reader w w s
   reported_start reader w s none begins empty =
       let bound : reader.line + length reader.rest.now < 2 ^ 63 + 2 = reader.line_fits in
-      subst (IsReported reader w w) (sym empty) (record {
+      rw empty (record {
         entries = [];
         settings = [];
         read = λ left error has. file_begins reader text left error none begins has;
         are = tt;
         all = ([], receives-nil w, nothing);
         fits = omega (arith, bound);
-        within = record { unknown = omega arith; findings = omega arith; errors = omega arith; warnings = omega arith };
+        within = omega arith;
       })
 
   module _ (w x : Option (List Finding)) (s : Counts) (reader : Entries) (so_far : IsReported reader w x s) where
@@ -172,7 +139,7 @@ module _ (rows : List Row) (options : Options) (file text : List ℕ) where
     one_read : (reader' : Entries) (entry : code.Entry) → GivesEntry reader (Some (Ok entry)) reader'
         → HasRead text (so_far.entries ++ entry_of entry ∷ []) reader'
     one_read reader' entry gives left error h =
-        file_more text so_far.entries left (entry_of entry) error (so_far.read (entry_of entry ∷ left) error (gives left error h))
+        rw append_assoc (so_far.read (entry_of entry ∷ left) error (gives left error h))
 
     module _ (reader' : Entries) (entry : code.Entry) (setting : Setting) (gives : GivesEntry reader (Some (Ok entry)) reader')
         (is : IsSettingOf file (entry_of entry) setting) where
@@ -186,7 +153,7 @@ module _ (rows : List Row) (options : Options) (file text : List ℕ) where
             entries = so_far.entries ++ entry_of entry ∷ [];
             settings = so_far.settings ++ setting ∷ [];
             read = one_read reader' entry gives;
-            are = zip_push (IsSettingOf file) so_far.entries so_far.settings (entry_of entry) setting so_far.are is;
+            are = all_zipped_more (IsSettingOf file) so_far.entries so_far.settings (entry_of entry) setting so_far.are is;
             all = (
               so_far.all.0 ++ said,
               receives-trans w x x' so_far.all.0 said so_far.all.1 after,
@@ -201,7 +168,7 @@ module _ (rows : List Row) (options : Options) (file text : List ℕ) where
         → ReportsEntries rows options file text w x s error
     reported error left = record {
       settings = so_far.settings;
-      of_file = (so_far.entries, file_end text so_far.entries error (so_far.read [] error left), so_far.are);
+      of_file = (so_far.entries, rw append-nil at (so_far.read [] error left), so_far.are);
       all = so_far.all;
     }
 
@@ -229,12 +196,6 @@ module _ (rows : List Row) (options : Options) (file text : List ℕ) where
       },
     )
 
-pub of_rows : {rows rows' : List Row} {options : Options} {file text : List ℕ} {w x : Option (List Finding)} {s : Counts}
-    {error : Option errors.FileError} → rows' ≡ rows → ReportsEntries rows' options file text w x s error
-    → ReportsEntries rows options file text w x s error
-of_rows {options = options} {file = file} {text = text} {w = w} {x = x} {s = s} {error = error} same all =
-    subst (λ rows. ReportsEntries rows options file text w x s error) same all
-
 -- ---- an unknown key
 
 module _ (rows : List Row) (options : Options) (setting : Setting) (s : Counts) where
@@ -251,8 +212,7 @@ module _ (rows : List Row) (options : Options) (setting : Setting) (s : Counts) 
       → ReportsSetting rows options setting s (findings_as s.entries setting reason meant)
       (counted Warning (record s { entries = s.entries + 1; unknown = s.unknown + 1 }))
   said_something None meant said some = absurd (cc)
-  said_something (Some text) meant (key, is, texts, meants) some = misspelled key is
-      (ap (λ t. findings_as s.entries setting (Some t) meant) texts ∙ ap (λ m. findings_as s.entries setting (Some (unknown_text key)) m) meants) refl
+  said_something (Some text) meant (key, is, texts, meants) some = misspelled key is (rw (texts, meants)) refl
 
 -- ---- results
 
@@ -260,7 +220,3 @@ module _ (rows : List Row) (options : Options) (setting : Setting) (s : Counts) 
 pub on_err : {T E : Type 0} (Q : Type 0) (r : Result T E) → Q → OnErr r Q
 on_err Q (Ok v) q = tt
 on_err Q (Err e) q = q
-
-pub on_err_weaker : {T E : Type 0} (P Q : Type 0) (r : Result T E) → (P → Q) → OnErr r P → OnErr r Q
-on_err_weaker P Q (Ok v) f p = tt
-on_err_weaker P Q (Err e) f p = f p

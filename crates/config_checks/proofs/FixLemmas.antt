@@ -1,6 +1,6 @@
 -- What mends a finding.
-use Rattle.std.proofs.Common.{◌≡◌, ◌↔◌, ℕ, List, reverse, Bool, true, false, IsTrue, Option, None, Some, option_map}
-use Rattle.std.proofs.Common.{refl, sym, ap, subst, ◌∙◌, if◌then◌else◌, Bor}
+use Rattle.std.proofs.Common.{◌≡◌, ◌↔◌, ℕ, List, reverse, Bool, true, IsTrue, Option, None, Some, option_map}
+use Rattle.std.proofs.Common.{refl, sym, ap, subst, ◌∙◌, if◌then◌else◌, Bor, arith}
 use Rattle.std.proofs.lemmas.Str.{IsUtf8-from_is_utf8, is_utf8-from_IsUtf8}
 use Rattle.std.specs.Str.{IsUtf8, is_utf8}
 use Rattle.serde_json.specs.Data.{Data, null}
@@ -24,16 +24,14 @@ use Rattle.config_checks.specs.Rows.{Decides}
 use Rattle.config_checks.specs.Settings.{value_of}
 use Rattle.config_checks.specs.Suggestions.{IsUnknownKey}
 use Rattle.config_checks.proofs.NearestLemmas.{nearest_once, no_far}
-use Rattle.config_checks.proofs.OneFinding.{finding_once}
+use Rattle.config_checks.proofs.OneFinding.{finding_once, none_before}
 use Rattle.config_checks.proofs.OneKey.{row_once}
-use Rattle.config_checks.proofs.OneReport.{no_finding}
 use Rattle.config_checks.proofs.OneSuggestion.{nearest_same}
 
 -- ---- a text that is not UTF-8
 
 coded : (b : Bool) (d : Data) → ¬ (b ≡ true) → d ≡ (if b then null else d)
-coded true d other = absurd (other refl)
-coded false d other = refl
+coded b d other = grind arith
 
 pub no_text : (t : List ℕ) (d : Data) → ¬ (IsUtf8 t) → d ≡ (if is_utf8 t then null else d)
 no_text t d other = coded (is_utf8 t) d (λ h. other (IsUtf8-from_is_utf8 t h))
@@ -45,15 +43,14 @@ is_text t d is = rw (is_utf8-from_IsUtf8 t is) refl
 
 pub not_both : (options : Options) (row : Row) (value : Option (List ℕ)) (reason : Reason)
     → HasFinding options row value (Some reason) → ¬ (HasFinding options row value None)
-not_both options row value reason bad good = no_finding reason (finding_once options row value None (Some reason) good bad)
+not_both options row value reason bad good = none_before reason (finding_once options row value None (Some reason) good bad)
 
 module _ (rows : List Row) (options : Options) where
   pub clean_if : (key : List ℕ) (value : Option (List ℕ)) (row : Row) (b : Bool) → Decides rows key row
       → (IsTrue b ↔ HasFinding options row value None) → IsTrue b ↔ IsClean rows options key value
   clean_if key value row b decides is = (
     λ yes. record { row = row; decides = decides; clean = is.0 yes },
-    λ clean. is.1 (subst (λ r. HasFinding options r value None)
-        (row_once rows key clean.row row clean.decides decides) clean.clean),
+    λ clean. is.1 (rw (row_once rows key clean.row row clean.decides decides) at clean.clean),
   )
 
   module _ (setting : Setting) (code : Code) (new : List ℕ) (row : Row) (decides : Decides rows setting.key.items row) where
@@ -62,13 +59,12 @@ module _ (rows : List Row) (options : Options) where
         → IsTrue b ↔ MendsValue rows options setting code new
     mends_if b none is = (
       λ yes. record { clean = record { row = row; decides = decides; clean = none }; only = is.0 yes },
-      λ mends. is.1 (subst (λ r. code ≡ NotAWord → IsOnlyMeant r.kind (value_of setting) new)
-          (row_once rows setting.key.items mends.clean.row row mends.clean.decides decides) mends.only),
+      λ mends. is.1 (rw (row_once rows setting.key.items mends.clean.row row mends.clean.decides decides) at mends.only),
     )
 
     pub mends_not : ¬ (HasFinding options row (Some new) None) → ¬ (MendsValue rows options setting code new)
-    mends_not some mends = some (subst (λ r. HasFinding options r (Some new) None)
-        (row_once rows setting.key.items mends.clean.row row mends.clean.decides decides) mends.clean.clean)
+    mends_not some mends =
+        some (rw (row_once rows setting.key.items mends.clean.row row mends.clean.decides decides) at mends.clean.clean)
 
 -- ---- the only word that is meant
 
@@ -76,14 +72,12 @@ module _ (list : WordList) (t word : List ℕ) (words : List (Bor (List ℕ))) (
   pub only_last : (last : Bor (List ℕ)) (b : Bool) → IsMeant words t (Some last) → (IsTrue b ↔ (last.now ≡ word))
       → IsTrue b ↔ IsOnlyMeant (kinds.Word list) (Some t) word
   only_last last b meant same = (
-    λ yes other also. ap (λ w. w.now) (nearest_once (WordEdits t) words other last
-        (subst (λ ws. IsMeant ws t (Some other)) (sym is) also) meant) ∙ same.0 yes,
-    λ only. same.1 (only last (subst (λ ws. IsMeant ws t (Some last)) is meant)),
+    λ yes other also. ap (λ w. w.now) (nearest_once (WordEdits t) words other last (rw is also) meant) ∙ same.0 yes,
+    λ only. same.1 (only last (rw is at meant)),
   )
 
   pub only_none : IsMeant words t None → IsOnlyMeant (kinds.Word list) (Some t) word
-  only_none far other also =
-      absurd (no_far (WordEdits t) words other (subst (λ ws. IsMeant ws t (Some other)) (sym is) also) far)
+  only_none far other also = absurd (no_far (WordEdits t) words other (rw is also) far)
 
 -- ---- the only key that is suggested
 
@@ -99,8 +93,8 @@ pub key_if : (rows back : List Row) (options : Options) (setting : Setting) (key
     → IsClean rows options key (value_of setting) → (IsTrue b ↔ IsOnlyKey back setting.key.items key)
     → IsTrue b ↔ MendsKey rows options setting key
 key_if rows back options setting key b order clean only = (
-  λ h. record { clean = clean; only = subst (λ l. IsOnlyKey l setting.key.items key) order (only.0 h) },
-  λ mends. only.1 (subst (λ l. IsOnlyKey l setting.key.items key) (sym order) mends.only),
+  λ h. record { clean = clean; only = rw order at (only.0 h) },
+  λ mends. only.1 (rw order mends.only),
 )
 
 -- ---- no change

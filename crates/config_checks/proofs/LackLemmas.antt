@@ -1,11 +1,13 @@
 -- A text that lacks bytes of another one is at least as many edits away.
 use Rattle.std.proofs.Common.{◌≡◌, ◌+◌, ◌≤◌, ℕ, zero, suc, List, [], ◌∷◌, ◌++◌, length, nat_eq, refl, sym, ap, ◌∙◌, arith, append_assoc}
-use Rattle.std.proofs.Common.{Bool, true, false, inl, inr, ◌==◌}
+use Rattle.std.proofs.Common.{Bool, true, inl, inr, ◌==◌}
 use Rattle.std.proofs.lemmas.Int.{clamps}
-use Rattle.std.proofs.lemmas.Bool.{false≢true, cases_Bool, eq-eqb}
+use Rattle.std.proofs.lemmas.List.Folds.{list_any-append}
+use Rattle.std.proofs.lemmas.Bool.Decides.{nat_tests}
+use Rattle.std.proofs.lemmas.Bool.{cases_Bool, eq-eqb}
 use Rattle.std.specs.Char.{to_ascii_lowercase}
 use Rattle.std.specs.List.{filter, list_any}
-use Rattle.std.specs.Prelude.{not, ◌||◌, ◌-◌, ◌<◌, drop, take}
+use Rattle.std.specs.Prelude.{not, ◌||◌, ◌-◌, drop, take}
 use Rattle.std.specs.List.{prefix_len, zip}
 use Rattle.std.proofs.lemmas.List.{length-append, length-map, drop-map, take-append-drop, map-append}
 use Rattle.std.proofs.Math.Seq.{drop-append_seam}
@@ -27,68 +29,44 @@ without ys z = not (list_any (λ y. z == y) ys)
 cost_lacking : (z : ℕ) (ys : List ℕ) → without ys z ≡ true → (j : ℕ) → 1 ≤ cost_at nat_eq z ys j
 unfolding cost_at
 cost_lacking z [] lack j = omega arith
-cost_lacking z (y ∷ ys) lack zero = elim (cases_Bool (z == y)) [
-  | inl same ↦ absurd (false≢true (rw same at lack))
-  | inr differ ↦ rw differ (omega arith)
-]
-cost_lacking z (y ∷ ys) lack (suc j) = elim (cases_Bool (z == y)) [
-  | inl same ↦ absurd (false≢true (rw same at lack))
-  | inr differ ↦ cost_lacking z ys (rw differ at lack) j
-]
+cost_lacking z (y ∷ ys) lack zero = grind (arith, nat_tests)
+cost_lacking z (y ∷ ys) lack (suc j) = grind (arith, nat_tests, cost_lacking z ys)
 
-row_lacking : (c before : ℕ → ℕ) (first m : ℕ) → ((j : ℕ) → m ≤ before j) → m + 1 ≤ first → ((j : ℕ) → 1 ≤ c j) → (k : ℕ)
-    → m + 1 ≤ next_row c before first k
+row_least : (c before : ℕ → ℕ) (first m : ℕ) → ((j : ℕ) → m ≤ before j + 1) → ((j : ℕ) → m ≤ before j + c j) → m ≤ first → (k : ℕ)
+    → m ≤ next_row c before first k
 unfolding next_row
-row_lacking c before first m so_far begins costs zero = begins
-row_lacking c before first m so_far begins costs (suc k) =
-    let left = row_lacking c before first m so_far begins costs k in
-    let above = so_far (suc k) in
-    let across = so_far k in
-    let cost = costs k in
-    omega (arith, clamps, left, above, across, cost)
-
-row_having : (c before : ℕ → ℕ) (first m : ℕ) → ((j : ℕ) → m ≤ before j) → m ≤ first → (k : ℕ) → m ≤ next_row c before first k
-unfolding next_row
-row_having c before first m so_far begins zero = begins
-row_having c before first m so_far begins (suc k) =
-    let left = row_having c before first m so_far begins k in
-    let above = so_far (suc k) in
-    let across = so_far k in
-    omega (arith, clamps, left, above, across)
+row_least c before first m above across begins zero = begins
+row_least c before first m above across begins (suc k) =
+    omega (arith, clamps, row_least c before first m above across begins k, above (suc k), across k)
 
 rows_lacking : (xs ys : List ℕ) (n m : ℕ) (before : ℕ → ℕ) → ((j : ℕ) → m ≤ before j) → m ≤ n → (k : ℕ)
     → m + length (filter (without ys) xs) ≤ rows nat_eq xs ys n before k
 unfolding rows
-rows_lacking [] ys n m before so_far fits k = let here = so_far k in omega (arith, here)
+rows_lacking [] ys n m before so_far fits k = omega (arith, so_far k)
 rows_lacking (x ∷ xs) ys n m before so_far fits k = elim (cases_Bool (without ys x)) [
   | inl lack ↦
       let more = rows_lacking xs ys (suc n) (m + 1) (next_row (cost_at nat_eq x ys) before (suc n))
-      (row_lacking (cost_at nat_eq x ys) before (suc n) m so_far (omega (arith, fits)) (cost_lacking x ys lack)) (omega (arith, fits)) k in
+      (row_least (cost_at nat_eq x ys) before (suc n) (m + 1) (λ j. omega (arith, so_far j))
+      (λ j. omega (arith, so_far j, cost_lacking x ys lack j)) (omega (arith, fits))) (omega (arith, fits)) k in
       rw lack (omega (arith, more))
   | inr has ↦
       let more = rows_lacking xs ys (suc n) m (next_row (cost_at nat_eq x ys) before (suc n))
-      (row_having (cost_at nat_eq x ys) before (suc n) m so_far (omega (arith, fits))) (omega (arith, fits)) k in
+      (row_least (cost_at nat_eq x ys) before (suc n) m (λ j. omega (arith, so_far j)) (λ j. omega (arith, so_far j))
+      (omega (arith, fits))) (omega (arith, fits)) k in
       rw has more
 ]
 
 -- ---- a swap
 
 either_first : (a b c : Bool) → (a || (b || c)) ≡ (b || (a || c))
-either_first true true c = refl
-either_first true false c = refl
-either_first false true c = refl
-either_first false false c = refl
+either_first a b c = grind arith
 
 any_swapped : (p : ℕ → Bool) (xs ys : List ℕ) → IsSwap xs ys → list_any p ys ≡ list_any p xs
 any_swapped p _ _ (at_front {x} {y} {rest} differ) = either_first (p y) (p x) (list_any p rest)
 any_swapped p _ _ (further {x} {xs} {ys} swap) = ap (λ b. p x || b) (any_swapped p xs ys swap)
 
 any_here : (front : List ℕ) (x : ℕ) (behind : List ℕ) → list_any (λ y. x == y) (front ++ x ∷ behind) ≡ true
-any_here [] x behind = rw (eq-eqb x x refl) refl
-any_here (f ∷ front) x behind = elim (cases_Bool (x == f)) [
-  | inl same ↦ rw same refl
-  | inr differ ↦ rw differ (any_here front x behind)
-]
+any_here front x behind = grind (arith, list_any-append (λ y. x == y) front (x ∷ behind), eq-eqb x x refl)
 
 all_had : (front xs : List ℕ) → filter (without (front ++ xs)) xs ≡ []
 all_had front [] = refl
@@ -130,10 +108,7 @@ lacking_edits a b n (counted not is) =
 pub common_lower : (a b : List ℕ) → common (lower a) (lower b) ≡ prefix_len (λ p. is_same_byte p.0 p.1) (zip a b)
 common_lower [] b = refl
 common_lower (x ∷ a) [] = refl
-common_lower (x ∷ a) (y ∷ b) = elim (cases_Bool (is_same_byte x y)) [
-  | inl same ↦ rw same (ap (λ n. 1 + n) (common_lower a b))
-  | inr differ ↦ rw differ refl
-]
+common_lower (x ∷ a) (y ∷ b) = rw (common_lower a b)
 
 -- if a text ends with a word, what precedes the word is as long as the text is longer
 pub end_told : (text end word : List ℕ) → lower text ≡ word ++ lower end
@@ -156,15 +131,3 @@ told_end text end n same = (
   ap lower (sym (take-append-drop n text)) ∙ map-append to_ascii_lowercase (take n text) (drop n text)
       ∙ ap (λ l. lower (take n text) ++ l) same,
 )
-
--- no text ends with a longer one
-pub no_end : (text end word : List ℕ) → lower text ≡ word ++ lower end → ¬ (length text < length end)
-no_end text end word is less =
-    absurd (omega (
-      arith,
-      less,
-      length-append word (lower end),
-      ap length is,
-      length-map text to_ascii_lowercase,
-      length-map end to_ascii_lowercase,
-    ))

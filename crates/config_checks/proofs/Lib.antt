@@ -1,4 +1,5 @@
 mod BooleanLemmas
+mod FirstLemmas
 mod NearestLemmas
 mod PathLemmas
 mod LackLemmas
@@ -6,7 +7,6 @@ mod RunLemmas
 mod WordLemmas
 mod ShownLemmas
 mod SuggestionLemmas
-mod ReadLemmas
 mod CheckLemmas
 mod TableLemmas
 mod OneFinding

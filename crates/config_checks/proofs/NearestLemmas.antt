@@ -1,14 +1,13 @@
 -- The edits between texts, and the nearest of several items.
-use Rattle.std.proofs.Common.{◌≡◌, ◌+◌, ◌<◌, ◌≤◌, ℕ, zero, suc, List, [], ◌∷◌, ◌++◌, length, map, take, nat_eq, get_or}
-use Rattle.std.proofs.Common.{MatchOption, Option, None, Some, Bor, refl, sym, ap, ◌∙◌, subst, arith, ◌≢◌, ◌↔◌, IsTrue, Bool}
+use Rattle.std.proofs.Common.{◌≡◌, ◌+◌, ◌<◌, ◌≤◌, ℕ, zero, suc, List, [], ◌∷◌, ◌++◌, length, take, nat_eq, get_or}
+use Rattle.std.proofs.Common.{MatchOption, Option, None, Some, Bor, refl, sym, ap, ◌∙◌, arith, ◌≢◌, ◌↔◌, IsTrue, Bool}
 use Rattle.std.proofs.Common.{◌-◌, ◌==◌, drop, append_assoc, inl, inr}
 use Rattle.std.proofs.lemmas.Int.{clamps}
 use Rattle.std.specs.Char.{to_ascii_lowercase}
 use Rattle.strsim.specs.Edits.{next_row, rows, cost_at}
-use Rattle.std.proofs.Common.{true, false}
-use Rattle.std.proofs.lemmas.Bool.{false≢true, true≢false, cases_Bool, eqb-true, eq-eqb}
-use Rattle.std.proofs.lemmas.List.{take_more as one_more_taken, length-map, get_or-take, get_or_default, length-take, length-append, take-append-le, take_rest, get_or_append_left}
-use Rattle.std.proofs.lemmas.List.Elements.{All-append}
+use Rattle.std.proofs.lemmas.Bool.{cases_Bool, eqb-true, eqb-false}
+use Rattle.std.proofs.lemmas.List.{take_more as one_more_taken, length-map, length-append, take-append-le, take_rest, get_or_append_left}
+use Rattle.std.proofs.lemmas.List.Elements.{All-append, All-push, All-from_recursion}
 use Rattle.std.proofs.Math.Seq.{get_or-append_seam, take-append_seam}
 use Rattle.std.specs.List.{All, prefix_len, zip}
 use Rattle.std.specs.Prelude.{MatchBool}
@@ -18,35 +17,24 @@ use Rattle.config_checks.specs.Nearest.Edits.{swapped, counted}
 use Rattle.config_checks.specs.Nearest.IsSwap.{at_front, further}
 use Rattle.config_checks.specs.Nearest.LeavesOut.{skipped, kept}
 use Rattle.config_checks.specs.Reading.Steps.{AreApart, AreRests}
+use Rattle.config_checks.proofs.FirstLemmas.{IsFirst, first_once}
 
 -- the row and the column of a place of the table differ by no more than the edits there
 next_row_apart : (c before : ℕ → ℕ) (n : ℕ) → ((j : ℕ) → (n ≤ before j + j) × (j ≤ before j + n)) → (k : ℕ)
     → (suc n ≤ next_row c before (suc n) k + k) × (k ≤ next_row c before (suc n) k + suc n)
 unfolding next_row
-next_row_apart c before n apart zero = (omega arith, omega arith)
+next_row_apart c before n apart zero = omega arith
 next_row_apart c before n apart (suc k) =
-    let left = next_row_apart c before n apart k in
-    let above = apart (suc k) in
-    let across = apart k in
-    (omega (arith, clamps, left.0, above.0, across.0), omega (arith, clamps, left.1, above.1, across.1))
+    omega (arith, clamps, next_row_apart c before n apart k, apart (suc k), apart k)
 
 rows_apart : (xs ys : List ℕ) (n : ℕ) (before : ℕ → ℕ) → ((j : ℕ) → (n ≤ before j + j) × (j ≤ before j + n)) → (k : ℕ)
     → (n + length xs ≤ rows nat_eq xs ys n before k + k) × (k ≤ rows nat_eq xs ys n before k + (n + length xs))
 unfolding rows
-rows_apart [] ys n before apart k = (omega (arith, (apart k).0), omega (arith, (apart k).1))
+rows_apart [] ys n before apart k = omega (arith, apart k)
 rows_apart (x ∷ xs) ys n before apart k =
     let more = rows_apart xs ys (suc n) (next_row (cost_at nat_eq x ys) before (suc n))
     (next_row_apart (cost_at nat_eq x ys) before n apart) k in
-    (omega (arith, more.0), omega (arith, more.1))
-
--- the lengths of two texts differ by no more than the edits between them
-pub lengths_apart : (a b : List ℕ) → (length a ≤ edits a b + length b) × (length b ≤ edits a b + length a)
-lengths_apart a b =
-    let apart = rows_apart (map to_ascii_lowercase a) (map to_ascii_lowercase b) 0 (λ j. j) (λ j. (omega arith, omega arith))
-    (length (map to_ascii_lowercase b)) in (
-      omega (arith, apart.0, length-map a to_ascii_lowercase, length-map b to_ascii_lowercase),
-      omega (arith, apart.1, length-map a to_ascii_lowercase, length-map b to_ascii_lowercase),
-    )
+    omega (arith, more)
 
 -- a swap does not change the length
 swap_length : (a b : List ℕ) → IsSwap a b → length a ≡ length b
@@ -56,12 +44,11 @@ swap_length _ _ (further {x} {xs} {ys} swap) = rw (swap_length xs ys swap) refl
 -- the lengths of two texts differ by no more than the edits between them, if a swap is one edit
 pub lengths_near : (a b : List ℕ) (n : ℕ) → Edits a b n → (length a ≤ n + length b) × (length b ≤ n + length a)
 lengths_near a b n (swapped swap is) =
-    let same = swap_length (lower a) (lower b) swap in (
-      omega (arith, same, length-map a to_ascii_lowercase, length-map b to_ascii_lowercase),
-      omega (arith, same, length-map a to_ascii_lowercase, length-map b to_ascii_lowercase),
-    )
+    let same = swap_length (lower a) (lower b) swap in
+    omega (arith, same, is, length-map a to_ascii_lowercase, length-map b to_ascii_lowercase)
 lengths_near a b n (counted not is) =
-    let apart = lengths_apart a b in (omega (arith, is, apart.0), omega (arith, is, apart.1))
+    let apart = rows_apart (lower a) (lower b) 0 (λ j. j) (λ j. omega arith) (length (lower b)) in
+    omega (arith, is, apart, length-map a to_ascii_lowercase, length-map b to_ascii_lowercase)
 
 -- ---- what follows the bytes that two texts both begin with
 
@@ -70,9 +57,6 @@ common a b = prefix_len (λ p. p.0 == p.1) (zip a b)
 
 one_suc : (n : ℕ) → 1 + n ≡ suc n
 one_suc n = omega arith
-
-differ_of : (x y : ℕ) → x == y ≡ false → x ≢ y
-differ_of x y differ same = true≢false (sym (eq-eqb x y same) ∙ differ)
 
 both_begin : (x : ℕ) (a b : List ℕ) (n : ℕ) → AreRests a b (drop n a) (drop n b)
     → AreRests (x ∷ a) (x ∷ b) (drop (1 + n) (x ∷ a)) (drop (1 + n) (x ∷ b))
@@ -84,52 +68,44 @@ both_begin x a b n more = rw (one_suc n) record {
 }
 
 pub rests_of : (a b : List ℕ) → AreRests a b (drop (common a b) a) (drop (common a b) b)
-rests_of [] b = record { front = []; first = refl; second = refl; apart = tt }
-rests_of (x ∷ a) [] = record { front = []; first = refl; second = refl; apart = tt }
 rests_of (x ∷ a) (y ∷ b) = elim (cases_Bool (x == y)) [
-  | inl same ↦ rw same (subst (λ z. AreRests (x ∷ a) (z ∷ b) (drop (1 + common a b) (x ∷ a)) (drop (1 + common a b) (z ∷ b)))
-      (eqb-true x y same) (both_begin x a b (common a b) (rests_of a b)))
-  | inr differ ↦ rw differ record { front = []; first = refl; second = refl; apart = differ_of x y differ }
+  | inl same ↦ rw (same, ← (eqb-true x y same)) (both_begin x a b (common a b) (rests_of a b))
+  | inr differ ↦ rw differ record { front = []; first = refl; second = refl; apart = eqb-false x y differ }
 ]
+rests_of a b = record { front = []; first = refl; second = refl; apart = tt }
+
+-- ---- a relation that holds of two texts exactly if it holds of what follows a byte that both begin with
+
+module _ (R : List ℕ → List ℕ → Type 0) (more : (x : ℕ) (a b : List ℕ) → R (x ∷ a) (x ∷ b) ↔ R a b) where
+  behind : (front a b : List ℕ) → R (front ++ a) (front ++ b) ↔ R a b
+  behind [] a b = (λ r. r, λ r. r)
+  behind (x ∷ front) a b =
+      let inner = behind front a b in let outer = more x (front ++ a) (front ++ b) in
+      (λ r. inner.0 (outer.0 r), λ r. outer.1 (inner.1 r))
+
+  of_rests : {a b x y : List ℕ} → AreRests a b x y → R a b ↔ R x y
+  of_rests {x = x} {y = y} r = rw (r.first, r.second) (behind r.front x y)
 
 -- ---- a swap
-
-swap_behind : (front x y : List ℕ) → IsSwap x y → IsSwap (front ++ x) (front ++ y)
-swap_behind [] x y swap = swap
-swap_behind (f ∷ front) x y swap = further (swap_behind front x y swap)
 
 swap_rest : (f g : ℕ) (x y : List ℕ) → f ≡ g → IsSwap (f ∷ x) (g ∷ y) → IsSwap x y
 swap_rest _ _ _ _ same (at_front differ) = absurd (differ same)
 swap_rest _ _ _ _ same (further swap) = swap
 
-swap_within : (front x y : List ℕ) → IsSwap (front ++ x) (front ++ y) → IsSwap x y
-swap_within [] x y swap = swap
-swap_within (f ∷ front) x y swap = swap_within front x y (swap_rest f f (front ++ x) (front ++ y) refl swap)
-
 pub swap_rests : {a b x y : List ℕ} → AreRests a b x y → IsSwap a b ↔ IsSwap x y
-swap_rests {a} {b} {x} {y} r = (
-  λ swap. swap_within r.front x y (subst (λ b. IsSwap (r.front ++ x) b) r.second (subst (λ a. IsSwap a b) r.first swap)),
-  λ swap. subst (λ a. IsSwap a b) (sym r.first) (subst (λ b. IsSwap (r.front ++ x) b) (sym r.second) (swap_behind r.front x y swap)),
-)
+swap_rests = of_rests IsSwap (λ x a b. (swap_rest x x a b refl, further))
 
 pair_swap : (x y : List ℕ) → AreApart x y → IsSwap x y
     → (get_or x 0 0 ≡ get_or y 1 0) × (get_or x 1 0 ≡ get_or y 0 0) × (drop 2 x ≡ drop 2 y)
-pair_swap _ _ apart (at_front differ) = (refl, refl, refl)
-pair_swap _ _ apart (further swap) = absurd (apart refl)
+pair_swap x y apart swap = grind arith
 
 swap_pair : (x y : List ℕ) → AreApart x y → 2 ≤ length x → 2 ≤ length y → get_or x 0 0 ≡ get_or y 1 0
     → get_or x 1 0 ≡ get_or y 0 0 → drop 2 x ≡ drop 2 y → IsSwap x y
-swap_pair [] y apart some also e f same = absurd (omega (arith, some))
-swap_pair (a ∷ []) y apart some also e f same = absurd (omega (arith, some))
-swap_pair (a ∷ b ∷ x) [] apart some also e f same = absurd (omega (arith, also))
-swap_pair (a ∷ b ∷ x) (c ∷ []) apart some also e f same = absurd (omega (arith, also))
-swap_pair (a ∷ b ∷ x) (c ∷ d ∷ y) apart some also e f same =
-    subst (λ d. IsSwap (a ∷ b ∷ x) (c ∷ d ∷ y)) e (subst (λ c. IsSwap (a ∷ b ∷ x) (c ∷ a ∷ y)) f
-    (subst (λ y. IsSwap (a ∷ b ∷ x) (b ∷ a ∷ y)) same (at_front (λ g. apart (g ∙ f)))))
+swap_pair (a ∷ b ∷ x) (c ∷ d ∷ y) apart some also e f same = rw (← e, ← f, ← same) (at_front (λ g. apart (g ∙ f)))
+swap_pair x y apart some also e f same = absurd (omega (arith, some, also))
 
 same_told : (r : Bool) (xs ys : List ℕ) → MatchBool r (xs ≡ ys) (xs ≢ ys) → IsTrue r ↔ (xs ≡ ys)
-same_told true xs ys same = (λ yes. same, λ e. refl)
-same_told false xs ys other = (λ yes. absurd (false≢true yes), λ e. absurd (other e))
+same_told r xs ys told = grind arith
 
 -- if the first two bytes are swapped, the texts differ by a swap if and only if their rests are the same
 pub pair_told : (x y : List ℕ) (r : Bool) → AreApart x y → 2 ≤ length x → 2 ≤ length y → get_or x 0 0 ≡ get_or y 1 0
@@ -145,10 +121,6 @@ pair_told x y r apart some also e f told =
 
 -- ---- a run of bytes left out
 
-left_behind : (front x y : List ℕ) → LeavesOut x y → LeavesOut (front ++ x) (front ++ y)
-left_behind [] x y left = left
-left_behind (f ∷ front) x y left = kept (left_behind front x y left)
-
 left_word : (f : ℕ) (x y : List ℕ) (word : List ℕ) → f ∷ y ≡ word ++ f ∷ x → LeavesOut x y
 left_word f x y [] e = skipped [] (cc)
 left_word f x y (w ∷ word) e = skipped (word ++ f ∷ []) (let tails : y ≡ word ++ f ∷ x = cc in tails ∙ sym (append_assoc word (f ∷ []) x))
@@ -157,27 +129,19 @@ left_rest : (f g : ℕ) (x y : List ℕ) → f ≡ g → LeavesOut (f ∷ x) (g 
 left_rest f g x y same (skipped word e) = left_word f x y word (ap (λ h. h ∷ y) same ∙ e)
 left_rest _ _ _ _ same (kept left) = left
 
-left_within : (front x y : List ℕ) → LeavesOut (front ++ x) (front ++ y) → LeavesOut x y
-left_within [] x y left = left
-left_within (f ∷ front) x y left = left_within front x y (left_rest f f (front ++ x) (front ++ y) refl left)
-
 -- texts that do not begin with the same byte: one only leaves out what comes first
 left_apart : (x y : List ℕ) → AreApart x y → LeavesOut x y → (word : List ℕ) × (y ≡ word ++ x)
 left_apart x y apart (skipped word e) = (word, e)
 left_apart _ _ apart (kept left) = absurd (apart refl)
 
 pub left_rests : {a b x y : List ℕ} → AreRests a b x y → LeavesOut a b ↔ ((word : List ℕ) × (y ≡ word ++ x))
-left_rests {a} {b} {x} {y} r = (
-  λ left. left_apart x y r.apart (left_within r.front x y (subst (λ b. LeavesOut (r.front ++ x) b) r.second (subst (λ a. LeavesOut a b) r.first left))),
-  λ (word, e). subst (λ a. LeavesOut a b) (sym r.first) (subst (λ b. LeavesOut (r.front ++ x) b) (sym r.second) (left_behind r.front x y (skipped word e))),
-)
+left_rests {x = x} {y = y} r =
+    let rests = of_rests LeavesOut (λ x a b. (left_rest x x a b refl, kept)) r in
+    (λ left. left_apart x y r.apart (rests.0 left), λ (word, e). rests.1 (skipped word e))
 
 -- there is at most one number of edits
 pub one_count : (a b : List ℕ) (m n : ℕ) → Edits a b m → Edits a b n → m ≡ n
-one_count a b m n (swapped swap is) (swapped also' also) = is ∙ sym also
-one_count a b m n (swapped swap is) (counted not also) = absurd (not swap)
-one_count a b m n (counted not is) (swapped swap also) = absurd (not swap)
-one_count a b m n (counted not is) (counted not' also) = is ∙ sym also
+one_count a b m n is also = grind arith
 
 -- ---- the nearest of the items so far
 
@@ -202,8 +166,7 @@ module _ {A : Type 0} (Apart : A → ℕ → Type 0) where
   nothing = record { none_nearer = λ k d inside. absurd (omega (arith, inside)); found = refl }
 
   at_most_4 : (seen : List A) (least : ℕ) (best : Option (Bor A)) → Found seen best least → least ≤ 4
-  at_most_4 seen least None found = omega (arith, found)
-  at_most_4 seen least (Some item) found = let few = found.0 in omega (arith, few)
+  at_most_4 seen least best found = grind arith
 
   still_found : (seen more : List A) (least : ℕ) (best : Option (Bor A)) → Found seen best least
       → Found (seen ++ more) best least
@@ -217,7 +180,7 @@ module _ {A : Type 0} (Apart : A → ℕ → Type 0) where
           inside = omega (arith, inside, length-append seen more);
           stands = get_or_append_left seen more item.now at.place inside ∙ at.stands;
           apart = at.apart;
-          first = subst (AreBeyond Apart least) (sym (take-append-le at.place seen more (omega (arith, inside)))) at.first;
+          first = rw (take-append-le at.place seen more (omega (arith, inside))) at.first;
         },
       )
 
@@ -231,12 +194,11 @@ module _ {A : Type 0} (Apart : A → ℕ → Type 0) where
   }
 
   pub far_one : (item : A) → ((n : ℕ) → Apart item n → 3 < n) → AreFar Apart (item ∷ [])
-  far_one item far zero d inside = far
-  far_one item far (suc k) d inside = absurd (omega (arith, inside))
+  far_one item far = All-from_recursion (λ item. (n : ℕ) → Apart item n → 3 < n) (item ∷ []) (far, tt)
 
   pub whole : (items : List A) (least : ℕ) (best : Option (Bor A)) → IsBest items best least
       → MatchOption best (AreFar Apart items) (λ item. IsNearest Apart items item.now)
-  whole items least None so_far = subst (λ l. All (IsNoNearer l) items) so_far.found so_far.none_nearer
+  whole items least None so_far = rw so_far.found at so_far.none_nearer
   whole items least (Some item) so_far = record {
     edits = least;
     few = so_far.found.0;
@@ -246,65 +208,59 @@ module _ {A : Type 0} (Apart : A → ℕ → Type 0) where
 
   -- if each item has at most one number of edits
   module _ (one : (item : A) (m n : ℕ) → Apart item m → Apart item n → m ≡ n) where
-    none_nearer_one : (item : A) (least n : ℕ) → Apart item n → least ≤ n → All (IsNoNearer least) (item ∷ [])
-    none_nearer_one item least n edits not zero d inside m also =
-        let same = one item m n also edits in omega (arith, same, not)
-    none_nearer_one item least n edits not (suc k) d inside m also = absurd (omega (arith, inside))
-
     pub keeps : (seen : List A) (least n : ℕ) (best : Option (Bor A)) (item : A) → IsBest seen best least → Apart item n
         → least ≤ n → IsBest (seen ++ item ∷ []) best least
     keeps seen least n best item so_far edits not = record {
-      none_nearer = All-append (IsNoNearer least) seen (item ∷ []) so_far.none_nearer (none_nearer_one item least n edits not);
+      none_nearer = All-push (IsNoNearer least) seen item so_far.none_nearer (λ m also. rw (one item m n also edits) not);
       found = still_found seen (item ∷ []) least best so_far.found;
     }
 
-    below_4 : (seen : List A) (least n : ℕ) (best : Option (Bor A)) → Found seen best least → n < least → n ≤ 3
-    below_4 seen least n None found below = omega (arith, found, below)
-    below_4 seen least n (Some item) found below = let few = found.0 in omega (arith, few, below)
-
     pub betters : (seen : List A) (least n : ℕ) (best : Option (Bor A)) (item : Bor A) → IsBest seen best least
         → Apart item.now n → n < least → IsBest (seen ++ item.now ∷ []) (Some item) n
-    betters seen least n best item so_far edits below = record {
-      none_nearer = All-append (IsNoNearer n) seen (item.now ∷ [])
-          (λ k d inside m also. let no_nearer = so_far.none_nearer k d inside m also in omega (arith, no_nearer, below))
-          (none_nearer_one item.now n n edits (omega arith));
-      found = (
-        below_4 seen least n best so_far.found below,
+    betters seen least n best item so_far edits below =
+        let most = at_most_4 seen least best so_far.found in
+        let beyond : AreBeyond Apart n seen =
+        λ k d inside m also. let no_nearer = so_far.none_nearer k d inside m also in omega (arith, no_nearer, below) in
         record {
-          place = length seen;
-          inside = omega (arith, length-append seen (item.now ∷ []));
-          stands = get_or-append_seam seen item.now [] item.now;
-          apart = edits;
-          first = subst (AreBeyond Apart n) (sym (take-append_seam seen (item.now ∷ [])))
-              (λ k d inside m also. let no_nearer = so_far.none_nearer k d inside m also in omega (arith, no_nearer, below));
-        },
-      );
-    }
+          none_nearer = All-push (IsNoNearer n) seen item.now
+              (λ k d inside m also. let more = beyond k d inside m also in omega (arith, more))
+              (λ m also. rw (one item.now m n also edits) (omega arith));
+          found = (
+            omega (arith, most, below),
+            record {
+              place = length seen;
+              inside = omega (arith, length-append seen (item.now ∷ []));
+              stands = get_or-append_seam seen item.now [] item.now;
+              apart = edits;
+              first = rw take-append_seam beyond;
+            },
+          );
+        }
 
   -- ---- there is at most one nearest item
 
   -- no nearest item has more edits than another nearest item
   no_nearer : (items : List A) (a b : A) (p : IsNearest Apart items a) (q : IsNearest Apart items b) → p.edits ≤ q.edits
   no_nearer items a b p q =
-      p.least q.at.place b q.at.inside q.edits (subst (λ r. Apart r q.edits) (sym q.at.stands) q.at.apart)
+      p.least q.at.place b q.at.inside q.edits (rw q.at.stands q.at.apart)
 
-  one_before : (items : List A) (a b : A) (p : IsNearest Apart items a) (q : IsNearest Apart items b)
-      → ¬ (p.at.place < q.at.place)
-  one_before items a b p q before =
-      let same = no_nearer items a b p q in
-      let less = q.at.first p.at.place a (omega (arith, length-take {A = A}, before, q.at.inside)) p.edits
-      (subst (λ r. Apart r p.edits) (sym (get_or-take q.at.place items p.at.place a before ∙ p.at.stands)) p.at.apart) in
-      let back = no_nearer items b a q p in
-      absurd (omega (arith, same, less, back))
+  at_first : (items : List A) (a : A) (n : ℕ) → IsFirstAt Apart items n a → IsFirst (λ x. Apart x n) items a
+  at_first items a n f = record {
+    place = f.place;
+    inside = f.inside;
+    stands = f.stands;
+    is = f.apart;
+    first = λ k d inside apart. let less = f.first k d inside n apart in omega (arith, less);
+  }
 
   pub nearest_once : (items : List A) (a b : A) → IsNearest Apart items a → IsNearest Apart items b → a ≡ b
   nearest_once items a b p q =
-      let less = one_before items a b p q in let more = one_before items b a q p in
-      let same : p.at.place ≡ q.at.place = omega (arith, less, more) in
-      sym p.at.stands ∙ ap (λ n. get_or items n a) same ∙ get_or_default items q.at.place a b q.at.inside ∙ q.at.stands
+      let less = no_nearer items a b p q in let more = no_nearer items b a q p in
+      let same : p.edits ≡ q.edits = omega (arith, less, more) in
+      first_once (λ x. Apart x q.edits) items a b (at_first items a q.edits (rw same at p.at)) (at_first items b q.edits q.at)
 
   pub no_far : (items : List A) (item : A) → IsNearest Apart items item → ¬ (AreFar Apart items)
   no_far items item p far =
-      let beyond = far p.at.place item p.at.inside p.edits (subst (λ r. Apart r p.edits) (sym p.at.stands) p.at.apart) in
+      let beyond = far p.at.place item p.at.inside p.edits (rw p.at.stands p.at.apart) in
       let few = p.few in
       omega (arith, beyond, few)

@@ -1,12 +1,10 @@
 -- A setting has at most one reason, and at most one finding.
-use Rattle.std.proofs.Common.{◌≡◌, ℕ, inl, inr, ◌<◌, List, Bool, true, false}
+use Rattle.std.proofs.Common.{◌≡◌, ℕ, inl, inr, List, Bool, true, false}
 use Rattle.std.proofs.Common.{Option, None, Some, refl, sym, ap, subst, ◌∙◌, arith}
-use Rattle.std.proofs.Common.{get_or, Bor, codes}
-use Rattle.std.proofs.lemmas.List.{get_or-take, get_or_default, length-take}
+use Rattle.std.proofs.Common.{Bor}
 use Rattle.config_text.specs.declared.errors.Fault.{Fault}
 use Rattle.config_text.specs.declared.errors.Fault.TheVariants as faults
 use Rattle.config_text.specs.Refusals.{OnlyFault}
-use Rattle.config_text.specs.Value.{IsRefused, IsAccepted}
 use Rattle.gix_config_value.specs.Boolean.{BooleanText, CanonicalBoolean}
 use Rattle.gix_config_value.specs.Integer.{IntegerText, CanonicalInteger}
 use Rattle.gix_config_value.specs.Amount.{AmountFault}
@@ -16,7 +14,6 @@ use Rattle.config_integer.specs.contracts.amount.AmountValue.TheImpl.Laws.{one_v
 use Rattle.config_integer.specs.contracts.amount.AmountValue.TheImpl.Laws.{decided-law as amount_decided}
 use Rattle.gix_config_value.proofs.OneAnswer.{text_once}
 use Rattle.config_checks.specs.declared.kind.Form.{Form}
-use Rattle.config_checks.specs.declared.kind.Form.TheVariants as forms
 use Rattle.config_checks.specs.declared.kind.WordList.{WordList}
 use Rattle.config_checks.specs.declared.kind.SettingKind.{SettingKind}
 use Rattle.config_checks.specs.declared.kind.SettingKind.TheVariants as kinds
@@ -24,10 +21,9 @@ use Rattle.config_checks.specs.declared.options.Options.{Options}
 use Rattle.config_checks.specs.declared.paths.KnownUsers.{KnownUsers}
 use Rattle.config_checks.specs.declared.row.Row.{Row}
 use Rattle.config_checks.specs.declared.reason.Reason.{Reason}
-use Rattle.config_checks.specs.declared.reason.Reason.TheVariants.{NoValue, Refused, OutOfRange, NoWord, NoHome, IsNot, NotCanonical}
-use Rattle.config_checks.specs.declared.reason.Reason.TheVariants.{TooNew, Gone, Deprecated, OtherCase}
+use Rattle.config_checks.specs.declared.reason.Reason.TheVariants.{Refused, OutOfRange, NoWord, NotCanonical}
 use Rattle.config_checks.specs.Kinds.{IsWord, IsFirstWord}
-use Rattle.config_checks.specs.Reasons.{IsJudged, IsWithin, IsJudgedWithin, IsJudgedBool, IsJudgedByWords}
+use Rattle.config_checks.specs.Reasons.{IsJudged, IsJudgedWithin, IsJudgedBool, IsJudgedByWords}
 use Rattle.config_checks.specs.Reasons.{WordEdits, IsMeant, IsJudgedPath, IsJudgedText, IsComparedTo, IsJudgedAlone, IsJudgedByRow, HasReason}
 use Rattle.config_checks.specs.Reasons.IsJudgedByRow.{refused, taken}
 use Rattle.config_checks.specs.Reasons.{IsRespelled, IsRespelledAs, IsRespelledByForm, IsRespelledByWords}
@@ -38,27 +34,14 @@ use Rattle.config_checks.specs.Versions.{IsOf}
 use Rattle.config_checks.specs.Reasons.{HasFinding, IsSameFinding}
 use Rattle.config_checks.proofs.NearestLemmas.{nearest_once, no_far}
 use Rattle.config_checks.proofs.WordLemmas.{no_first}
+use Rattle.config_checks.proofs.FirstLemmas.{IsFirst, first_once}
 
 -- ---- why a text is wrong
 
 module _ {V : Type 0} (grammar : List ℕ → V → Type 0) (refusal : List ℕ → Fault → Type 0) (t : List ℕ) where
-  judged_accepted : (a : Option Reason) → IsAccepted grammar t → IsJudged grammar refusal t a → a ≡ None
-  judged_accepted None text p = refl
-  judged_accepted (Some (Refused f)) text p = absurd (p.1 text.0 text.1)
-  judged_accepted (Some _) text p = absurd p
-
-  judged_refused : (f : Fault) → ((g : Fault) → refusal t g → g ≡ f) → IsRefused grammar t
-      → (a : Option Reason) → IsJudged grammar refusal t a → a ≡ Some (Refused f)
-  judged_refused f one none None p = absurd (none p.0 p.1)
-  judged_refused f one none (Some (Refused g)) p = ap (λ h. Some (Refused h)) (one g p.0)
-  judged_refused f one none (Some _) p = absurd p
-
   judged_once : ((f g : Fault) → refusal t f → refusal t g → f ≡ g) → (a b : Option Reason)
       → IsJudged grammar refusal t a → IsJudged grammar refusal t b → a ≡ b
-  judged_once one None b p q = sym (judged_accepted b p q)
-  judged_once one (Some (Refused f)) b p q =
-      sym (judged_refused f (λ g is. one g f is p.0) p.1 b q)
-  judged_once one (Some _) b p q = absurd p
+  judged_once one a b p q = grind arith
 
 always_once : (fault : Fault) (t : List ℕ) (f g : Fault) → OnlyFault fault t f → OnlyFault fault t g → f ≡ g
 always_once fault t f g p q = p ∙ sym q
@@ -68,34 +51,22 @@ always_once fault t f g p q = p ∙ sym q
 refusal_once : (t : List ℕ) (f g : Fault) → AmountFault t f → AmountFault t g → f ≡ g
 refusal_once t faults.Integer faults.Integer p q = refl
 refusal_once t faults.Integer faults.Overflow p q = absurd (p q.1.integer q.1.text)
-refusal_once t faults.Integer faults.OutOfRange p q = absurd q.2
-refusal_once t faults.Integer _ p q = absurd q
 refusal_once t faults.Overflow faults.Integer p q = absurd (q p.1.integer p.1.text)
 refusal_once t faults.Overflow faults.Overflow p q = refl
-refusal_once t faults.Overflow faults.OutOfRange p q = absurd q.2
-refusal_once t faults.Overflow _ p q = absurd q
-refusal_once t faults.OutOfRange g p q = absurd p.2
-refusal_once t _ g p q = absurd p
+refusal_once t f g p q = absurd (search)
 
 module _ (low high : Amount) (t : List ℕ) where
   same_number : (a b : Option Reason) → IsJudgedWithin low high t a → IsJudgedWithin low high t b → a ≡ b
   same_number None None p q = refl
-  same_number None (Some (OutOfRange l h)) p q =
-      absurd (q.2.2 (subst (IsWithin low high) (amount_one_value t p.0 q.2.0 p.1 q.2.1) p.2))
+  same_number None (Some (OutOfRange l h)) p q = absurd (q.2.2 (rw (amount_one_value t q.2.0 p.0 q.2.1 p.1) p.2))
+  same_number (Some (OutOfRange l h)) None p q = absurd (p.2.2 (rw (amount_one_value t p.2.0 q.0 p.2.1 q.1) q.2))
+  same_number (Some (OutOfRange l h)) (Some (OutOfRange m k)) p q = cc
   same_number None (Some (Refused g)) p q = absurd (q.1 p.0 p.1)
-  same_number None (Some _) p q = absurd q
-  same_number (Some (OutOfRange l h)) None p q =
-      absurd (p.2.2 (subst (IsWithin low high) (amount_one_value t q.0 p.2.0 q.1 p.2.1) q.2))
-  same_number (Some (OutOfRange l h)) (Some (OutOfRange m k)) p q =
-      ap (λ z. Some (OutOfRange z h)) (p.0 ∙ sym q.0) ∙ ap (λ z. Some (OutOfRange m z)) (p.1 ∙ sym q.1)
   same_number (Some (OutOfRange l h)) (Some (Refused g)) p q = absurd (q.1 p.2.0 p.2.1)
-  same_number (Some (OutOfRange l h)) (Some _) p q = absurd q
   same_number (Some (Refused f)) None p q = absurd (p.1 q.0 q.1)
   same_number (Some (Refused f)) (Some (OutOfRange l h)) p q = absurd (p.1 q.2.0 q.2.1)
-  same_number (Some (Refused f)) (Some (Refused g)) p q =
-      ap (λ h. Some (Refused h)) (refusal_once t f g p.0 q.0)
-  same_number (Some (Refused f)) (Some _) p q = absurd q
-  same_number (Some _) b p q = absurd p
+  same_number (Some (Refused f)) (Some (Refused g)) p q = ap (λ h. Some (Refused h)) (refusal_once t f g p.0 q.0)
+  same_number a b p q = absurd (search)
 
 -- ---- findings that are the same
 
@@ -109,20 +80,10 @@ as_same a b same = subst (IsSameFinding a) same (same_finding a)
 
 -- a finding is not the same as no finding
 none_with : (a : Reason) → ¬ (IsSameFinding (Some a) None)
-none_with NoValue same = absurd (cc)
-none_with (Refused f) same = absurd (cc)
-none_with (OutOfRange l h) same = absurd (cc)
-none_with (NoWord l v) same = absurd (cc)
-none_with NoHome same = absurd (cc)
-none_with (IsNot w) same = absurd (cc)
-none_with (TooNew v) same = absurd (cc)
-none_with (Gone v) same = absurd (cc)
-none_with (Deprecated w) same = absurd (cc)
-none_with (NotCanonical c) same = absurd (cc)
-none_with (OtherCase w) same = absurd (cc)
+none_with a same = grind arith
 
-none_before : (a : Reason) → ¬ (IsSameFinding None (Some a))
-none_before a same = absurd (cc)
+pub none_before : (a : Reason) → ¬ (IsSameFinding None (Some a))
+none_before a same = grind arith
 
 -- ---- words
 
@@ -135,66 +96,35 @@ meant_once words t (Some v) (Some w) p q = ap (λ x. Some x) (nearest_once (Word
 
 words_once : (list : WordList) (t : List ℕ) (a b : Option Reason) → IsJudgedByWords list t a
     → IsJudgedByWords list t b → IsSameFinding a b
-words_once list t None None p q = refl
-words_once list t None (Some (NoWord m w)) p q = absurd (q.1 p)
-words_once list t None (Some _) p q = absurd q
-words_once list t (Some (NoWord l v)) None p q = absurd (p.1 q)
-words_once list t (Some (NoWord l v)) (Some (NoWord m w)) p q =
-    (p.0 ∙ sym q.0, meant_once list.words.items t v w p.2 q.2)
-words_once list t (Some (NoWord l v)) (Some _) p q = absurd q
-words_once list t (Some _) b p q = absurd p
+words_once list t a b p q = grind (arith, meant_once)
 
 -- ---- paths
 
 path_once : (users : Option KnownUsers) (t : List ℕ) (a b : Option Reason) → IsJudgedPath users t a → IsJudgedPath users t b → a ≡ b
-path_once users t None None p q = refl
-path_once users t None (Some NoHome) p q = absurd (p q)
-path_once users t None (Some _) p q = absurd q
-path_once users t (Some NoHome) None p q = absurd (q p)
-path_once users t (Some NoHome) (Some NoHome) p q = refl
-path_once users t (Some NoHome) (Some _) p q = absurd q
-path_once users t (Some _) b p q = absurd p
+path_once users t a b p q = grind arith
 
 -- ---- the reason
 
 pub int_once : (t : List ℕ) (a b : Option Reason) → IsJudgedBool t a → IsJudgedBool t b → a ≡ b
-int_once t a b p q = elim (amount_decided t) [
-  | inl number ↦ same_number _ _ t a b (p.number number) (q.number number)
-  | inr none ↦ judged_once BooleanText (OnlyFault faults.Boolean) t (always_once faults.Boolean t) a b (p.other none) (q.other none)
-]
+int_once t a b p q = grind (arith, amount_decided t, same_number, judged_once BooleanText (OnlyFault faults.Boolean) t)
 
 text_judged_once : (users : Option KnownUsers) (kind : SettingKind) (t : List ℕ) (a b : Option Reason) → IsJudgedText users kind t a
     → IsJudgedText users kind t b → IsSameFinding a b
-text_judged_once users kinds.Text t a b p q = as_same a b (p ∙ sym q)
-text_judged_once users kinds.Bool t a b p q = as_same a b (int_once t a b p q)
-text_judged_once users (kinds.Int low high) t a b p q = as_same a b (same_number low high t a b p q)
-text_judged_once users kinds.BoolOrInt t a b p q = as_same a b (int_once t a b p q)
-text_judged_once users kinds.Color t a b p q =
-    as_same a b (judged_once ColorText (OnlyFault faults.Color) t (always_once faults.Color t) a b p q)
-text_judged_once users kinds.Path t a b p q = as_same a b (path_once users t a b p q)
-text_judged_once users (kinds.Word list) t a b p q = words_once list t a b p q
+text_judged_once users kind t a b p q =
+    grind (arith, as_same, int_once, same_number, judged_once ColorText (OnlyFault faults.Color), path_once, words_once)
 
 comparison_once : (wanted : Option (Bor (List ℕ))) (kind : SettingKind) (t : List ℕ) (a b : Option Reason)
     → IsComparedTo wanted kind t a → IsComparedTo wanted kind t b → a ≡ b
-comparison_once None kind t a b p q = p ∙ sym q
-comparison_once (Some wanted) kind t None None p q = refl
-comparison_once (Some wanted) kind t None (Some (IsNot w)) p q = absurd (q.1 p)
-comparison_once (Some wanted) kind t None (Some _) p q = absurd q
-comparison_once (Some wanted) kind t (Some (IsNot v)) None p q = absurd (p.1 q)
-comparison_once (Some wanted) kind t (Some (IsNot v)) (Some (IsNot w)) p q = ap (λ x. Some (IsNot x)) (p.0 ∙ sym q.0)
-comparison_once (Some wanted) kind t (Some (IsNot v)) (Some _) p q = absurd q
-comparison_once (Some wanted) kind t (Some _) b p q = absurd p
+comparison_once wanted kind t a b p q = grind arith
 
 alone_once : (takes : Bool) (row : Row) (a b : Option Reason) → IsJudgedAlone takes row a → IsJudgedAlone takes row b → a ≡ b
-alone_once true row a b p q = comparison_once row.wanted row.kind (codes "true") a b p q
-alone_once false row a b p q = p ∙ sym q
+alone_once takes row a b p q = grind (arith, comparison_once)
 
 module _ (users : Option KnownUsers) (row : Row) where
   row_judged_once : (t : List ℕ) (a b : Option Reason) → IsJudgedByRow users row t a → IsJudgedByRow users row t b
       → IsSameFinding a b
   row_judged_once t a b (refused r p is) (refused s q also) =
-      subst (λ x. IsSameFinding x b) (sym is)
-      (subst (IsSameFinding (Some r)) (sym also) (text_judged_once users row.kind t (Some r) (Some s) p q))
+      rw (is, also) (text_judged_once users row.kind t (Some r) (Some s) p q)
   row_judged_once t a b (refused r p is) (taken q compared) =
       absurd (none_with r (text_judged_once users row.kind t (Some r) None p q))
   row_judged_once t a b (taken p compared) (refused s q also) =
@@ -216,61 +146,24 @@ module _ (users : Option KnownUsers) (row : Row) where
 module _ {V : Type 0} (grammar : List ℕ → V → Type 0) (canonical : List ℕ → Type 0) (t : List ℕ) where
   respelled_once : (a b : Option Reason) → IsRespelled grammar canonical t a → IsRespelled grammar canonical t b
       → IsSameFinding a b
-  respelled_once None None p q = refl
-  respelled_once None (Some (NotCanonical d)) p q = absurd (q.1 (text_once grammar canonical t d.bytes t q.0 p))
-  respelled_once None (Some _) p q = absurd q
-  respelled_once (Some (NotCanonical c)) None p q = absurd (p.1 (text_once grammar canonical t c.bytes t p.0 q))
-  respelled_once (Some (NotCanonical c)) (Some (NotCanonical d)) p q =
-      text_once grammar canonical t c.bytes d.bytes p.0 q.0
-  respelled_once (Some (NotCanonical c)) (Some _) p q = absurd q
-  respelled_once (Some _) b p q = absurd p
-
-boolean_once : (t : List ℕ) (a b : Option Reason) → IsRespelled BooleanText CanonicalBoolean t a
-    → IsRespelled BooleanText CanonicalBoolean t b → IsSameFinding a b
-boolean_once = respelled_once BooleanText CanonicalBoolean
-
-integer_once : (t : List ℕ) (a b : Option Reason) → IsRespelled IntegerText CanonicalInteger t a
-    → IsRespelled IntegerText CanonicalInteger t b → IsSameFinding a b
-integer_once = respelled_once IntegerText CanonicalInteger
+  respelled_once a b p q = grind (arith, text_once grammar canonical t)
 
 -- the first word of a list that matches a text
 module _ (list : WordList) (t : List ℕ) where
-  first_before : (v w : Bor (List ℕ)) (a : IsFirstWord list t v) (b : IsFirstWord list t w) → ¬ (a.place < b.place)
-  first_before v w a b before =
-      b.first a.place v (omega (arith, length-take {A = Bor (List ℕ)}, before, b.inside))
-      (subst (λ w. IsWord list t w.now) (sym (get_or-take b.place list.words.items a.place v before ∙ a.stands)) a.is_word)
+  as_first : (word : Bor (List ℕ)) → IsFirstWord list t word → IsFirst (λ w. IsWord list t w.now) list.words.items word
+  as_first word w = record { place = w.place; inside = w.inside; stands = w.stands; is = w.is_word; first = w.first }
 
   word_once : (v w : Bor (List ℕ)) → IsFirstWord list t v → IsFirstWord list t w → v ≡ w
-  word_once v w a b =
-      let p = first_before v w a b in let q = first_before w v b a in
-      let same : a.place ≡ b.place = omega (arith, p, q) in
-      sym a.stands ∙ ap (λ n. get_or list.words.items n v) same ∙ get_or_default list.words.items b.place v w b.inside ∙ b.stands
+  word_once v w a b = first_once (λ w. IsWord list t w.now) list.words.items v w (as_first v a) (as_first w b)
 
   as_word_once : (word : Bor (List ℕ)) (a b : Option Reason) → IsRespelledAs t word a → IsRespelledAs t word b
       → a ≡ b
-  as_word_once word None None p q = refl
-  as_word_once word None (Some (OtherCase w)) p q = elim p [
-    | inl same ↦ absurd (q.1 same)
-    | inr other ↦ absurd (other q.2)
-  ]
-  as_word_once word None (Some _) p q = absurd q
-  as_word_once word (Some (OtherCase v)) None p q = elim q [
-    | inl same ↦ absurd (p.1 same)
-    | inr other ↦ absurd (other p.2)
-  ]
-  as_word_once word (Some (OtherCase v)) (Some (OtherCase w)) p q =
-      ap (λ x. Some (OtherCase x)) (p.0 ∙ sym q.0)
-  as_word_once word (Some (OtherCase v)) (Some _) p q = absurd q
-  as_word_once word (Some _) b p q = absurd p
+  as_word_once word a b p q = grind arith
 
 form_once : (form : Form) (t : List ℕ) (a b : Option Reason) → IsRespelledByForm form t a → IsRespelledByForm form t b
     → IsSameFinding a b
-form_once forms.BoolOrWord t a b p q = boolean_once t a b p q
-form_once forms.IntOrWord t a b p q = integer_once t a b p q
-form_once forms.Word t a b p q = as_same a b (p ∙ sym q)
-form_once forms.Words t a b p q = as_same a b (p ∙ sym q)
-form_once forms.Date t a b p q = as_same a b (p ∙ sym q)
-form_once forms.SortKey t a b p q = as_same a b (p ∙ sym q)
+form_once form t a b p q =
+    grind (arith, as_same, respelled_once BooleanText CanonicalBoolean, respelled_once IntegerText CanonicalInteger)
 
 respelled_words_once : (list : WordList) (t : List ℕ) (a b : Option Reason) → IsRespelledByWords list t a
     → IsRespelledByWords list t b → IsSameFinding a b
@@ -283,17 +176,15 @@ respelled_words_once list t a b (inr p) (inr q) = form_once list.form t a b p.1 
 spelling_once : (kind : SettingKind) (value : Option (List ℕ)) (a b : Option Reason) → HasSpelling kind value a
     → HasSpelling kind value b → IsSameFinding a b
 spelling_once kind None a b p q = as_same a b (p ∙ sym q)
-spelling_once kinds.Text (Some t) a b p q = as_same a b (p ∙ sym q)
-spelling_once kinds.Bool (Some t) a b p q = boolean_once t a b p q
-spelling_once (kinds.Int low high) (Some t) a b p q = integer_once t a b p q
-spelling_once kinds.BoolOrInt (Some t) a b p q = elim (amount_decided t) [
-  | inl number ↦ integer_once t a b (p.number number) (q.number number)
-  | inr none ↦ boolean_once t a b (p.other none) (q.other none)
-]
-spelling_once kinds.Color (Some t) a b p q =
-    respelled_once ColorText CanonicalColor t a b p q
-spelling_once kinds.Path (Some t) a b p q = as_same a b (p ∙ sym q)
 spelling_once (kinds.Word list) (Some t) a b p q = respelled_words_once list t a b p q
+spelling_once kind (Some t) a b p q = grind (
+  arith,
+  as_same,
+  amount_decided t,
+  respelled_once BooleanText CanonicalBoolean t,
+  respelled_once IntegerText CanonicalInteger t,
+  respelled_once ColorText CanonicalColor t,
+)
 
 -- ---- the finding
 
@@ -305,35 +196,20 @@ remark_once None false kind value a b p q = as_same a b (p ∙ sym q)
 
 module _ (git : Version) (row : Row) where
   not_outside : IsOf git row → (reason : Reason) → ¬ (IsOutside git row reason)
-  not_outside is (TooNew since) out = is.since (since, out.0, out.1)
-  not_outside is (Gone until) out = out.1 (is.until until out.0)
-  not_outside is _ out = absurd out
+  not_outside is reason out = grind arith
 
   outside_once : (a b : Reason) → IsOutside git row a → IsOutside git row b → a ≡ b
-  outside_once (TooNew v) (TooNew w) p q =
-      let first = p.0 in let second = q.0 in cc
-  outside_once (TooNew v) (Gone w) p q = absurd (q.2 (v, p.0, p.1))
-  outside_once (TooNew v) _ p q = absurd q
-  outside_once (Gone v) (TooNew w) p q = absurd (p.2 (w, q.0, q.1))
-  outside_once (Gone v) (Gone w) p q =
-      let first = p.0 in let second = q.0 in cc
-  outside_once (Gone v) _ p q = absurd q
-  outside_once _ b p q = absurd p
+  outside_once a b p q = grind arith
 
 module _ (options : Options) (row : Row) where
   pub finding_once : (value : Option (List ℕ)) (a b : Option Reason)
       → HasFinding options row value a → HasFinding options row value b → IsSameFinding a b
-  finding_once value a b (outside r out is) (outside s also is') =
-      as_same a b (is ∙ ap (λ x. Some x) (outside_once options.git row r s out also) ∙ sym is')
-  finding_once value a b (outside r out is) (wrong of s judged is') = absurd (not_outside options.git row of r out)
-  finding_once value a b (outside r out is) (right of judged remark) = absurd (not_outside options.git row of r out)
-  finding_once value a b (wrong of r judged is) (outside s also is') = absurd (not_outside options.git row of s also)
+  finding_once value a b (outside r out is) q = grind (arith, as_same, outside_once options.git row, not_outside options.git row)
+  finding_once value a b p (outside r out is) = grind (arith, not_outside options.git row)
   finding_once value a b (wrong of r judged is) (wrong of' s judged' is') =
-      subst (λ x. IsSameFinding x b) (sym is)
-      (subst (IsSameFinding (Some r)) (sym is') (reason_once options.users row value (Some r) (Some s) judged judged'))
+      rw (is, is') (reason_once options.users row value (Some r) (Some s) judged judged')
   finding_once value a b (wrong of r judged is) (right of' judged' remark) =
       absurd (none_with r (reason_once options.users row value (Some r) None judged judged'))
-  finding_once value a b (right of judged remark) (outside s also is') = absurd (not_outside options.git row of s also)
   finding_once value a b (right of judged remark) (wrong of' s judged' is') =
       absurd (none_before s (reason_once options.users row value None (Some s) judged judged'))
   finding_once value a b (right of judged remark) (right of' judged' remark') =

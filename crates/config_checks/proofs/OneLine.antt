@@ -1,21 +1,14 @@
--- The JSON text of a finding is one line.
+-- The compact JSON text of any data is one line.
 use Rattle.std.proofs.Common.{◌≡◌, ◌≢◌, ◌<◌, ◌+◌, ◌/◌, ◌%◌, ◌++◌, ◌∷◌, [], ℕ, zero, suc, List, Bool, true, false, not}
-use Rattle.std.proofs.Common.{◌&&◌, ◌==◌, nat_eq, nat_lt, if◌then◌else◌, Option, None, Some, refl, sym, subst, arith, inl, inr}
+use Rattle.std.proofs.Common.{◌&&◌, ◌==◌, nat_eq, nat_lt, if◌then◌else◌, pos, negsuc, refl, sym, subst, arith, inl, inr}
 use Rattle.std.proofs.lemmas.Bool.{and_parts, cases_lt, cases_eq}
-use Rattle.std.specs.Bool.{⊤}
 use Rattle.std.specs.Fmt.{decimal, digits, digits_onto, digit_glyph}
-use Rattle.std.specs.Str.{is_utf8}
-use Rattle.std.specs.Str.Lossy.{utf8_lossy}
 use Rattle.json.specs.Print.{escape_byte, escape, quoted}
 use Rattle.json.proofs.Printed.Strings.{escape_byte_plain}
-use Rattle.base64.specs.Engines.{standard}
-use Rattle.base64.specs.GeneralPurpose.{encode_of}
-use Rattle.serde_json.specs.Data.{Data, null, string, object, Members, no_members, member}
-use Rattle.serde_json.specs.Written.{compact_text, comma_if, members_text}
-use Rattle.config_checks.specs.Findings.{Finding}
-use Rattle.config_checks.specs.Codes.{code_name}
-use Rattle.config_checks.specs.Json.{IsOneLine, finding_json, text_or_null, bytes_or_null, severity_name}
-use Rattle.config_checks.specs.Json.{identity, fingerprint_of}
+use Rattle.serde_json.specs.Data.{Data, null, boolean, number, string, array, object, Num, unsigned, negative, float}
+use Rattle.serde_json.specs.Data.{Items, no_items, item, Members, no_members, member}
+use Rattle.serde_json.specs.Written.{compact_text, comma_if, number_text, items_text, members_text}
+use Rattle.config_checks.specs.Json.{IsOneLine}
 
 join : (xs ys : List ℕ) → IsOneLine xs → IsOneLine ys → IsOneLine (xs ++ ys)
 join [] ys p q = q
@@ -63,12 +56,10 @@ in_quotes : (s : List ℕ) → IsOneLine (quoted s)
 in_quotes s = ((λ e. omega arith), join (escape s) (34 ∷ []) (escaped s) ((λ e. omega arith), tt))
 
 either : (b : Bool) (xs ys : List ℕ) → IsOneLine xs → IsOneLine ys → IsOneLine (if b then xs else ys)
-either true xs ys p q = p
-either false xs ys p q = q
+either b xs ys p q = grind arith
 
 glyph : (b : Bool) (x y : ℕ) → x ≢ 10 → y ≢ 10 → (if b then x else y) ≢ 10
-glyph true x y p q = p
-glyph false x y p q = q
+glyph b x y p q = grind arith
 
 one_digit : (d : ℕ) → digit_glyph false d ≢ 10
 one_digit d = glyph (nat_lt d 10) (48 + d) (87 + d) (λ e. omega arith) (λ e. omega arith)
@@ -84,71 +75,37 @@ in_digits : (n : ℕ) → IsOneLine (decimal n)
 unfolding digits
 in_digits n = more_digits 64 n [] tt
 
-text_or_none : (t : Option (List ℕ)) → IsOneLine (compact_text (text_or_null t))
-text_or_none None = one_line (compact_text (text_or_null None)) refl
-text_or_none (Some t) = in_quotes _
-
-coded : (is : Bool) (t : List ℕ) → IsOneLine (compact_text (if is then null else string (encode_of standard t)))
-coded true t = text_or_none None
-coded false t = in_quotes _
-
-bytes_or_none : (t : Option (List ℕ)) → IsOneLine (compact_text (bytes_or_null t))
-bytes_or_none None = text_or_none None
-bytes_or_none (Some t) = coded (is_utf8 t) t
-
-abbrev AreOneLine : Members → Type 0
-AreOneLine no_members = ⊤
-AreOneLine (member key d members) = IsOneLine (compact_text d) × AreOneLine members
+in_number : (n : Num) → IsOneLine (number_text n)
+in_number (unsigned n) = in_digits n
+in_number (negative (pos n)) = in_digits n
+in_number (negative (negsuc n)) = ((λ e. omega arith), in_digits (suc n))
+in_number (float x) = tt
 
 comma : (later : Bool) → IsOneLine (comma_if later)
 comma true = one_line (44 ∷ []) refl
 comma false = tt
 
-in_braces : (later : Bool) (members : Members) → AreOneLine members → IsOneLine (members_text later members)
-in_braces later no_members are = one_line (125 ∷ []) refl
-in_braces later (member key d members) are =
-    join (comma_if later) (quoted key ++ 58 ∷ (compact_text d ++ members_text true members)) (comma later)
-    (join (quoted key) (58 ∷ (compact_text d ++ members_text true members)) (in_quotes key) (
-      (λ e. omega arith),
-      join (compact_text d) (members_text true members) are.0 (in_braces true members are.1),
-    ))
+mutual
+  pub data_one_line : (d : Data) → IsOneLine (compact_text d)
+  data_one_line null = one_line (compact_text null) refl
+  data_one_line (boolean true) = one_line (compact_text (boolean true)) refl
+  data_one_line (boolean false) = one_line (compact_text (boolean false)) refl
+  data_one_line (number n) = in_number n
+  data_one_line (string s) = in_quotes s
+  data_one_line (array items) = ((λ e. omega arith), in_brackets false items)
+  data_one_line (object members) = ((λ e. omega arith), in_braces false members)
 
-abbrev members_of : Data → Members
-members_of (object members) = members
-members_of _ = no_members
+  in_brackets : (later : Bool) (items : Items) → IsOneLine (items_text later items)
+  in_brackets later no_items = one_line (93 ∷ []) refl
+  in_brackets later (item d items) =
+      join (comma_if later) (compact_text d ++ items_text true items) (comma later)
+      (join (compact_text d) (items_text true items) (data_one_line d) (in_brackets true items))
 
-pub finding_one_line : (column equal : ℕ) (f : Finding) → IsOneLine (compact_text (finding_json column equal f))
-finding_one_line column equal f = (
-  (λ e. omega arith),
-  in_braces false (members_of (finding_json column equal f)) (
-    in_quotes (code_name f.code),
-    (
-      in_digits column,
-      (
-        in_quotes f.file,
-        (
-          in_quotes (fingerprint_of (identity equal f)),
-          (
-            text_or_none f.key,
-            (
-              bytes_or_none f.key,
-              (
-                in_digits f.line,
-                (
-                  in_quotes (utf8_lossy f.reason),
-                  (
-                    in_quotes (severity_name f.severity),
-                    (
-                      text_or_none f.suggested_key,
-                      (text_or_none f.suggested_value, (text_or_none f.value, (bytes_or_none f.value, tt))),
-                    ),
-                  ),
-                ),
-              ),
-            ),
-          ),
-        ),
-      ),
-    ),
-  ),
-)
+  in_braces : (later : Bool) (members : Members) → IsOneLine (members_text later members)
+  in_braces later no_members = one_line (125 ∷ []) refl
+  in_braces later (member key d members) =
+      join (comma_if later) (quoted key ++ 58 ∷ (compact_text d ++ members_text true members)) (comma later)
+      (join (quoted key) (58 ∷ (compact_text d ++ members_text true members)) (in_quotes key) (
+        (λ e. omega arith),
+        join (compact_text d) (members_text true members) (data_one_line d) (in_braces true members),
+      ))

@@ -1,5 +1,5 @@
 -- For an unknown key at most one key is suggested.
-use Rattle.std.proofs.Common.{◌≡◌, ℕ, List, Option, None, Some, inl, inr, refl, sym, ap, subst, ◌∙◌, codes}
+use Rattle.std.proofs.Common.{arith, ◌≡◌, ℕ, List, Option, None, Some, refl, sym, ap, subst, ◌∙◌}
 use Rattle.config_file.specs.Key.{Key}
 use Rattle.config_file.specs.KeyView.{key_of}
 use Rattle.config_file.proofs.OneKey.{cut_same, cut_has_dot, same_parts}
@@ -10,25 +10,17 @@ use Rattle.config_checks.specs.Suggestions.{Fills, FillsSubsection, FillsKey, Is
 use Rattle.config_checks.specs.Suggestions.{IsMovedRow, IsElsewhere, IsNowhere, IsSuggested}
 use Rattle.config_checks.specs.Suggestions.IsSuggested.{near, moved}
 use Rattle.config_checks.specs.Suggestions.IsPassed.{no_dot, foreign}
-use Rattle.config_checks.proofs.RunLemmas.{such_once, no_such}
+use Rattle.config_checks.proofs.FirstLemmas.{first_once, not_none}
+use Rattle.config_checks.proofs.RunLemmas.{such_first}
 use Rattle.config_checks.proofs.NearestLemmas.{nearest_once, no_far}
 
 -- ---- the parts of a key that is suggested
 
 filled_once : (row part x y : List ℕ) → Fills row part x → Fills row part y → x ≡ y
-filled_once row part x y (inl p) (inl q) = p.1 ∙ sym q.1
-filled_once row part x y (inl p) (inr q) = absurd (q.0 p.0)
-filled_once row part x y (inr p) (inl q) = absurd (p.0 q.0)
-filled_once row part x y (inr p) (inr q) = p.1 ∙ sym q.1
+filled_once row part x y p q = grind arith
 
 subsection_once : (row part x y : Option (List ℕ)) → FillsSubsection row part x → FillsSubsection row part y → x ≡ y
-subsection_once None part x y p q = p ∙ sym q
-subsection_once (Some row) None None y p q = absurd p
-subsection_once (Some row) None (Some x) None p q = absurd q
-subsection_once (Some row) None (Some x) (Some y) p q = ap Some (filled_once row (codes "NAME") x y p q)
-subsection_once (Some row) (Some part) None y p q = absurd p
-subsection_once (Some row) (Some part) (Some x) None p q = absurd q
-subsection_once (Some row) (Some part) (Some x) (Some y) p q = ap Some (filled_once row part x y p q)
+subsection_once row part x y p q = grind (arith, filled_once)
 
 key_once : (row key x y : Key) → FillsKey row key x → FillsKey row key y → x ≡ y
 key_once row key x y p q =
@@ -40,18 +32,15 @@ key_once row key x y p q =
 
 module _ (rows : List Row) where
   not_nowhere : (key : Key) (row : Row) → IsElsewhere rows key row → ¬ (IsNowhere rows key)
-  not_nowhere key row (has, first) (inl none) = none has
-  not_nowhere key row (has, first) (inr none) = no_such (IsMovedRow key) rows row first none
+  not_nowhere key row is none = grind (arith, not_none (IsMovedRow key) rows, such_first)
 
   not_suggested : (key : Key) (row : Row) → IsSuggested rows key row → AreFar (RowEdits key) rows → ¬ (IsNowhere rows key)
   not_suggested key row (near is) far none = no_far (RowEdits key) rows row is far
   not_suggested key row (moved far is) also none = not_nowhere key row is none
 
   row_suggested : (key : Key) (x y : Row) → IsSuggested rows key x → IsSuggested rows key y → x ≡ y
-  row_suggested key x y (near is) (near also) = nearest_once (RowEdits key) rows x y is also
-  row_suggested key x y (near is) (moved far also) = absurd (no_far (RowEdits key) rows x is far)
-  row_suggested key x y (moved far is) (near also) = absurd (no_far (RowEdits key) rows y also far)
-  row_suggested key x y (moved far is) (moved far' also) = such_once (IsMovedRow key) rows x y is.1 also.1
+  row_suggested key x y is also =
+      grind (arith, nearest_once (RowEdits key) rows, no_far (RowEdits key) rows, first_once (IsMovedRow key) rows, such_first)
 
   suggested_once : (key : Key) (x y : Option Key) → Suggests rows key x → Suggests rows key y → x ≡ y
   suggested_once key None None p q = refl

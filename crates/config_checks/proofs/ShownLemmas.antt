@@ -13,8 +13,7 @@ shown_past_drop (suc n) [] = refl
 shown_past_drop (suc n) (b ∷ bs) = shown_past_drop n bs
 
 drop_one_less : (n : ℕ) (b : ℕ) (bs : List ℕ) → 1 ≤ n → drop (n - 1) bs ≡ drop n (b ∷ bs)
-drop_one_less zero b bs some = absurd (omega arith)
-drop_one_less (suc n) b bs some = ap (λ k. drop k bs) (omega arith)
+drop_one_less n b bs some = grind arith
 
 -- a text is shown as its first piece, followed by the rest
 pub shown_front : (t : List ℕ) → 0 < length t

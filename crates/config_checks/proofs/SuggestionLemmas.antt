@@ -1,23 +1,21 @@
 -- The edits between the keys of rows and a key.
-use Rattle.std.proofs.Common.{◌≡◌, ◌<◌, ◌≤◌, ℕ, zero, suc, Result, Ok, Err, IfOk, List, [], ◌∷◌, Option, None, Some, MatchOption}
-use Rattle.std.proofs.Common.{◌∙◌, sym, ap, subst, arith, length, get_or, nat_eq, nat_lt, Bool, IsTrue, ◌↔◌, codes, ◌||◌, if◌then◌else◌}
+use Rattle.std.proofs.Common.{◌≡◌, ◌<◌, ℕ, zero, suc, Result, Ok, Err, IfOk, List, [], ◌∷◌, Option, None, Some, MatchOption}
+use Rattle.std.proofs.Common.{◌∙◌, sym, ap, subst, arith, length, get_or, Bool, IsTrue, ◌↔◌, codes}
 use Rattle.std.proofs.lemmas.List.{length-map}
 use Rattle.std.specs.Char.{to_ascii_lowercase}
 use Rattle.std.specs.List.{AllZip}
-use Rattle.strsim.specs.Edits.{levenshtein_row}
 use Rattle.config_file.specs.KeyView.{key_of}
 use Rattle.config_checks.specs.declared.row.Row.{Row}
 use Rattle.config_checks.specs.declared.row.Run.{Run}
 use Rattle.config_checks.specs.declared.suggestion.Relation.{Relation}
 use Rattle.config_checks.specs.declared.suggestion.Relation.TheVariants as relations
-use Rattle.config_checks.specs.Nearest.{Edits, IsSwap, lower, AreFar}
+use Rattle.config_checks.specs.Nearest.{Edits, AreFar}
 use Rattle.config_checks.specs.Nearest.Edits.{swapped, counted}
 use Rattle.config_checks.specs.Reading.Steps.{IsFew, IsRelation}
 use Rattle.config_text.specs.SameWord.{SameWord}
 use Rattle.config_file.specs.Key.{Key, IsCut}
 use Rattle.config_checks.specs.Keys.{CoversSubsection, CoversName}
 use Rattle.config_checks.specs.Suggestions.{NameEdits, EditsAfter, OnePartEdits, RowEdits, SectionEdits, SubsectionEdits, HasSlots, IsOwn}
-use Rattle.config_checks.specs.Suggestions.NameEdits.{few, by_run}
 use Rattle.config_checks.specs.Suggestions.EditsAfter.{in_name, in_subsection}
 use Rattle.config_checks.specs.Suggestions.IsOwn.{alone, slot}
 use Rattle.config_checks.specs.Suggestions.IsPassed.{foreign}
@@ -27,46 +25,40 @@ use Rattle.config_checks.specs.Rows.{IsUnknown}
 use Rattle.config_checks.specs.Suggestions.OnePartEdits.{in_rest, in_section}
 use Rattle.config_checks.proofs.NearestLemmas.{one_count}
 
-none_after : (row key : Key) → SameWord row.section key.section → ((n : ℕ) → EditsAfter row key n → 3 < n)
-    → (n : ℕ) → OnePartEdits row key n → 3 < n
-none_after row key same none n (in_rest s edits) = none n edits
-none_after row key same none n (in_section other b l is) = absurd (other same)
+-- few edits of one kind are few edits of another, if they are the same
+few_of : {E : Type 0} (P Q : ℕ → Type 0) → ((n : ℕ) → P n → Q n) → ((n : ℕ) → Q n → P n) → (r : Result (Option ℕ) E)
+    → IfOk r (λ r. IsFew P r) → IfOk r (λ r. IsFew Q r)
+few_of P Q to from (Ok None) none = λ n also. none n (from n also)
+few_of P Q to from (Ok (Some n)) edits = (to n edits.0, edits.1)
+few_of P Q to from (Err e) is = tt
 
--- if the sections are the same, the edits are those after the section
-pub of_section : {E : Type 0} (row key : Key) → SameWord row.section key.section
-    → (r : Result (Option ℕ) E) → IfOk r (λ r. IsFew (EditsAfter row key) r)
-    → IfOk r (λ r. IsFew (OnePartEdits row key) r)
-of_section row key same (Ok None) none = none_after row key same none
-of_section row key same (Ok (Some n)) edits = (in_rest same edits.0, edits.1)
-of_section row key same (Err e) is = tt
+abbrev OfSubsection : Key → Key → ℕ → Type 0
+OfSubsection row key = SubsectionEdits (SameWord row.name key.name) row.subsection key.subsection
 
--- if the subsection is covered, the edits after the section are those of the name
-many_after : (row key : Key) → CoversSubsection row.subsection key.subsection → ((n : ℕ) → NameEdits row key n → 3 < n)
-    → (n : ℕ) → EditsAfter row key n → 3 < n
-many_after row key covers many n (in_name c not is) = many n is
-many_after row key covers many n (in_subsection not c is) = absurd (not covers)
+module _ {E : Type 0} (row key : Key) where
+  -- if the sections are the same, the edits are those after the section
+  pub of_section : SameWord row.section key.section → (r : Result (Option ℕ) E) → IfOk r (λ r. IsFew (EditsAfter row key) r)
+      → IfOk r (λ r. IsFew (OnePartEdits row key) r)
+  of_section same = few_of (EditsAfter row key) (OnePartEdits row key) (λ n. in_rest same) (λ n edits. elim edits [
+    | in_rest s is ↦ is
+    | in_section other b l is ↦ absurd (other same)
+  ])
 
-pub of_name : {E : Type 0} (row key : Key) → CoversSubsection row.subsection key.subsection → ¬ (CoversName row.name key.name)
-    → (r : Result (Option ℕ) E) → IfOk r (λ r. IsFew (NameEdits row key) r) → IfOk r (λ r. IsFew (EditsAfter row key) r)
-of_name row key covers not (Ok None) many = many_after row key covers many
-of_name row key covers not (Ok (Some n)) edits = (in_name covers not edits.0, edits.1)
-of_name row key covers not (Err e) is = tt
+  -- if the subsection is covered, the edits after the section are those of the name
+  pub of_name : CoversSubsection row.subsection key.subsection → ¬ (CoversName row.name key.name) → (r : Result (Option ℕ) E)
+      → IfOk r (λ r. IsFew (NameEdits row key) r) → IfOk r (λ r. IsFew (EditsAfter row key) r)
+  of_name covers not = few_of (NameEdits row key) (EditsAfter row key) (λ n. in_name covers not) (λ n edits. elim edits [
+    | in_name c d is ↦ is
+    | in_subsection other c is ↦ absurd (other covers)
+  ])
 
--- if the name is covered, the edits after the section are those of the subsection
-many_before : (row key : Key) → CoversName row.name key.name
-    → ((n : ℕ) → SubsectionEdits (SameWord row.name key.name) row.subsection key.subsection n → 3 < n)
-    → (n : ℕ) → EditsAfter row key n → 3 < n
-many_before row key covers many n (in_name c not is) = absurd (not covers)
-many_before row key covers many n (in_subsection not c is) = many n is
-
-pub of_subsection : {E : Type 0} (row key : Key) → ¬ (CoversSubsection row.subsection key.subsection)
-    → CoversName row.name key.name
-    → (r : Result (Option ℕ) E)
-    → IfOk r (λ r. IsFew (SubsectionEdits (SameWord row.name key.name) row.subsection key.subsection) r)
-    → IfOk r (λ r. IsFew (EditsAfter row key) r)
-of_subsection row key not covers (Ok None) many = many_before row key covers many
-of_subsection row key not covers (Ok (Some n)) edits = (in_subsection not covers edits.0, edits.1)
-of_subsection row key not covers (Err e) is = tt
+  -- if the name is covered, the edits after the section are those of the subsection
+  pub of_subsection : ¬ (CoversSubsection row.subsection key.subsection) → CoversName row.name key.name
+      → (r : Result (Option ℕ) E) → IfOk r (λ r. IsFew (OfSubsection row key) r) → IfOk r (λ r. IsFew (EditsAfter row key) r)
+  of_subsection not covers = few_of (OfSubsection row key) (EditsAfter row key) (λ n. in_subsection not covers) (λ n edits. elim edits [
+    | in_name c other is ↦ absurd (other covers)
+    | in_subsection c d is ↦ is
+  ])
 
 -- ---- how sections are related
 
@@ -74,16 +66,11 @@ same_length : (a b : List ℕ) → SameWord a b → length a ≡ length b
 same_length a b same = sym (length-map a to_ascii_lowercase) ∙ ap length same ∙ length-map b to_ascii_lowercase
 
 same_edits : (a b c : List ℕ) (n : ℕ) → SameWord a b → Edits b c n → Edits a c n
-same_edits a b c n same (swapped swap is) = swapped (subst (λ l. IsSwap l (lower c)) (sym same) swap) is
-same_edits a b c n same (counted not is) =
-    counted (λ swap. not (subst (λ l. IsSwap l (lower c)) same swap))
-    (is ∙ ap (λ l. levenshtein_row nat_eq l (lower c) (length (lower c))) (sym same))
+same_edits a b c n same (swapped swap is) = swapped (rw same swap) is
+same_edits a b c n same (counted not is) = counted (rw same not) (rw same is)
 
 same_few : (a b c : List ℕ) (n : ℕ) → SameWord a b → SectionEdits b c n → SectionEdits a c n
-same_few a b c n same edits = (
-  same_edits a b c n same edits.0,
-  subst (λ l. n ≤ (if nat_lt l 8 || nat_lt (length c) 8 then 1 else 2)) (sym (same_length a b same)) edits.1,
-)
+same_few a b c n same edits = (same_edits a b c n same edits.0, rw (same_length a b same) edits.1)
 
 -- sections of the same word are related alike
 pub same_relation : (a b c : List ℕ) (r : Relation) → SameWord a b → IsRelation b c r → IsRelation a c r
@@ -106,7 +93,7 @@ pub near_if : (row key : Key) (n : ℕ) → IsRelation row.section key.section (
     → IsFew (OnePartEdits row key) r
 near_if row key n is None not = uncovered row key n is not
 near_if row key n is (Some m) (subsection, name, same) =
-    subst (λ m. IsFew (OnePartEdits row key) (Some m)) (sym same) (in_section is.0 subsection name is.1.0, is.1.1)
+    rw same (in_section is.0 subsection name is.1.0, is.1.1)
 
 pub of_far : (row key : Key) → IsRelation row.section key.section relations.Far → IsFew (OnePartEdits row key) None
 of_far row key is n (in_rest same edits) = absurd (is.0 same)
@@ -132,7 +119,7 @@ zipped_at R (a ∷ xs) (b ∷ ys) all (suc i) x d inside is = zipped_at R xs ys 
 
 slots_of : (rows : List Row) (key : Key) (t : List ℕ) → key.subsection ≡ Some t → IsOwn rows key → HasSlots rows t
 slots_of rows key t is (alone none not has) = absurd (cc)
-slots_of rows key t is (slot u also same has) = let one : u ≡ t = cc in subst (HasSlots rows) one has
+slots_of rows key t is (slot u also same has) = let one : u ≡ t = cc in rw one at has
 
 -- a key with a subsection
 pub own_slot : (rows : List Row) (key : Key) (t : List ℕ) (b : Bool) → key.subsection ≡ Some t
@@ -157,27 +144,13 @@ of_text rows t key cut unknown (Ok r) is = of_key rows t key cut unknown r is
 -- ---- there is at most one number of edits
 
 one_subsection : (S : Type 0) (a b : Option (List ℕ)) (m n : ℕ) → SubsectionEdits S a b m → SubsectionEdits S a b n → m ≡ n
-one_subsection S None None m n is also = absurd is
-one_subsection S None (Some b) m n is also = is.1 ∙ sym also.1
-one_subsection S (Some a) None m n is also = is.1 ∙ sym also.1
-one_subsection S (Some a) (Some b) m n is also = one_count a b m n is.0 also.0
+one_subsection S a b m n is also = grind (arith, one_count)
 
 one_name : (row key : Key) (m n : ℕ) → NameEdits row key m → NameEdits row key n → m ≡ n
-one_name row key m n (few is) (few also) = one_count row.name key.name m n is.0 also.0
-one_name row key m n (few is) (by_run none absent lacks also) = absurd (none m is)
-one_name row key m n (by_run none absent lacks is) (few also) = absurd (none n also)
-one_name row key m n (by_run none absent lacks is) (by_run none' absent' lacks' also) = is ∙ sym also
+one_name row key m n is also = grind (arith, one_count)
 
 one_after : (row key : Key) (m n : ℕ) → EditsAfter row key m → EditsAfter row key n → m ≡ n
-one_after row key m n (in_name covers not is) (in_name c d also) = one_name row key m n is also
-one_after row key m n (in_name covers not is) (in_subsection not' c also) = absurd (not' covers)
-one_after row key m n (in_subsection not covers is) (in_name c d also) = absurd (not c)
-one_after row key m n (in_subsection not covers is) (in_subsection c d also) =
-    one_subsection (SameWord row.name key.name) row.subsection key.subsection m n is also
+one_after row key m n is also = grind (arith, one_name, one_subsection)
 
 pub one_number : (row key : Key) (m n : ℕ) → OnePartEdits row key m → OnePartEdits row key n → m ≡ n
-one_number row key m n (in_rest s is) (in_rest t also) = one_after row key m n is also
-one_number row key m n (in_rest s is) (in_section other b l also) = absurd (other s)
-one_number row key m n (in_section other b l is) (in_rest t also) = absurd (other t)
-one_number row key m n (in_section other b l is) (in_section o c d also) =
-    one_count row.section key.section m n is.0 also.0
+one_number row key m n is also = grind (arith, one_after, one_count)

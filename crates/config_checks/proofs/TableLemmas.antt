@@ -1,8 +1,8 @@
 -- The rows of a text, line by line.
 use Rattle.std.proofs.Common.{◌≡◌, ◌<◌, ◌+◌, ◌++◌, ℕ, List, [], ◌∷◌, length, map, take, drop, get_or, Bor}
-use Rattle.std.proofs.Common.{Bool, true, false, cond, All, suc}
-use Rattle.std.proofs.Common.{refl, sym, ap, subst, ◌∙◌, take-append-drop}
-use Rattle.std.proofs.lemmas.List.{at_drop_more, length-map}
+use Rattle.std.proofs.Common.{Bool, true, false, All, suc}
+use Rattle.std.proofs.Common.{refl, sym, ap, ◌∙◌, take-append-drop}
+use Rattle.std.proofs.lemmas.List.{append-nil, at_drop_more, length-map}
 use mathlib.Core.List.{map-append}
 use denote.Param.Members.{Mut}
 use Rattle.std.specs.Fn.{CalledAt}
@@ -17,8 +17,7 @@ use Rattle.std.proofs.Common.{arith}
 use Rattle.config_file.specs.Key.{Key, IsCut}
 use Rattle.config_checks.specs.declared.row.Row.{Row}
 use Rattle.config_checks.specs.declared.table.RowFault.{RowFault}
-use Rattle.config_checks.specs.declared.table.RowFault.TheVariants.{NoKind, NoKey, UnknownKind, NoWords, Words, Bounds, NotInOrder}
-use Rattle.config_checks.specs.declared.table.RowFault.TheVariants.{NoVersion, Unwanted, Memory}
+use Rattle.config_checks.specs.declared.table.RowFault.TheVariants.{NoVersion}
 use Rattle.config_checks.specs.declared.table.BadRow.{BadRow}
 use Rattle.config_checks.specs.declared.table.Marks.{Marks}
 use Rattle.config_checks.specs.Rows.{lines_of, fields_of, is_no_comment, HasMarks, HasBadVersion, IsBadKind, IsBadRow, IsBadLine, AddsRow, AddsRows}
@@ -37,7 +36,7 @@ now = map (λ line. line.now)
 
 one_more : (lines : List (List ℕ)) (line : List ℕ) (a b c : List Row) → AddsRows lines a b → AddsRow line b c
     → AddsRows (lines ++ line ∷ []) a c
-one_more [] line a b c same adds = (c, subst (λ rows. AddsRow line rows c) same adds, refl)
+one_more [] line a b c same adds = (c, rw same at adds, refl)
 one_more (first ∷ lines) line a b c so_far adds =
     (so_far.0, so_far.1, one_more lines line so_far.0 b c so_far.2 adds)
 
@@ -45,8 +44,7 @@ pub more_rows : (lines : List (Bor (List ℕ))) (line : Bor (List ℕ)) (a b c :
     → AddsRows (now lines) a b
     → AddsRow line.now b c → AddsRows (now (lines ++ line ∷ [])) a c
 more_rows lines line a b c so_far adds =
-    subst (λ all. AddsRows all a c) (sym (map-append (λ line. line.now) lines (line ∷ [])))
-    (one_more (now lines) line.now a b c so_far adds)
+    rw map-append (one_more (now lines) line.now a b c so_far adds)
 
 -- the texts are those before a place, that at the place, and those behind it
 parts_at : (all : List (List ℕ)) (before : List (Bor (List ℕ))) (here : Bor (List ℕ))
@@ -80,27 +78,13 @@ bad_line text lines line bad rows rows' before here numbered added fault =
 pub bad_kind : (fields marked : List (List ℕ)) (key name : List ℕ) (words : List (List ℕ)) (k : Key) (m : Marks)
     (fault : RowFault) → fields ≡ key ∷ marked → IsCut key k → HasMarks marked m (name ∷ words)
     → IsBadKind name words fault → IsBadRow fields fault
-bad_kind fields marked key name words k m NoKind parts is marks bad = absurd bad
-bad_kind fields marked key name words k m NoKey parts is marks bad = absurd bad
-bad_kind fields marked key name words k m NoVersion parts is marks bad = absurd bad
-bad_kind fields marked key name words k m Unwanted parts is marks bad = absurd bad
-bad_kind fields marked key name words k m (UnknownKind shown) parts is marks bad =
-    (key, marked, parts, (k, is), m, name, words, marks, bad)
-bad_kind fields marked key name words k m NoWords parts is marks bad =
-    (key, marked, parts, (k, is), m, name, words, marks, bad)
-bad_kind fields marked key name words k m (Words word) parts is marks bad =
-    (key, marked, parts, (k, is), m, name, words, marks, bad)
-bad_kind fields marked key name words k m Bounds parts is marks bad =
-    (key, marked, parts, (k, is), m, name, words, marks, bad)
-bad_kind fields marked key name words k m NotInOrder parts is marks bad =
-    (key, marked, parts, (k, is), m, name, words, marks, bad)
-bad_kind fields marked key name words k m (Memory e) parts is marks bad = tt
+bad_kind fields marked key name words k m fault parts is marks bad = grind arith
 
 -- the fields have a key, but a bad version follows it
 pub bad_version : (fields marked : List (List ℕ)) (key : List ℕ) (k : Key) (fault : RowFault) → fields ≡ key ∷ marked
     → IsCut key k → (fault ≡ NoVersion) × HasBadVersion marked → IsBadRow fields fault
 bad_version fields marked key k fault parts is bad =
-    subst (IsBadRow fields) (sym bad.0) (key, marked, parts, (k, is), bad.1)
+    rw bad.0 (key, marked, parts, (k, is), bad.1)
 
 -- ---- fields, up to a comment
 
@@ -108,16 +92,12 @@ bad_version fields marked key k fault parts is bad =
 abbrev pub IsNoComment : List ℕ → Type 0
 IsNoComment piece = is_no_comment piece ≡ true
 
--- the pieces before a comment are those that count
-pub up_to_comment : (pieces rest : List (List ℕ)) (piece : List ℕ) → All IsNoComment pieces
-    → is_no_comment piece ≡ false → take_while is_no_comment (pieces ++ piece ∷ rest) ≡ pieces
-up_to_comment [] rest piece before comment =
-    take_while-cons is_no_comment piece rest
-    ∙ ap (λ b. cond b (piece ∷ take_while is_no_comment rest) []) comment
-up_to_comment (first ∷ pieces) rest piece before comment =
-    take_while-cons is_no_comment first (pieces ++ piece ∷ rest)
-    ∙ ap (λ b. cond b (first ∷ take_while is_no_comment (pieces ++ piece ∷ rest)) []) (before 0 first (omega arith))
-    ∙ ap (λ l. first ∷ l) (up_to_comment pieces rest piece (λ k d inside. before (suc k) d (omega (arith, inside))) comment)
+take_while_append : (pieces rest : List (List ℕ)) → All IsNoComment pieces
+    → take_while is_no_comment (pieces ++ rest) ≡ pieces ++ take_while is_no_comment rest
+take_while_append [] rest before = refl
+take_while_append (first ∷ pieces) rest before =
+    let later = take_while_append pieces rest (λ k d inside. before (suc k) d (omega (arith, inside))) in
+    rw (take_while-cons, before 0 first (omega arith)) (ap (λ l. first ∷ l) later)
 
 -- the piece after these pieces begins a comment
 pub comment_ends : (all : List (List ℕ)) (pieces : List (Bor (List ℕ))) (piece : Bor (List ℕ))
@@ -125,13 +105,12 @@ pub comment_ends : (all : List (List ℕ)) (pieces : List (Bor (List ℕ))) (pie
     → (length pieces < length all) × (piece.now ≡ get_or all (length pieces) piece.now)
     → All IsNoComment (now pieces) → is_no_comment piece.now ≡ false → take_while is_no_comment all ≡ now pieces
 comment_ends all pieces piece first here before comment =
+    let rest = drop (length pieces + 1) all in
+    let ends : take_while is_no_comment (piece.now ∷ rest) ≡ [] = rw (take_while-cons, comment) in
     ap (take_while is_no_comment) (parts_at all pieces piece first here)
-    ∙ up_to_comment (now pieces) (drop (length pieces + 1) all) piece.now before comment
+    ∙ take_while_append (now pieces) (piece.now ∷ rest) before ∙ ap (λ l. now pieces ++ l) ends ∙ append-nil (now pieces)
 
 -- without a comment all pieces count
 pub without_comment : (pieces : List (List ℕ)) → All IsNoComment pieces → take_while is_no_comment pieces ≡ pieces
-without_comment [] before = refl
-without_comment (first ∷ pieces) before =
-    take_while-cons is_no_comment first pieces
-    ∙ ap (λ b. cond b (first ∷ take_while is_no_comment pieces) []) (before 0 first (omega arith))
-    ∙ ap (λ l. first ∷ l) (without_comment pieces (λ k d inside. before (suc k) d (omega (arith, inside))))
+without_comment pieces before =
+    ap (take_while is_no_comment) (sym (append-nil pieces)) ∙ take_while_append pieces [] before ∙ append-nil pieces

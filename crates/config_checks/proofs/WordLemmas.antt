@@ -3,7 +3,7 @@ use Rattle.std.proofs.Common.{◌≡◌, ◌∙◌, ◌<◌, ℕ, List, [], ◌�
 use Rattle.std.proofs.lemmas.List.{append_cancel_right, take_more}
 use Rattle.std.proofs.lemmas.List.Elements.{All-push}
 use mathlib.Core.List.{map-append}
-use Rattle.std.proofs.Common.{MatchOption, Option, None, Some, option_copied}
+use Rattle.std.proofs.Common.{MatchOption, arith, Option, option_copied}
 use Rattle.config_checks.specs.Nearest.{AreFar, IsNearest}
 use Rattle.config_checks.specs.Reasons.{WordEdits, IsMeant}
 use Rattle.config_checks.proofs.NearestLemmas.{one_count}
@@ -48,5 +48,4 @@ one_number t word m n p q = one_count word.now t m n p.edits.0 q.edits.0
 pub meant_of : (words : List (Bor (List ℕ))) (t : List ℕ) (best : Option (Bor (Bor (List ℕ))))
     → MatchOption best (AreFar (WordEdits t) words) (λ word. IsNearest (WordEdits t) words word.now)
     → IsMeant words t (option_copied best)
-meant_of words t None far = far
-meant_of words t (Some word) near = near
+meant_of words t best is = grind arith

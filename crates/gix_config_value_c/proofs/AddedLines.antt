@@ -1,5 +1,5 @@
 -- The lines that are added to no text are the whole text.
-use Rattle.std.proofs.Common.{◌≡◌, List, ℕ, [], ◌∷◌, ◌++◌, sym, ap, subst, ◌∙◌}
+use Rattle.std.proofs.Common.{◌≡◌, List, ℕ, [], ◌∷◌, ◌++◌}
 use Rattle.config_file.specs.Command.{Accepts, AddsSettings, KeyValue, SettingsOf}
 
 pub alone : (setting : KeyValue) (old new text : List ℕ) → old ≡ [] → text ≡ new
@@ -7,7 +7,7 @@ pub alone : (setting : KeyValue) (old new text : List ℕ) → old ≡ [] → te
     → Accepts setting × AddsSettings text (setting ∷ [])
 alone setting old new text empty same (accepts, (line, adds, added)) = (
   accepts,
-  subst (λ lines. AddsSettings lines (setting ∷ [])) (sym (same ∙ (added ∙ ap (λ o. o ++ line) empty))) adds,
+  rw (same, added, empty) adds,
 )
 
 pub all_alone : (parameters old new text : List ℕ) → old ≡ [] → text ≡ new
@@ -17,5 +17,5 @@ pub all_alone : (parameters old new text : List ℕ) → old ≡ [] → text ≡
 all_alone parameters old new text empty same (settings, has, (lines, adds, added)) = (
   settings,
   has,
-  subst (λ lines. AddsSettings lines settings) (sym (same ∙ (added ∙ ap (λ o. o ++ lines) empty))) adds,
+  rw (same, added, empty) adds,
 )

@@ -1,6 +1,5 @@
 -- The roles of entries, by their sections.
-use Rattle.std.proofs.Common.{◌≡◌, ℕ, List, Option, None, Some, Bool, codes, map, sym, ap, ◌∙◌, subst}
-use Rattle.std.proofs.lemmas.Option.{same_Some, none-some}
+use Rattle.std.proofs.Common.{arith, ◌≡◌, ℕ, List, Option, None, Some, Bool, codes, map}
 use Rattle.std.specs.Char.{to_ascii_lowercase}
 use Rattle.config_file.specs.File.{Entry}
 use Rattle.config_file.specs.Include.{SpellsCondition, IsRemoteUrl}
@@ -12,27 +11,22 @@ use Rattle.gix_config_value_c.specs.declared.roles.Role.TheVariants.{Plain}
 
 -- an entry before the first header
 pub no_section : (entry : Entry) → ¬ (IsRemoteUrl entry) → entry.section ≡ None → HasRole entry Plain
-no_section entry no_url none = plain no_url
-    (λ raw is. let (written, some, named) = is in none-some _ (sym none ∙ some))
+no_section entry no_url none = grind (arith, plain)
 
 -- an entry in a section without a subsection
 pub no_subsection : (entry : Entry) (name : List ℕ) → ¬ (IsRemoteUrl entry) → entry.section ≡ Some (name, None)
     → HasRole entry Plain
-no_subsection entry name no_url is = plain no_url
-    (λ raw within. let (written, some, named) = within in
-    none-some raw (ap (λ s. s.1) (same_Some _ _ (sym is ∙ some))))
+no_subsection entry name no_url is = grind (arith, plain)
 
 -- an entry in a section with another name
 pub other_section : (entry : Entry) (name : List ℕ) (subsection : Option (List ℕ)) → ¬ (IsRemoteUrl entry)
     → entry.section ≡ Some (name, subsection) → ¬ (map to_ascii_lowercase name ≡ codes "includeif")
     → HasRole entry Plain
-other_section entry name subsection no_url is differs = plain no_url
-    (λ raw within. let (written, some, named) = within in
-    differs (ap (λ s. map to_ascii_lowercase s.0) (same_Some _ _ (sym is ∙ some)) ∙ named))
+other_section entry name subsection no_url is differs = grind (arith, plain)
 
 -- the condition that the text of a subsection names is the one that its bytes spell
 pub spells_condition : (raw text : List ℕ) (c : Condition) (asks : Bool)
     → ((spelled : List ℕ) → SpellsSubsection raw spelled → text ≡ spelled) → SpellsCondition text c → asks_urls c ≡ asks
     → HasCondition raw asks
 spells_condition raw text c asks same names is =
-    λ spelled spells. (c, subst (λ t. SpellsCondition t c) (same spelled spells) names, is)
+    λ spelled spells. (c, rw (same spelled spells) at names, is)

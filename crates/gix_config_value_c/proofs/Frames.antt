@@ -1,23 +1,15 @@
 -- The frames of a walk in C, one more at a time.
 use Rattle.std.proofs.Common.{arith, ◌≡◌, ◌<◌, ◌≤◌, ◌+◌, ◌++◌, ℕ, zero, suc, List, [], ◌∷◌, Option, None, Some}
-use Rattle.std.proofs.Common.{length, take, drop, subst, sym, ap, ◌∙◌, slice_index_or, slice_set}
+use Rattle.std.proofs.Common.{length, take, drop, sym, ap, ◌∙◌, slice_index_or, slice_set}
 use Rattle.std.specs.List.{AllZip}
 use Rattle.std.proofs.lemmas.List.{take_more, take_more_set, length-take-le}
-use Rattle.std.proofs.lemmas.Slice.Zip.{AllZip-long}
+use Rattle.std.proofs.lemmas.Slice.Zip.{AllZip-long, all_zipped_more}
 use Rattle.config_file.specs.declared.section.Section.{Section}
 use Rattle.config_file.specs.declared.section.Subsection.{Subsection}
 use Rattle.config_file.specs.declared.walk.Frame.{Frame}
 use Rattle.gix_config_value_c.specs.declared.walk.GcvFrame.{GcvFrame}
 use Rattle.gix_config_value_c.specs.Walks.{HoldsFrame, HoldsSection}
 use Rattle.gix_config_value_c.specs.Walks.HoldsSection.{plain, within}
-
--- one more item in each of two lists
-zip_push : {A B : Type 0} (R : A → B → Type 0) (xs : List A) (ys : List B) (x : A) (y : B)
-    → AllZip R xs ys → R x y → AllZip R (xs ++ x ∷ []) (ys ++ y ∷ [])
-zip_push R [] [] x y all one = (one, tt)
-zip_push R [] (z ∷ zs) x y all one = absurd all
-zip_push R (w ∷ ws) [] x y all one = absurd all
-zip_push R (w ∷ ws) (z ∷ zs) x y all one = (all.0, zip_push R ws zs x y all.1 one)
 
 -- each frame in C holds one of the walk
 pub held_at : (frames : List GcvFrame) (old : List Frame) (i : ℕ) (d : GcvFrame) → AllZip HoldsFrame frames old
@@ -32,9 +24,7 @@ pub one_more : (frames : List GcvFrame) (old new : List Frame) (i : ℕ) (d : Gc
     → i < length frames → AllZip HoldsFrame (take i frames) old → HoldsFrame (slice_index_or frames i d) f
     → new ≡ old ++ f ∷ [] → AllZip HoldsFrame (take (i + 1) frames) new
 one_more frames old new i d f less all has e =
-    subst (λ fs. AllZip HoldsFrame (take (i + 1) frames) fs) (sym e)
-    (subst (λ cs. AllZip HoldsFrame cs (old ++ f ∷ [])) (sym (take_more frames i d less))
-    (zip_push HoldsFrame (take i frames) old (slice_index_or frames i d) f all has))
+    rw (e, take_more frames i d less) (all_zipped_more HoldsFrame (take i frames) old (slice_index_or frames i d) f all has)
 
 -- the array has more frames than a walk
 pub too_many : (frames : List GcvFrame) (old walk : List Frame) (i : ℕ) → i < length frames
@@ -50,32 +40,42 @@ pub one_put : (frames : List GcvFrame) (walk : List Frame) (i : ℕ) (c : GcvFra
     → i < length walk → AllZip HoldsFrame (take i frames) (take i walk) → f ≡ slice_index_or walk i f → HoldsFrame c f
     → AllZip HoldsFrame (take (i + 1) (slice_set frames i c)) (take (i + 1) walk)
 one_put frames walk i c f less inside all is has =
-    subst (λ fs. AllZip HoldsFrame (take (i + 1) (slice_set frames i c)) fs) (sym (take_more walk i f inside))
-    (subst (λ cs. AllZip HoldsFrame cs (take i walk ++ slice_index_or walk i f ∷ [])) (sym (take_more_set frames i c less))
-    (zip_push HoldsFrame (take i frames) (take i walk) c (slice_index_or walk i f) all
-    (subst (λ x. HoldsFrame c x) is has)))
+    rw (take_more walk i f inside, take_more_set frames i c less)
+    (all_zipped_more HoldsFrame (take i frames) (take i walk) c (slice_index_or walk i f) all (rw is at has))
 
 -- the frame holds this section, which has no subsection
 pub plain_of : (frame : GcvFrame) (s : Section) (section : Option Section) → section ≡ Some s → s.subsection ≡ None
     → frame.section ≡ s.name → frame.parts ≡ 1 → HoldsSection frame section
 plain_of frame s section is alone name parts =
-    subst (HoldsSection frame) (sym is)
-    (subst (λ x. HoldsSection frame (Some (record { name = s.name; subsection = x }))) (sym alone)
-    (subst (λ x. HoldsSection frame (Some (record { name = x; subsection = None }))) name (plain parts)))
+    let named = sym name in
+    let whole : s ≡ record { name = frame.section; subsection = None } = λ i. record { name = named i; subsection = alone i } in
+    rw (is, whole) (plain parts)
 
 -- the frame holds this section, which has this subsection
 pub within_of : (frame : GcvFrame) (s : Section) (sub : Subsection) (section : Option Section) → section ≡ Some s
     → s.subsection ≡ Some sub → frame.section ≡ s.name → frame.subsection ≡ sub.raw → frame.parts ≡ 2
     → HoldsSection frame section
 within_of frame s sub section is has name raw parts =
-    subst (HoldsSection frame) (sym is)
-    (subst (λ x. HoldsSection frame (Some (record { name = s.name; subsection = x }))) (sym has)
-    (subst (λ x. HoldsSection frame (Some (record { name = s.name; subsection = Some (record { raw = x }) }))) raw
-    (subst (λ x. HoldsSection frame (Some (record { name = x; subsection = Some (record { raw = frame.subsection }) }))) name
-    (within parts))))
+    let named = sym name in
+    let inner : s.subsection ≡ Some (record { raw = frame.subsection }) = has ∙ ap (λ t. Some (record { raw = t })) (sym raw) in
+    let whole : s ≡ record { name = frame.section; subsection = Some (record { raw = frame.subsection }) } =
+    λ i. record { name = named i; subsection = inner i } in
+    rw (is, whole) (within parts)
+
+-- the frame holds one of a walk, whose lines can be counted
+pub holds_frame : {frame : GcvFrame} {held : Frame} → HoldsSection frame held.entries.section
+    → frame.line ≡ held.entries.line → frame.rest ≡ held.entries.rest → held.place.name ≡ frame.name
+    → held.place.real_dir ≡ frame.real_dir → HoldsFrame frame held
+holds_frame {held = held} section line rest name dir = record {
+  name = name;
+  real_dir = dir;
+  section = section;
+  line = sym line;
+  rest = sym rest;
+  fits = rw (line, rest) held.entries.line_fits;
+}
 
 -- the texts of a step are at the front of the buffer
 pub put_text : (copied text buffer : List ℕ) (size : ℕ) → copied ≡ text → size ≡ length text
     → copied ++ drop size buffer ≡ text ++ drop (length text) buffer
-put_text copied text buffer size same long =
-    ap (λ t. t ++ drop size buffer) same ∙ ap (λ n. text ++ drop n buffer) long
+put_text copied text buffer size same long = cc

@@ -1,6 +1,5 @@
 -- The repository that a walk in C is given.
-use Rattle.std.proofs.Common.{◌≡◌, ℕ, List, Option, None, Some, MatchOption, option_copied}
-use Rattle.std.proofs.Common.{sym, subst}
+use Rattle.std.proofs.Common.{arith, ◌≡◌, ℕ, List, Option, None, Some, MatchOption, option_copied}
 use Rattle.config_file.specs.declared.include.Repository.{Repository}
 use Rattle.gix_config_value_c.specs.declared.walk.GcvKnown.{GcvKnown}
 use Rattle.gix_config_value_c.specs.Paths.{IsGiven}
@@ -13,10 +12,4 @@ pub repository_given : (known : GcvKnown) (g b h : Option (List ℕ)) (repositor
     (λ r. (g ≡ Some r.git_dir.now) × (r.real_git_dir.now ≡ known.real_git_dir.now) × (option_copied r.branch ≡ b)
     × (option_copied r.real_home ≡ h))
     → IsRepository known repository
-repository_given known g b h None p q r e = subst (IsGiven (known.has_repository, known.git_dir.now)) e p
-repository_given known g b h (Some _) p q r e = (
-  subst (IsGiven (known.has_repository, known.git_dir.now)) e.0 p,
-  e.1,
-  subst (IsGiven (known.has_branch, known.branch.now)) (sym e.2) q,
-  subst (IsGiven (known.has_real_home, known.real_home.now)) (sym e.3) r,
-)
+repository_given known g b h repository p q r e = grind arith

@@ -1,28 +1,14 @@
 -- No two values have the same number, since each value is found again from its number.
-use Rattle.std.proofs.Common.{◌≡◌, ◌≢◌, ◌≤◌, ◌<◌, ◌⊎◌, inl, inr, ℕ, ◌-◌, List, [], ◌∷◌, Option, None, Some, Bool, true, false, codes, refl, sym, ap, ◌∙◌, arith}
+use Rattle.std.proofs.Common.{◌≡◌, ◌≢◌, ℕ, List, [], ◌∷◌, Option, None, Some, codes, refl, sym, ap, ◌∙◌, arith}
 use Rattle.std.specs.List.{slice_get}
-use Rattle.std.specs.Prelude.{nat_lt, if◌then◌else◌}
 use Rattle.std.proofs.lemmas.Option.{same_Some}
 use Rattle.config_boolean.specs.declared.boolean.Boolean.{Boolean}
-use Rattle.config_color.specs.declared.depth.Depth.{Depth}
-use Rattle.config_color.specs.declared.depth.Depth.TheVariants.{Ansi16, Ansi256, TrueColor}
 use Rattle.config_integer.specs.declared.suffix.Suffix.{Suffix}
-use Rattle.config_integer.specs.declared.suffix.Suffix.TheVariants.{Kibi, Mebi, Gibi}
 use Rattle.config_text.specs.Faults.{fault_text}
 use Rattle.config_text.specs.declared.errors.Fault.{Fault}
 use Rattle.config_text.specs.declared.errors.Fault.TheVariants as faults
 use Rattle.config_path.specs.Interpolation.{path_error_text}
 use Rattle.config_path.specs.declared.interpolate.Error.{Error}
-use Rattle.config_path.specs.declared.interpolate.Error.TheVariants.{PathMissing, InstallDirMissing}
-use Rattle.config_path.specs.declared.interpolate.Error.TheVariants.{HomeMissing, LookupMissing, UserNotFound}
-use Rattle.config_path.specs.declared.interpolate.Error.TheVariants.{IllFormed, Memory}
-use Rattle.config_path.specs.declared.interpolate.Place.{Place}
-use Rattle.config_path.specs.declared.interpolate.Place.TheVariants.{PastPrefix, PastHome, Username, PastUser}
-use Rattle.config_path.specs.declared.interpolate.Place.TheVariants.{Whole}
-use Rattle.gix_config_value.specs.declared.kind.Kind.{Kind}
-use Rattle.gix_config_value.specs.declared.kind.Kind.TheVariants as kinds
-use Rattle.gix_config_value_c.specs.declared.roles.Role.{Role}
-use Rattle.gix_config_value_c.specs.declared.roles.Role.TheVariants as roles
 use Rattle.gix_config_value_c.specs.declared.status.Status.{Status}
 use Rattle.gix_config_value_c.specs.declared.status.Status.TheVariants as statuses
 use Rattle.gix_config_value_c.specs.Answers.{TellsApart}
@@ -52,50 +38,20 @@ statuses_apart = told_apart status_number (λ n. slice_get all_statuses n) again
   again statuses.Ok = refl
   again s = refl
 
-abbrev all_roles : List Role
-all_roles = roles.Plain ∷ roles.RemoteUrl ∷ roles.Condition ∷ roles.UrlCondition ∷ []
-
 pub roles_apart : TellsApart role_number
-roles_apart = told_apart role_number (λ n. slice_get all_roles n) again where
-  again : (r : Role) → slice_get all_roles (role_number r) ≡ Some r
-  again roles.Plain = refl
-  again r = refl
-
-abbrev all_kinds : List Kind
-all_kinds =
-    kinds.Suffix ∷ kinds.Integer ∷ kinds.Amount ∷ kinds.Boolean ∷ kinds.Name ∷ kinds.Attribute ∷ kinds.Color ∷ []
+roles_apart v w same = grind arith
 
 pub kinds_apart : TellsApart kind_number
-kinds_apart = told_apart kind_number (λ n. slice_get all_kinds (n - 1)) again where
-  again : (k : Kind) → slice_get all_kinds (kind_number k - 1) ≡ Some k
-  again kinds.Suffix = refl
-  again k = refl
-
-abbrev all_suffixes : List (Option Suffix)
-all_suffixes = None ∷ Some Kibi ∷ Some Mebi ∷ Some Gibi ∷ []
+kinds_apart v w same = grind arith
 
 pub suffixes_apart : TellsApart suffix_number
-suffixes_apart = told_apart suffix_number (λ n. slice_get all_suffixes n) again where
-  again : (s : Option Suffix) → slice_get all_suffixes (suffix_number s) ≡ Some s
-  again None = refl
-  again (Some Kibi) = refl
-  again (Some s) = refl
+suffixes_apart v w same = grind arith
 
 pub depths_apart : TellsApart depth_number
-depths_apart = told_apart depth_number found again where
-  found : ℕ → Option Depth
-  found n = if nat_lt n 17 then Some Ansi16 else if nat_lt n 257 then Some Ansi256 else Some TrueColor
-
-  again : (d : Depth) → found (depth_number d) ≡ Some d
-  again Ansi16 = refl
-  again Ansi256 = refl
-  again TrueColor = refl
+depths_apart v w same = grind arith
 
 pub flags_apart : TellsApart flag_number
-flags_apart = told_apart flag_number (λ n. slice_get (false ∷ true ∷ []) n) again where
-  again : (b : Bool) → slice_get (false ∷ true ∷ []) (flag_number b) ≡ Some b
-  again false = refl
-  again b = refl
+flags_apart v w same = grind arith
 
 -- the numbers of suffixes, without that for no suffix; then the numbers of booleans
 pub units_apart : TellsApart {V = Suffix} (λ s. suffix_number (Some s))
@@ -106,23 +62,11 @@ truths_apart v w same =
     let one = flags_apart v.0 w.0 same in
     λ i. record { 0 = one i }
 
-abbrev all_faults : List Fault
-all_faults = faults.Boolean ∷ faults.Integer ∷ faults.Overflow ∷ faults.OutOfRange ∷ faults.Color ∷ []
-
 pub faults_apart : TellsApart fault_number
-faults_apart = told_apart fault_number (λ n. slice_get all_faults (n - 1)) again where
-  again : (f : Fault) → slice_get all_faults (fault_number f - 1) ≡ Some f
-  again faults.Boolean = refl
-  again f = refl
-
-abbrev all_places : List Place
-all_places = PastPrefix ∷ PastHome ∷ Username ∷ PastUser ∷ Whole ∷ []
+faults_apart v w same = grind arith
 
 pub places_apart : TellsApart place_number
-places_apart = told_apart place_number (λ n. slice_get all_places (n - 11)) again where
-  again : (p : Place) → slice_get all_places (place_number p - 11) ≡ Some p
-  again PastPrefix = refl
-  again p = refl
+places_apart v w same = grind arith
 
 -- ---- texts
 
@@ -132,13 +76,7 @@ fault_text_found f = refl
 
 pub path_text_found : (e : Error) → path_fault_number e ≢ 0
     → numbered_text (path_fault_number e) ≡ Some (path_error_text e)
-path_text_found (IllFormed PastPrefix input) h = refl
-path_text_found (IllFormed PastHome input) h = refl
-path_text_found (IllFormed Username input) h = refl
-path_text_found (IllFormed PastUser input) h = refl
-path_text_found (IllFormed Whole input) h = refl
-path_text_found (Memory e) h = absurd (h refl)
-path_text_found e h = refl
+path_text_found e some = grind arith
 
 -- ---- faults of paths
 
@@ -147,40 +85,12 @@ path_text None = codes "no memory"
 path_text (Some t) = t
 
 path_text_told : (e : Error) → path_error_text e ≡ path_text (numbered_text (path_fault_number e))
-path_text_told (IllFormed PastPrefix input) = refl
-path_text_told (IllFormed PastHome input) = refl
-path_text_told (IllFormed Username input) = refl
-path_text_told (IllFormed PastUser input) = refl
-path_text_told (IllFormed Whole input) = refl
-path_text_told e = refl
+path_text_told e = grind arith
 
 pub path_texts_apart : (e f : Error) → path_fault_number e ≡ path_fault_number f
     → path_error_text e ≡ path_error_text f
 path_texts_apart e f same =
     path_text_told e ∙ (ap (λ n. path_text (numbered_text n)) same ∙ sym (path_text_told f))
 
-low : (f : Fault) → (1 ≤ fault_number f) × (fault_number f ≤ 5)
-low faults.Boolean = (omega arith, omega arith)
-low faults.Integer = (omega arith, omega arith)
-low faults.Overflow = (omega arith, omega arith)
-low faults.OutOfRange = (omega arith, omega arith)
-low faults.Color = (omega arith, omega arith)
-
-none_or_high : (e : Error) → (path_fault_number e ≡ 0) ⊎ (5 < path_fault_number e)
-none_or_high (Memory e) = inl refl
-none_or_high (IllFormed PastPrefix input) = inr (omega arith)
-none_or_high (IllFormed PastHome input) = inr (omega arith)
-none_or_high (IllFormed Username input) = inr (omega arith)
-none_or_high (IllFormed PastUser input) = inr (omega arith)
-none_or_high (IllFormed Whole input) = inr (omega arith)
-none_or_high PathMissing = inr (omega arith)
-none_or_high InstallDirMissing = inr (omega arith)
-none_or_high HomeMissing = inr (omega arith)
-none_or_high LookupMissing = inr (omega arith)
-none_or_high UserNotFound = inr (omega arith)
-
 pub faults_of_texts_or_paths : (f : Fault) (e : Error) → fault_number f ≢ path_fault_number e
-faults_of_texts_or_paths f e same = elim (none_or_high e) [
-  | inl none ↦ omega (arith, same, none, (low f).0)
-  | inr high ↦ omega (arith, same, high, (low f).1)
-]
+faults_of_texts_or_paths f e same = grind arith

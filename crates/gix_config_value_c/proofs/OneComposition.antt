@@ -1,5 +1,5 @@
 -- The structs of two colors have at most one composition.
-use Rattle.std.proofs.Common.{◌≡◌, ◌⊎◌, inl, inr, Option, None, Some, sym, ap, subst, ◌∙◌}
+use Rattle.std.proofs.Common.{arith, ◌≡◌, ◌⊎◌, inl, inr, Option, None, Some, sym, ap, subst, ◌∙◌}
 use Rattle.std.proofs.lemmas.Option.{same_Some, none-some}
 use Rattle.config_color.specs.declared.color.Color.{Color}
 use Rattle.gix_config_value.specs.Color.{ColorText}
@@ -23,8 +23,7 @@ same_second a b v w x y p q = colors_apart y w (sym q.1 ∙ p.1)
 as_first : (a b : GcvColor) (v w x y : Color) (result : Option Color) → AreColors a b v w → AreColors a b x y
     → Composes x y result → Composes v w result
 as_first a b v w x y result p q composes =
-    subst (λ z. Composes v z result) (same_second a b v w x y p q)
-    (subst (λ z. Composes z y result) (same_first a b v w x y p q) composes)
+    rw (same_first a b v w x y p q, same_second a b v w x y p q) at composes
 
 has_texts : (a b : GcvColor) (v w x y : Color) → AreColors a b v w → HasText ColorText v → HasText ColorText w
     → AreColors a b x y
@@ -33,8 +32,7 @@ has_texts a b v w x y p first second q (inl never) = never (subst (λ z. HasText
 has_texts a b v w x y p first second q (inr never) = never (subst (λ z. HasText ColorText z) (sym (same_second a b v w x y p q)) second)
 
 pub are_values : (a b : GcvColor) (v w : Color) → AreColors a b v w → ¬ (IsNoValue color_struct a ⊎ IsNoValue color_struct b)
-are_values a b v w p (inl never) = never v p.0
-are_values a b v w p (inr never) = never w p.1
+are_values a b v w p never = grind arith
 
 pub composes_once : ((v w : Color) (r s : Option Color) → Composes v w r → Composes v w s → r ≡ s)
     → (a b : GcvColor) → HasOneResult (ComposesInto a b)
@@ -43,24 +41,19 @@ composes_once one a b out x y s r (composed v w both are is writes ok) (composed
     (writes ∙ (ap color_struct (same_Some both other same) ∙ sym puts), ok ∙ sym good)
 composes_once one a b out x y s r (composed v w both are is writes ok) (too_many_names p q also nothing left) =
     absurd (none-some both (one v w None (Some both) (as_first a b v w p q None are.colors also.colors nothing) is))
-composes_once one a b out x y s r (composed v w both are is writes ok) (no_text p q also never left) =
-    absurd (has_texts a b v w p q are.colors are.first_text are.second_text also never)
-composes_once one a b out x y s r (composed v w both are is writes ok) (bad_name never left) = absurd (are_values a b v w are.colors never)
 composes_once one a b out x y s r (too_many_names p q also nothing left) (composed v w both are is writes ok) =
     absurd (none-some both (one v w None (Some both) (as_first a b v w p q None are.colors also.colors nothing) is))
 composes_once one a b out x y s r (too_many_names p q also nothing left) (too_many_names v w are never kept) =
     (left.0 ∙ sym kept.0, left.1 ∙ sym kept.1)
-composes_once one a b out x y s r (too_many_names v w are nothing left) (no_text p q also never kept) =
-    absurd (has_texts a b v w p q are.colors are.first_text are.second_text also never)
-composes_once one a b out x y s r (too_many_names v w are nothing left) (bad_name never kept) = absurd (are_values a b v w are.colors never)
 composes_once one a b out x y s r (no_text p q also never left) (composed v w both are is writes ok) =
     absurd (has_texts a b v w p q are.colors are.first_text are.second_text also never)
 composes_once one a b out x y s r (no_text p q also never left) (too_many_names v w are nothing kept) =
     absurd (has_texts a b v w p q are.colors are.first_text are.second_text also never)
 composes_once one a b out x y s r (no_text p q also never left) (no_text v w are neither kept) =
     (left.0 ∙ sym kept.0, left.1 ∙ sym kept.1)
-composes_once one a b out x y s r (no_text p q also never left) (bad_name neither kept) = absurd (are_values a b p q also neither)
-composes_once one a b out x y s r (bad_name never left) (composed v w both are is writes ok) = absurd (are_values a b v w are.colors never)
-composes_once one a b out x y s r (bad_name never left) (too_many_names v w are nothing kept) = absurd (are_values a b v w are.colors never)
-composes_once one a b out x y s r (bad_name never left) (no_text p q also neither kept) = absurd (are_values a b p q also never)
-composes_once one a b out x y s r (bad_name never left) (bad_name neither kept) = (left.0 ∙ sym kept.0, left.1 ∙ sym kept.1)
+composes_once one a b out x y s r (bad_name never left) q = grind (arith, are_values)
+composes_once one a b out x y s r (composed v w both are is writes ok) (no_text p q also never left) =
+    absurd (has_texts a b v w p q are.colors are.first_text are.second_text also never)
+composes_once one a b out x y s r (too_many_names v w are nothing left) (no_text p q also never kept) =
+    absurd (has_texts a b v w p q are.colors are.first_text are.second_text also never)
+composes_once one a b out x y s r p (bad_name never left) = grind (arith, are_values)

@@ -1,16 +1,9 @@
 -- The mark of a path is cut off in one way.
-use Rattle.std.proofs.Common.{◌≡◌, ◌≤◌, ◌∙◌, ℕ, Bool, true, false, List, length, drop, length-drop}
-use Rattle.std.proofs.Common.{refl, sym, ap, arith}
-use Rattle.gix_config_value.specs.Path.{Marked}
+use Rattle.std.proofs.Common.{◌≡◌, ◌≤◌, ◌∙◌, ℕ, List, length, drop, length-drop}
+use Rattle.std.proofs.Common.{sym, ap, arith}
 use Rattle.gix_config_value_c.specs.Numbers.{flag_number}
 use Rattle.gix_config_value_c.specs.Paths.{CutsMark}
 use Rattle.gix_config_value_c.proofs.OnePath.{mark_once}
-
-one_flag : (t : List ℕ) (a b : Bool) (k m : List ℕ) → Marked t a k → Marked t b m → a ≡ b
-one_flag t true true k m p q = refl
-one_flag t true false k m p q = absurd (q.1 k p)
-one_flag t false true k m p q = absurd (p.1 m q)
-one_flag t false false k m p q = refl
 
 -- the rests after two places are the same only if the places are
 one_place : (t : List ℕ) (s u : ℕ) → s ≤ length t → u ≤ length t → drop s t ≡ drop u t → s ≡ u
@@ -22,6 +15,6 @@ one_place t s u fits also same =
 
 pub cuts_once : (t : List ℕ) (a b s u : ℕ) → CutsMark t a s → CutsMark t b u → (a ≡ b) × (s ≡ u)
 cuts_once t a b s u (f, is, marked, fits) (g, also, marks, fit) = (
-  is ∙ ap flag_number (one_flag t f g (drop s t) (drop u t) marked marks) ∙ sym also,
-  one_place t s u fits fit (mark_once t f g (drop s t) (drop u t) marked marks),
+  is ∙ ap flag_number (mark_once t f g (drop s t) (drop u t) marked marks).0 ∙ sym also,
+  one_place t s u fits fit (mark_once t f g (drop s t) (drop u t) marked marks).1,
 )

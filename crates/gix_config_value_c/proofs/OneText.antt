@@ -1,5 +1,5 @@
 -- A text of a kind is normalized in one way, and two texts are compared in one way.
-use Rattle.std.proofs.Common.{◌≡◌, ℕ, List, None, Some, Bool, true, false, IsTrue, ◌⊎◌, inl, inr, refl, sym, ap, subst, ◌∙◌, ◌↔◌}
+use Rattle.std.proofs.Common.{arith, ◌≡◌, ℕ, List, None, Some, Bool, IsTrue, ◌⊎◌, inl, inr, sym, ap, subst, ◌∙◌, ◌↔◌}
 use Rattle.config_integer.specs.contracts.suffix.SuffixValue.TheImpl.Laws as suffix
 use Rattle.config_integer.specs.contracts.integer.IntegerValue.TheImpl.Laws as integer
 use Rattle.config_integer.specs.contracts.amount.AmountValue.TheImpl.Laws as amount
@@ -23,14 +23,14 @@ use Rattle.gix_config_value_c.proofs.OneAnswer.{answers_once}
 text_once : (k l : Kind) (t s u : List ℕ) → l ≡ k → Normalizes (KindGrammar k) (KindCanonical k) t (Some s)
     → Normalizes (KindGrammar l) (KindCanonical l) t (Some u) → s ≡ u
 text_once k l t s u kind found other =
-    let also = subst (λ z. Normalizes (KindGrammar z) (KindCanonical z) t (Some u)) kind other in
+    let also = rw kind at other in
     let same = found.1.one_value also.0 also.1.derived in
-    sym (found.1.only_text u also.1.text.canonical_text (subst (λ v. KindGrammar k u v) same also.1.text.reads_to))
+    sym (found.1.only_text u also.1.text.canonical_text (rw same at also.1.text.reads_to))
 
 not_refused : (k l : Kind) (t s : List ℕ) → l ≡ k → Normalizes (KindGrammar k) (KindCanonical k) t (Some s)
     → ¬ (IsRefused (KindGrammar l) t)
 not_refused k l t s kind found denied =
-    (subst (λ z. IsRefused (KindGrammar z) t) kind denied) found.0 found.1.derived
+    (rw kind at denied) found.0 found.1.derived
 
 pub normalizes_once : (number : ℕ) (t : List ℕ) → HasOneAnswer (NormalizesInto number t)
 normalizes_once number t = answers_once _ _ texts reasons apart where
@@ -39,10 +39,7 @@ normalizes_once number t = answers_once _ _ texts reasons apart where
 
   reasons : (m n : ℕ) → ((m ≡ status_number statuses.Refused) × IsRefusedBy number t) ⊎ IsUnknown number m
       → ((n ≡ status_number statuses.Refused) × IsRefusedBy number t) ⊎ IsUnknown number n → m ≡ n
-  reasons m n (inl p) (inl q) = p.0 ∙ sym q.0
-  reasons m n (inl p) (inr q) = absurd (q.1 p.1.0 p.1.1)
-  reasons m n (inr p) (inl q) = absurd (p.1 q.1.0 q.1.1)
-  reasons m n (inr p) (inr q) = p.0 ∙ sym q.0
+  reasons m n p q = grind arith
 
   apart : (s : List ℕ) (m : ℕ) → IsNormalized number t s
       → ¬ (((m ≡ status_number statuses.Refused) × IsRefusedBy number t) ⊎ IsUnknown number m)
@@ -62,19 +59,16 @@ kind_one_value kinds.Attribute = attribute.one_value-law
 kind_one_value kinds.Color = color.one_value-law
 
 same_truth : {P : Type 0} (a b : Bool) → (IsTrue a ↔ P) → (IsTrue b ↔ P) → a ≡ b
-same_truth true true p q = refl
-same_truth true false p q = absurd (let e = q.1 (p.0 refl) in cc)
-same_truth false true p q = absurd (let e = p.1 (q.0 refl) in cc)
-same_truth false false p q = refl
+same_truth a b p q = grind arith
 
 truth_once : (k l : Kind) (a b : List ℕ) (same other : Bool) → l ≡ k → Compares (KindGrammar k) a b (Some same)
     → Compares (KindGrammar l) a b (Some other) → same ≡ other
 truth_once k l a b same other kind p r =
-    let q = subst (λ z. Compares (KindGrammar z) a b (Some other)) kind r in
+    let q = rw kind at r in
     let first = kind_one_value k a q.0 p.0 q.2.first p.2.first in
     let second = kind_one_value k b q.1 p.1 q.2.second p.2.second in
     same_truth same other p.2.equal
-    (subst (λ z. IsTrue other ↔ (p.0 ≡ z)) second (subst (λ z. IsTrue other ↔ (z ≡ q.1)) first q.2.equal))
+    (rw (first, second) at q.2.equal)
 
 both_have_values : (k l : Kind) (a b : List ℕ) (same : Bool) → l ≡ k → Compares (KindGrammar k) a b (Some same)
     → ¬ (Compares (KindGrammar l) a b None)
@@ -88,15 +82,9 @@ compares_once number a b out x y s r (compared k same is found writes ok) (compa
     (writes ∙ (ap flag_number (truth_once k l a b same other (kinds_apart l k (sym also ∙ is)) found more) ∙ sym wrote), ok ∙ sym good)
 compares_once number a b out x y s r (compared k same is found writes ok) (refused l also nothing kept bad) =
     absurd (both_have_values k l a b same (kinds_apart l k (sym also ∙ is)) found nothing)
-compares_once number a b out x y s r (compared k same is found writes ok) (unknown never kept) =
-    absurd (never.1 k is)
 compares_once number a b out x y s r (refused l also nothing kept bad) (compared k same is found writes ok) =
     absurd (both_have_values k l a b same (kinds_apart l k (sym also ∙ is)) found nothing)
 compares_once number a b out x y s r (refused k is nothing kept bad) (refused l also neither left worse) =
     (kept ∙ sym left, bad ∙ sym worse)
-compares_once number a b out x y s r (refused k is nothing kept bad) (unknown never left) = absurd (never.1 k is)
-compares_once number a b out x y s r (unknown never kept) (compared k same is found writes ok) =
-    absurd (never.1 k is)
-compares_once number a b out x y s r (unknown never kept) (refused k is nothing left bad) = absurd (never.1 k is)
-compares_once number a b out x y s r (unknown never kept) (unknown neither left) =
-    (kept ∙ sym left, never.0 ∙ sym neither.0)
+compares_once number a b out x y s r (unknown never kept) q = grind arith
+compares_once number a b out x y s r p (unknown never kept) = grind arith

@@ -1,5 +1,5 @@
 -- No two values have the same struct.
-use Rattle.std.proofs.Common.{◌≡◌, Option, None, Some, refl, ap}
+use Rattle.std.proofs.Common.{arith, ◌≡◌, Option, None, Some, refl, ap}
 use Rattle.config_color.specs.Laws.Color.{same_color}
 use Rattle.config_word.specs.declared.name.Name.{Name}
 use Rattle.gix_config_value_c.specs.Answers.{TellsApart}
@@ -9,10 +9,7 @@ use Rattle.gix_config_value_c.proofs.NameTags.{name_tagged}
 use Rattle.gix_config_value_c.proofs.NumbersApart.{told_apart, suffixes_apart}
 
 pub integers_apart : TellsApart integer_struct
-integers_apart v w same =
-    let number : v.value ≡ w.value = ap (λ c. c.value) same in
-    let unit : v.suffix ≡ w.suffix = suffixes_apart v.suffix w.suffix (ap (λ c. c.suffix) same) in
-    λ i. record { value = number i; suffix = unit i }
+integers_apart v w same = grind (arith, suffixes_apart)
 
 pub names_apart : TellsApart name_struct
 names_apart = told_apart name_struct tagged_name name_tagged

@@ -1,7 +1,6 @@
 -- The headline follows from what a text means, and from how joined texts are read.
-use Rattle.std.proofs.Common.{◌≡◌, ◌↔◌, ◌≤◌, ◌⊎◌, ◌++◌, inl, inr, codes, length, ℕ, List, Option, None, Some}
-use Rattle.std.proofs.Common.{refl, sym, ap, subst}
-use Rattle.config_text.specs.declared.value.TheConstants.{LONGEST_TEXT}
+use Rattle.std.proofs.Common.{◌≡◌, ◌↔◌, ◌⊎◌, ◌++◌, inl, inr, codes, ℕ, List, Option, None, Some}
+use Rattle.std.proofs.Common.{arith, refl, ap}
 use Rattle.config_text.specs.Value.{IsRefused, IsTextOf, Means, Reads}
 use Rattle.config_color.specs.declared.color.Color.{Color}
 use Rattle.config_color.specs.Color.{ColorText}
@@ -16,45 +15,12 @@ pub says_headline : {V : Type 0} {grammar : List ℕ → V → Type 0} {canonica
     → (v ≡ w) ↔ (s ≡ t))
     → (text : List ℕ) (value : Option V) (normalized : Option (List ℕ))
     → Means grammar canonical text value normalized → Headline grammar canonical text value normalized
-says_headline values text None None refused = record {
-  accepted = λ v. (λ e. absurd (cc), λ h. absurd (refused v h));
-  only_text = λ s. (λ e. absurd (cc), λ h. absurd (refused h.1 h.2));
-  at_most = λ s e. absurd (cc);
-  same = λ other s w h p k. (λ e. absurd (cc), λ e. absurd (cc));
+says_headline values text value normalized means = record {
+  accepted = λ v. grind arith;
+  only_text = λ s. grind arith;
+  at_most = λ s e. grind arith;
+  same = λ other s w h p k. grind arith;
 }
-says_headline values text None (Some s) m = absurd m
-says_headline values text (Some v) None m = absurd m
-says_headline {V} {grammar} {canonical} values text (Some v) (Some s) m = record {
-  accepted = λ w. (
-    λ e. subst (λ (x : V). grammar text x) (some e) m.derived,
-    λ h. ap (λ (x : V). Some x) (sym (m.one_value w h)),
-  );
-  only_text = λ r. (
-    λ e. subst (λ (x : List ℕ). canonical x × (w : V) × grammar text w × grammar x w) (some_text e)
-        (m.text.canonical_text, v, m.derived, m.text.reads_to),
-    λ h. ap (λ (x : List ℕ). Some x)
-        (sym (m.only_text r h.0 (subst (λ (x : V). grammar r x) (m.one_value h.1 h.2) h.3))),
-  );
-  at_most = λ r e. subst (λ (x : List ℕ). length x ≤ LONGEST_TEXT) (some_text e) m.text.short;
-  same = λ other r w h p k. (
-    λ e. ap (λ (x : List ℕ). Some x)
-        (sym (m.only_text r p (subst (λ (x : V). grammar r x) (sym (some e)) k))),
-    λ e. ap (λ (x : V). Some x) ((values v w s r m.text (read_text r w p k e)).1 (some_text e)),
-  );
-} where
-  some : {w : V} → Some v ≡ Some w → v ≡ w
-  some e = cc
-
-  some_text : {r : List ℕ} → Some s ≡ Some r → s ≡ r
-  some_text e = cc
-
-  read_text : (r : List ℕ) (w : V) → canonical r → grammar r w → Some s ≡ Some r
-      → IsTextOf grammar canonical w r
-  read_text r w p k e = record {
-    canonical_text = p;
-    reads_to = k;
-    short = subst (λ (x : List ℕ). length x ≤ LONGEST_TEXT) (some_text e) m.text.short;
-  }
 
 pub says_joined : (front back text joined : List ℕ) (color : Option Color) → text ≡ joined
     → Reads ColorText text color
@@ -63,17 +29,15 @@ pub says_joined : (front back text joined : List ℕ) (color : Option Color) →
     ↔ (IsRefused ColorText front ⊎ IsRefused ColorText back ⊎ HaveTooManyNames front back)
     → JoinedHeadline front back color
 says_joined front back text joined (Some d) e is read refused =
-    let found : ColorText joined d = subst (λ (t : List ℕ). ColorText t d) e is in record {
+    let found : ColorText joined d = rw e at is in record {
       read = λ c. (
-        λ k. (read c).0 (subst (λ (x : Color). ColorText joined x) (some k) found),
-        λ j. ap (λ (x : Color). Some x) (color.one_value-law joined d c found ((read c).1 j)),
+        λ k. let same : d ≡ c = cc (k) in (read c).0 (rw same at found),
+        λ j. ap Some (color.one_value-law joined d c found ((read c).1 j)),
       );
       refused = (λ k. absurd (cc), λ h. absurd (refused.1 h d found));
-    } where
-      some : {c : Color} → Some d ≡ Some c → d ≡ c
-      some k = cc
+    }
 says_joined front back text joined None e is read refused =
-    let none : IsRefused ColorText joined = subst (λ (t : List ℕ). IsRefused ColorText t) e is in record {
+    let none : IsRefused ColorText joined = rw e at is in record {
       read = λ c. (λ k. absurd (cc), λ j. absurd (none c ((read c).1 j)));
       refused = (λ k. refused.0 none, λ h. refl);
     }

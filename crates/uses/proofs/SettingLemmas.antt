@@ -1,9 +1,8 @@
 -- What settings say of the entries to which walks come.
 use Rattle.std.proofs.Common.{◌≡◌, ◌++◌, ◌∷◌, [], ◌<◌, ◌+◌, ℕ, zero, suc, List, Bool, Option, None, Some, Ok, Err}
 use Rattle.std.specs.Bool.{⊤}
-use Rattle.std.proofs.Common.{length, map, take, drop, get_or, codes, refl, sym, ap, subst, arith, ◌∙◌}
+use Rattle.std.proofs.Common.{length, map, take, drop, get_or, refl, sym, ap, subst, arith, ◌∙◌}
 use Rattle.std.specs.List.{All, AllByRecursion, AllWithin, AllZip, slice_get}
-use Rattle.std.specs.Option.{option_map_or}
 use Rattle.std.proofs.lemmas.List.{append_assoc, append-nil, take_more, take-append-drop}
 use Rattle.std.proofs.lemmas.List.Elements.{All-nil, All-cons, All-append, recursion_from_All}
 use Rattle.config_file.specs.File.{Entry, IsFile}
@@ -66,9 +65,6 @@ items_of_walk : {contents : List ℕ → Content → Type 0} {known : Known} {de
     {entries : List Entry} {error : Option FileError} {items : List (List ℕ × Item)} {flag : Bool}
     → EachIsRead → Walks contents known depth place entries error items flag → AllByRecursion IsRead entries
     → AreItemsRead items
-items_of_walk each walk.cut read = tt
-items_of_walk each walk.ends read = tt
-items_of_walk each walk.line read = tt
 items_of_walk each (walk.plain is rest) read = (read.0, items_of_walk each rest read.1)
 items_of_walk each (walk.missing name is none rest) read = (read.0, items_of_walk each rest read.1)
 items_of_walk each (walk.included {items = items} less at text inner end within is has file deep inside rest) read = (
@@ -81,6 +77,7 @@ items_of_walk each (walk.no_value is rest) read = (read.0, items_of_walk each re
 items_of_walk each (walk.unknown is rest) read = (read.0, items_of_walk each rest read.1)
 items_of_walk each (walk.not_read name is has rest) read = (read.0, items_of_walk each rest read.1)
 items_of_walk each (walk.too_deep name dir text is has deep rest) read = (read.0, items_of_walk each rest read.1)
+items_of_walk each walks read = tt
 
 found_before : (found : List (List ℕ × Entry)) (rest : List (List ℕ × Item))
     → AreItemsRead (map found_item found ++ rest) → AreFoundRead found
@@ -103,7 +100,7 @@ pub found_are_read : {contents : List ℕ → Content → Type 0} {known : Known
     → EachIsRead → WalksAll contents known first found stop → AreFoundRead found
 found_are_read each ends = tt
 found_are_read each (whole found more walks rest) = found_append found more
-    (found_before found [] (subst AreItemsRead (sym (append-nil (map found_item found))) (items_of_text each walks)))
+    (found_before found [] (rw append-nil (items_of_text each walks)))
     (found_are_read each rest)
 found_are_read each (stops {found = found} walks) = found_before found _ (items_of_text each walks)
 
@@ -116,16 +113,14 @@ walks_append : {contents : List ℕ → Content → Type 0} {known : Known} {fil
 walks_append ends none rest = rest
 walks_append {contents} {known} {others = others} {more = more} {stop = stop}
     (whole {first = first} {others = files} found within walks inner) none rest =
-    subst (λ all. WalksAll contents known (first ∷ (files ++ others)) all stop) (sym (append_assoc found within more))
-    (whole found (within ++ more) walks (walks_append inner none rest))
+    rw append_assoc (whole found (within ++ more) walks (walks_append inner none rest))
 walks_append (stops walks) none rest = absurd (cc)
 
 zip_append : (found more : List (List ℕ × Entry)) (first second : List Setting) → AllZip IsSettingOf found first
     → AllZip IsSettingOf more second → AllZip IsSettingOf (found ++ more) (first ++ second)
 zip_append [] more [] second all rest = rest
-zip_append [] more (s ∷ first) second all rest = absurd all
-zip_append (one ∷ found) more [] second all rest = absurd all
 zip_append (one ∷ found) more (s ∷ first) second all rest = (all.0, zip_append found more first second all.1 rest)
+zip_append found more first second all rest = absurd (search)
 
 pub read_none : (contents : List ℕ → Content → Type 0) (known : Known) (settings : List Setting) → settings ≡ []
     → AreRead contents known [] settings
@@ -139,8 +134,7 @@ pub read_more : (contents : List ℕ → Content → Type 0) (known : Known) (fi
 read_more contents known files first old new (found, walks, (settings, is, all))
     (more, (added, is_more, all_more), walk) = (
       found ++ more,
-      subst (λ w. WalksAll contents known (files ++ first ∷ []) (found ++ w) None) (append-nil more)
-          (walks_append walks refl (whole more [] walk ends)),
+      rw append-nil at (walks_append walks refl (whole {first = first} more [] walk ends)),
       (
         settings ++ added,
         is_more ∙ ap (λ s. s ++ added) is,
@@ -166,8 +160,7 @@ pub loop_more : (contents : List ℕ → Content → Type 0) (known : Known) (fi
     → AddsWalk contents known (get_or first i d).place (get_or first i d).text.now old new (Ok tt)
     → AreRead contents known (take (i + 1) first) new
 loop_more contents known first i d old new within read adds =
-    subst (λ files. AreRead contents known files new) (sym (take_more first i d within))
-    (read_more contents known (take i first) (get_or first i d) old new read adds)
+    rw (take_more first i d within) (read_more contents known (take i first) (get_or first i d) old new read adds)
 
 pub loop_stops : (contents : List ℕ → Content → Type 0) (known : Known) (first : List FirstFile) (i : ℕ)
     (d : FirstFile) (old new : List Setting) (e : AddError)
@@ -185,21 +178,19 @@ loop_stops contents known first i d old new e within read adds =
 pub are_listed : (found : List (List ℕ × Entry)) (all : List Setting) → AreFoundRead found
     → AllZip IsSettingOf found all → AreListed all
 are_listed [] [] read zip = All-nil _
-are_listed [] (s ∷ all) read zip = absurd zip
-are_listed (one ∷ found) [] read zip = absurd zip
 are_listed (one ∷ found) (s ∷ all) read zip = All-cons
     (λ setting. (text : List ℕ) × IsListed (entry_of setting.entry).section (entry_of setting.entry).key text) s all
     (subst (λ e. (text : List ℕ) × IsListed e.section e.key text) (sym zip.0.entry) read.0.listed)
     (are_listed found all read.1 zip.1)
+are_listed found all read zip = absurd (search)
 
 pub none_has : (key : Key) (found : List (List ℕ × Entry)) (all : List Setting) → AllZip IsSettingOf found all
     → LacksKey all key → NoneHas key found
 none_has key [] [] zip lacks = All-nil _
-none_has key [] (s ∷ all) zip lacks = absurd zip
-none_has key (one ∷ found) [] zip lacks = absurd zip
 none_has key (one ∷ found) (s ∷ all) zip lacks = All-cons (λ one. ¬ (HasKey one.1 key)) one found
-    (λ has. lacks 0 s (omega arith) (subst (λ e. HasKey e key) (sym zip.0.entry) has))
+    (λ has. lacks 0 s (omega arith) (rw zip.0.entry has))
     (none_has key found all zip.1 (λ k d within. lacks (suc k) d (omega arith)))
+none_has key found all zip lacks = absurd (search)
 
 -- the last entry with the key, which is that of the setting
 pub record IsLastOf (key : Key) (found : List (List ℕ × Entry)) (setting : Setting) : Type 0 where
@@ -214,25 +205,20 @@ last_at : (key : Key) (found : List (List ℕ × Entry)) (all : List Setting) (i
     → AllWithin (λ other. ¬ (HasKey (entry_of other.entry) key)) all (i + 1) (length all)
     → IsLastOf key found setting
 last_at key [] [] i setting read zip at has none = absurd (cc)
-last_at key [] (s ∷ all) i setting read zip at has none = absurd zip
-last_at key (one ∷ found) [] i setting read zip at has none = absurd zip
 last_at key (one ∷ found) (s ∷ all) zero setting read zip at has none =
     let same : s ≡ setting = cc (at) in
-    let is : IsSettingOf one setting = subst (λ x. IsSettingOf one x) same zip.0 in record {
+    let is : IsSettingOf one setting = rw same at zip.0 in record {
       last = one;
-      is_last = here (subst (λ e. HasKey e key) is.entry has)
+      is_last = here (rw is.entry at has)
           (none_has key found all zip.1 (λ k d within. none (suc k) d (omega arith) (omega arith)));
       is_setting = is;
       read = read.0;
     }
 last_at key (one ∷ found) (s ∷ all) (suc i) setting read zip at has none =
     let rest = last_at key found all i setting read.1 zip.1 at has
-    (λ k d from within. none (suc k) d (omega arith) (omega arith)) in record {
-      last = rest.last;
-      is_last = later rest.is_last;
-      is_setting = rest.is_setting;
-      read = rest.read;
-    }
+    (λ k d from within. none (suc k) d (omega arith) (omega arith)) in
+    record { last = rest.last; is_last = later rest.is_last; is_setting = rest.is_setting; read = rest.read }
+last_at key found all i setting read zip at has none = absurd (search)
 
 pub last_of : (key : Key) (found : List (List ℕ × Entry)) (all : List Setting) (setting : Setting)
     → AreFoundRead found → AllZip IsSettingOf found all → settings.IsLast all key setting
@@ -241,12 +227,9 @@ last_of key found all setting read zip (i, at, has, none) = last_at key found al
 
 text_by : (entry : Entry) (value : Option (List ℕ)) (setting : Setting) → entry.value ≡ value
     → IsValueOf value (value_text setting) → IsRead entry → HasText entry (text_of setting)
-text_by entry None setting e is read = subst (HasText entry)
-    (sym (ap (λ v. option_map_or (λ text. text) v (codes "true")) is)) (alone e)
+text_by entry None setting e is read = rw is (alone e)
 text_by entry (Some raw) setting e is read =
-    let (text, ending, spells) = read.spells raw e in
-    subst (HasText entry) (sym (ap (λ v. option_map_or (λ text. text) v (codes "true")) (is text ending spells)))
-    (spelled e spells)
+    let (text, ending, spells) = read.spells raw e in rw (is text ending spells) (spelled e spells)
 
 pub has_text : (one : List ℕ × Entry) (setting : Setting) → IsSettingOf one setting → IsRead one.1
     → HasText one.1 (text_of setting)
@@ -259,14 +242,14 @@ pub settings_listed : (contents : List ℕ → Content → Type 0) (known : Know
     (all : List Setting)
     → EachIsRead → AreRead contents known first all → AreListed all
 settings_listed contents known first all each (found, walks, (added, is, zip)) =
-    are_listed found all (found_are_read each walks) (subst (AllZip IsSettingOf found) (sym is) zip)
+    are_listed found all (found_are_read each walks) (rw is zip)
 
 pub unset : (contents : List ℕ → Content → Type 0) (known : Known) (first : List FirstFile) (key : Key)
     (all : List Setting)
     → AreRead contents known first all → LacksKey all key
     → (found : List (List ℕ × Entry)) × WalksAll contents known first found None × NoneHas key found
 unset contents known first key all (found, walks, (added, is, zip)) lacks =
-    (found, walks, none_has key found all (subst (AllZip IsSettingOf found) (sym is) zip) lacks)
+    (found, walks, none_has key found all (rw is zip) lacks)
 
 -- the last entry with the key has the text of the setting, and the place of the setting
 pub decided : (contents : List ℕ → Content → Type 0) (known : Known) (first : List FirstFile) (key : Key)
@@ -276,13 +259,13 @@ pub decided : (contents : List ℕ → Content → Type 0) (known : Known) (firs
     × (setting.entry.line ≡ last.1.line)
 decided contents known first key all setting text each (found, walks, (added, is, zip)) last e =
     let at = last_of key found all setting (found_are_read each walks)
-    (subst (AllZip IsSettingOf found) (sym is) zip) last in (
+    (rw is zip) last in (
       at.last,
       record {
         found = found;
         walks = walks;
         is_last = at.is_last;
-        has_text = subst (HasText at.last.1) (sym e) (has_text at.last setting at.is_setting at.read);
+        has_text = rw e (has_text at.last setting at.is_setting at.read);
       },
       at.is_setting.file,
       ap (λ entry. entry.line) at.is_setting.entry,
@@ -297,8 +280,8 @@ of_file_are_read file (entry ∷ entries) read = (read.0, of_file_are_read file 
 
 pub listed_more : (file text : List ℕ) (old new : List Setting)
     → EachIsRead → AreListed old → AddsFile file text old new (Ok tt) → AreListed new
-listed_more file text old new each listed (entries, is_file, (added, is, zip)) = subst AreListed (sym is)
-    (All-append (λ setting. (key : List ℕ) × IsListed (entry_of setting.entry).section (entry_of setting.entry).key key)
+listed_more file text old new each listed (entries, is_file, (added, is, zip)) =
+    rw is (All-append (λ setting. (key : List ℕ) × IsListed (entry_of setting.entry).section (entry_of setting.entry).key key)
     old added listed
     (are_listed (map (λ entry. (file, entry)) entries) added
     (of_file_are_read file entries (each text entries None is_file)) zip))

@@ -1,6 +1,6 @@
 -- The laws that `push.default` has to prove as a kind of value.
-use Rattle.std.proofs.Common.{◌≡◌, ℕ, ◌⊎◌, inl, inr, List, [], ◌∷◌, Option, Some, None, refl, sym, ◌∙◌, codes}
-use Rattle.std.proofs.Common.{lit≤, if◌then◌else◌}
+use Rattle.std.proofs.Common.{arith, ◌≡◌, ℕ, ◌⊎◌, inl, inr, List, [], ◌∷◌, Option, Some, None, sym, ◌∙◌, codes}
+use Rattle.std.proofs.Common.{if◌then◌else◌}
 use Rattle.std.specs.Str.{bytes_eq}
 use Rattle.std.proofs.lemmas.Option.{same_Some}
 use Rattle.uses.specs.declared.push_default.PushDefault.{PushDefault}
@@ -26,12 +26,7 @@ value_of t =
 
 found : (t : List ℕ) (v : PushDefault) → PushDefaultText t v → value_of t ≡ Some v
 unfolding value_of
-found t Nothing p = rw p refl
-found t Current p = rw p refl
-found t Upstream (inl p) = rw p refl
-found t Upstream (inr p) = rw p refl
-found t Simple p = rw p refl
-found t Matching p = rw p refl
+found t v p = grind arith
 
 pub push_default_one_value : (t : List ℕ) (v w : PushDefault) → PushDefaultText t v → PushDefaultText t w
     → v ≡ w
@@ -54,26 +49,14 @@ push_default_canonical_reads = canonical_reads_by canonical_is_shown
 
 pub push_default_shown_is_text : (v : PushDefault) → HasText PushDefaultText v
     → IsTextOf PushDefaultText CanonicalPushDefault v (push_default_shown v)
-push_default_shown_is_text Nothing h = record { canonical_text = inl refl; reads_to = refl; short = lit≤ tt }
-push_default_shown_is_text Current h =
-    record { canonical_text = inr (inl refl); reads_to = refl; short = lit≤ tt }
-push_default_shown_is_text Upstream h =
-    record { canonical_text = inr (inr (inl refl)); reads_to = inl refl; short = lit≤ tt }
-push_default_shown_is_text Simple h =
-    record { canonical_text = inr (inr (inr (inl refl))); reads_to = refl; short = lit≤ tt }
-push_default_shown_is_text Matching h =
-    record { canonical_text = inr (inr (inr (inr refl))); reads_to = refl; short = lit≤ tt }
+push_default_shown_is_text v h = grind arith
 
 values : List PushDefault
 values = Nothing ∷ Current ∷ Upstream ∷ Simple ∷ Matching ∷ []
 
 each : (v : PushDefault) → OneOf values v
 unfolding values
-each Nothing = inl refl
-each Current = inr (inl refl)
-each Upstream = inr (inr (inl refl))
-each Simple = inr (inr (inr (inl refl)))
-each Matching = inr (inr (inr (inr (inl refl))))
+each v = grind arith
 
 told : (t : List ℕ) (v : PushDefault) → Told (PushDefaultText t v)
 told t Nothing = text_told t (codes "nothing")
@@ -87,10 +70,4 @@ push_default_decided t = decided_among PushDefaultText values each t (told t)
 
 -- each value has a text
 pub push_default_has_text : (v : PushDefault) → HasText PushDefaultText v
-push_default_has_text v = (push_default_shown v, reads_back v) where
-  reads_back : (v : PushDefault) → PushDefaultText (push_default_shown v) v
-  reads_back Nothing = refl
-  reads_back Current = refl
-  reads_back Upstream = inl refl
-  reads_back Simple = refl
-  reads_back Matching = refl
+push_default_has_text v = (push_default_shown v, grind arith)

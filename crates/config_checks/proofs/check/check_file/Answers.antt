@@ -1,7 +1,8 @@
 use Rattle.std.proofs.Common.{◌∙◌, ap}
 use Rattle.std.proofs.lemmas.Result.{IfOk-weaker}
 use Rattle.config_checks.specs.Rows.{rows_of}
-use Rattle.config_checks.proofs.CheckLemmas.{of_rows, fails_starting, fails_telling, completes, on_err_weaker}
+use Rattle.std.proofs.lemmas.Result.{on_err_weaker}
+use Rattle.config_checks.proofs.CheckLemmas.{fails_starting, fails_telling, completes}
 use Rattle.config_checks.proofs.check.check_file.Goals as goal
 
 pub returns-in-Err-clause-fails : goal.returns-in-Err-clause-fails
@@ -9,10 +10,10 @@ returns-in-Err-clause-fails g c = fails_starting _ _ _ _ _
 
 pub returns-clause-completes : goal.returns-clause-completes
 returns-clause-completes g c =
-    let all = of_rows (ap rows_of c.deref.ensures.value ∙ c.in-Ok.ensures) c.in_ok-counts.ensures.ok in
+    let all = rw (ap rows_of c.deref.ensures.value ∙ c.in-Ok.ensures) at c.in_ok-counts.ensures.ok in
     IfOk-weaker c.tell.result _ _ (λ after told. completes _ _ _ _ _ _ all.of_file _ _ _ all.all _ after told) c.tell.ensures.ok
 
 pub returns-clause-fails : goal.returns-clause-fails
 returns-clause-fails g c =
-    let all = of_rows (ap rows_of c.deref.ensures.value ∙ c.in-Ok.ensures) c.in_ok-counts.ensures.ok in
-    on_err_weaker _ _ c.tell.result (λ none. fails_telling _ _ _ _ _ _ all.of_file _ _ _ all.all _ none) c.tell.ensures.err
+    let all = rw (ap rows_of c.deref.ensures.value ∙ c.in-Ok.ensures) at c.in_ok-counts.ensures.ok in
+    on_err_weaker c.tell.result (λ none. fails_telling _ _ _ _ _ _ all.of_file _ _ _ all.all _ none) c.tell.ensures.err

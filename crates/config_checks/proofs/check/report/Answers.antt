@@ -1,8 +1,7 @@
-use Rattle.std.proofs.Common.{◌+◌, ◌∷◌, ◌∙◌, [], None, Some, option_map, refl, sym, ap, subst}
-use Rattle.config_checks.specs.Rows.{Decides, IsUnknown, rows_of}
-use Rattle.config_checks.specs.Reasons.{HasFinding}
+use Rattle.std.proofs.Common.{◌+◌, ◌∷◌, ◌∙◌, [], option_map, refl, sym, ap}
+use Rattle.config_checks.specs.Rows.{rows_of}
 use Rattle.config_checks.specs.Report.{right, found, counted, reason_finding}
-use Rattle.config_checks.specs.Reading.Steps.{IsSaidAs, said_findings}
+use Rattle.config_checks.specs.Reading.Steps.{said_findings}
 use Rattle.config_checks.proofs.CheckLemmas.{receives-nil, said_nothing, said_something}
 use Rattle.config_checks.proofs.check.report.Goals.{then-branch, else-branch}
 use Rattle.config_checks.proofs.check.report.Goals as goal
@@ -14,8 +13,8 @@ returns-in_default-clause-ok g c =
     let s = c.args.progress.counts in
     let text = option_map (λ t. t.items) c.in-Ok.said.reason in
     let meant = option_map (λ t. t.items) c.in-Ok.said.meant in
-    let is = subst (IsUnknown rows) c.deref.ensures.value c.in_default.ensures in
-    let said = subst (λ k. IsSaidAs rows k text meant) (c.in-Ok.ensures.0 ∙ c.deref-in_default.ensures.value) c.in-Ok.ensures.1.0 in
+    let is = rw c.deref.ensures.value at c.in_default.ensures in
+    let said = rw (c.in-Ok.ensures.0 ∙ c.deref-in_default.ensures.value) at c.in-Ok.ensures.1.0 in
     let reported = c.in_ok-give_said.ensures.reported in
     elim c.if-branch.branch [
       | then-branch w ↦ rw w.counts-is (rw w.with-counts.ensures (
@@ -37,9 +36,7 @@ returns-in_ok-give_reason-in-Ok-Some-clause-ok g c =
     let s = c.args.progress.counts in
     let bad = rw c.in-Ok-Some.field-0-is at c.in-Ok-Some.ensures in (
       reason_finding s.entries c.args.setting.now row reason ∷ [],
-      found row reason (subst (λ k. Decides (rows_of c.args.runs.now) k row) c.deref.ensures.value c.in-Some.ensures)
-          (subst (λ v. HasFinding c.args.options.now row v (Some reason)) c.value_of-value.ensures bad)
-          refl
+      found row reason (rw c.deref.ensures.value at c.in-Some.ensures) (rw c.value_of-value.ensures at bad) refl
           (c.with-counts-in-Ok-Some.ensures ∙ ap (λ v. counted v (record s { entries = s.entries + 1 })) c.severity.ensures),
       c.in_ok-give_reason-in-Ok-Some.ensures.ok,
     )
@@ -49,7 +46,6 @@ returns-in-Ok-None-clause-ok g c =
     let row = c.in-Some.row.now in
     let good = rw c.in-Ok-None.field-0-is at c.in-Ok-None.ensures in (
       [],
-      right row (subst (λ k. Decides (rows_of c.args.runs.now) k row) c.deref.ensures.value c.in-Some.ensures)
-          (subst (λ v. HasFinding c.args.options.now row v None) c.value_of-value.ensures good) refl refl,
+      right row (rw c.deref.ensures.value at c.in-Some.ensures) (rw c.value_of-value.ensures at good) refl refl,
       receives-nil _,
     )

@@ -1,7 +1,5 @@
-use Rattle.std.proofs.Common.{arith, sym, subst, Some, None}
-use Rattle.config_file.specs.declared.reader.Entries.{Entries}
-use Rattle.config_checks.specs.Rows.{rows_of}
-use Rattle.config_checks.proofs.CheckLemmas.{IsReported, are_none, reported_start, one_more, reported, fails_reading}
+use Rattle.std.proofs.Common.{arith, Some, None}
+use Rattle.config_checks.proofs.CheckLemmas.{are_none, reported_start, one_more, reported, fails_reading}
 use Rattle.config_checks.proofs.CheckLemmas.{leaves_room, on_err, receives-nil}
 use Rattle.config_checks.proofs.check.report_entries.Goals as goal
 
@@ -9,9 +7,7 @@ pub loop-entry-init : goal.loop-entry-init
 loop-entry-init g c =
     let none = c.default.ensures in (
       tt,
-      subst (λ (reader : Entries). IsReported (rows_of c.args.runs.now) c.args.options.now c.args.file.now c.args.text.now reader
-          (g.R.Receiver.received c.args.receiver.now) (g.R.Receiver.received c.args.receiver.now) c.default.result) (sym c.into_iter-entry-iterator.ensures.into_iter_gives)
-          (reported_start _ _ _ _ c.new-entry-items.result _ c.default.result c.new-entry-items.ensures.section c.new-entry-items.ensures.begins
+      rw c.into_iter-entry-iterator.ensures.into_iter_gives (reported_start _ _ _ _ c.new-entry-items.result _ c.default.result c.new-entry-items.ensures.section c.new-entry-items.ensures.begins
           (are_none c.default.result none.0 none.1.0 none.1.1.0 none.1.1.1.0 none.1.1.1.1)),
     )
 

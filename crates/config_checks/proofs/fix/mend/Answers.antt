@@ -1,6 +1,5 @@
-use Rattle.std.proofs.Common.{ℕ, List, ap, subst, option_copied}
+use Rattle.std.proofs.Common.{ap, option_copied}
 use Rattle.config_checks.specs.Findings.{finding_of}
-use Rattle.config_checks.specs.Fixes.{MendsValue, IsRenamed}
 use Rattle.config_checks.specs.Rows.{rows_of}
 use Rattle.config_checks.proofs.FixLemmas.{no_name}
 use Rattle.config_checks.proofs.fix.mend.Goals as goal
@@ -8,12 +7,11 @@ use Rattle.config_checks.proofs.fix.mend.Goals as goal
 pub returns-then-branch : goal.returns-then-branch
 returns-then-branch c = (
   ap option_copied c.in-Some-default-default.is-0,
-  subst (λ runs. MendsValue (rows_of runs) c.args.options.now c.args.setting.now c.args.finding.now.code c.in-Some-default-default.new.now)
-      c.deref.ensures.value (c.in_ok-mends_value-in-Some-default-default.ensures.0 c.if-branch.true),
+  rw c.deref.ensures.value at (c.in_ok-mends_value-in-Some-default-default.ensures.0 c.if-branch.true),
 )
 
 pub returns-in_default-other_name : goal.returns-in_default-other_name
 returns-in_default-other_name c = λ change. no_name (rows_of c.args.judge.now.runs.items) c.args.options.now
     c.args.setting.now (finding_of c.args.finding.now) c.in-None-Some-UnknownKey.key.now change
     (ap option_copied c.in-None-Some-UnknownKey.is-0) (ap option_copied c.in-None-Some-UnknownKey.is-1)
-    (subst (λ k. (name : List ℕ) → ¬ (IsRenamed k c.in-None-Some-UnknownKey.key.now name)) c.deref-in-None-Some-UnknownKey.ensures.value c.in_default-other_name.ensures)
+    (rw c.deref-in-None-Some-UnknownKey.ensures.value at c.in_default-other_name.ensures)

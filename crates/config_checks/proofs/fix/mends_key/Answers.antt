@@ -1,6 +1,6 @@
-use Rattle.std.proofs.Common.{◌↔◌, ◌∙◌, IsTrue, ap, subst, rules}
+use Rattle.std.proofs.Common.{◌∙◌, ap, rules}
 use Rattle.std.proofs.lemmas.Result.{IfOk-weaker}
-use Rattle.config_checks.specs.Fixes.{IsClean, IsOnlyKey}
+use Rattle.config_checks.specs.Fixes.{IsClean}
 use Rattle.config_checks.specs.Rows.{rows_of}
 use Rattle.config_checks.specs.Settings.{value_of}
 use Rattle.config_checks.proofs.FixLemmas.{key_if}
@@ -16,5 +16,4 @@ returns c =
     let clean : IsClean rows c.args.options.now key (value_of setting) = search rules in
     IfOk-weaker c.is_only_key.result _ _
     (λ b only. key_if rows back c.args.options.now setting key b (ap rows_of c.deref-2.ensures.value ∙ judge.order) clean
-    (subst (λ k. IsTrue b ↔ IsOnlyKey back k key) c.deref-3.ensures.value only))
-    c.is_only_key.ensures
+    (rw c.deref-3.ensures.value at only)) c.is_only_key.ensures

@@ -1,10 +1,8 @@
-use Rattle.std.proofs.Common.{◌≡◌, ◌↔◌, IsTrue, None, Some, rules, subst}
+use Rattle.std.proofs.Common.{None, Some, rules}
 use Rattle.std.proofs.lemmas.Bool.{false≢true}
 use Rattle.std.proofs.lemmas.Result.{IfOk-weaker}
-use Rattle.config_checks.specs.declared.code.Code.TheVariants.{NotAWord}
-use Rattle.config_checks.specs.Fixes.{IsOnlyMeant}
 use Rattle.config_checks.specs.Reasons.{HasFinding}
-use Rattle.config_checks.specs.Rows.{Decides, IsUnknown, rows_of}
+use Rattle.config_checks.specs.Rows.{rows_of}
 use Rattle.config_checks.proofs.OneKey.{known_once}
 use Rattle.config_checks.proofs.FixLemmas.{mends_if, mends_not}
 use Rattle.config_checks.proofs.fix.mends_value.Goals as goal
@@ -12,7 +10,7 @@ use Rattle.config_checks.proofs.fix.mends_value.Goals as goal
 pub returns-in_default : goal.returns-in_default
 returns-in_default c =
     let rows = rows_of c.args.runs.now in
-    let unknown = subst (IsUnknown rows) c.deref.ensures.value c.in_default.ensures in (
+    let unknown = rw c.deref.ensures.value at c.in_default.ensures in (
       λ h. absurd (false≢true h),
       λ mends. absurd (known_once rows c.args.setting.now.key.items mends.clean.row mends.clean.decides unknown),
     )
@@ -22,7 +20,7 @@ returns-then-not-branch c =
     let rows = rows_of c.args.runs.now in
     let row = c.in-Some.row.now in
     let options = c.args.options.now in
-    let decides = subst (λ k. Decides rows k row) c.deref.ensures.value c.in-Some.ensures in
+    let decides = rw c.deref.ensures.value at c.in-Some.ensures in
     let other : ¬ (HasFinding options row (Some c.args.new.now) None) = search rules in (
       λ h. absurd (false≢true h),
       λ mends. absurd (mends_not rows options c.args.setting.now c.args.code c.args.new.now row decides other mends),
@@ -35,9 +33,7 @@ returns c =
     let options = c.args.options.now in
     let setting = c.args.setting.now in
     let new = c.args.new.now in
-    let decides = subst (λ k. Decides rows k row) c.deref.ensures.value c.in-Some.ensures in
+    let decides = rw c.deref.ensures.value at c.in-Some.ensures in
     let none : HasFinding options row (Some new) None = search rules in
     IfOk-weaker c.is_only_value.result _ _
-    (λ b only. mends_if rows options setting c.args.code new row decides b none
-    (subst (λ v. IsTrue b ↔ (c.args.code ≡ NotAWord → IsOnlyMeant row.kind v new)) c.value_of.ensures only))
-    c.is_only_value.ensures
+    (λ b only. mends_if rows options setting c.args.code new row decides b none (rw c.value_of.ensures at only)) c.is_only_value.ensures

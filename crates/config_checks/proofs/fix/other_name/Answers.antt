@@ -1,7 +1,6 @@
-use Rattle.std.proofs.Common.{◌≡◌, ◌∙◌, sym, subst}
+use Rattle.std.proofs.Common.{◌≡◌, ◌∙◌, sym}
 use Rattle.std.proofs.lemmas.Bool.{false≢true}
 use Rattle.config_text.specs.SameWord.{SameWord}
-use Rattle.config_file.specs.KeyView.{key_of}
 use Rattle.config_file.proofs.OneKey.{cut_same}
 use Rattle.config_checks.proofs.fix.other_name.Goals as goal
 
@@ -9,8 +8,6 @@ pub returns-else-is_beside : goal.returns-else-is_beside
 returns-else-is_beside c = λ name renamed.
     let from = cut_same renamed.is c.in_ok-key.ensures in
     let to = cut_same renamed.becomes c.in_ok-other.ensures in
-    let beside = subst
-    (λ a. SameWord a.section (key_of c.in_ok-other.other).section × (a.subsection ≡ (key_of c.in_ok-other.other).subsection)) from
-    (subst (λ b. SameWord renamed.from.section b.section × (renamed.from.subsection ≡ b.subsection)) to
-    (renamed.section, renamed.subsection)) in
-    false≢true (sym c.if-is_beside.false ∙ c.is_beside.ensures.1 beside)
+    let beside : SameWord renamed.from.section renamed.to.section × (renamed.from.subsection ≡ renamed.to.subsection) =
+    (renamed.section, renamed.subsection) in
+    false≢true (sym c.if-is_beside.false ∙ c.is_beside.ensures.1 (rw (from, to) at beside))

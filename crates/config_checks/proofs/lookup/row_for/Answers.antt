@@ -1,9 +1,8 @@
-use Rattle.std.proofs.Common.{arith, rules, sym, subst, inr}
+use Rattle.std.proofs.Common.{arith, rules, sym, inr}
 use Rattle.std.proofs.lemmas.List.{take_all}
 use Rattle.config_text.specs.SameWord.{SameWord}
 use Rattle.config_file.specs.KeyView.{key_of}
 use Rattle.config_checks.specs.Keys.{Covers}
-use Rattle.config_checks.specs.Rows.{CoversNone, rows_of}
 use Rattle.config_checks.proofs.RunLemmas.{other_section, all_more, decides}
 use Rattle.config_checks.proofs.lookup.row_for.Goals as goal
 
@@ -26,9 +25,6 @@ loop-run-preserved c =
     c.loop-run.invariant c.in_default.ensures
 
 pub returns : goal.returns
-returns c = inr (
-  key_of c.in_ok-key.key,
-  c.in_ok-key.ensures,
-  subst (λ runs. CoversNone (rows_of runs) (key_of c.in_ok-key.key)) (take_all c.loop-run.run-index c.args.runs.now (omega (arith, c.loop-run-test.false)))
-      c.loop-run.invariant,
-)
+returns c =
+    let all = take_all c.loop-run.run-index c.args.runs.now (omega (arith, c.loop-run-test.false)) in
+    inr (key_of c.in_ok-key.key, c.in_ok-key.ensures, rw all at c.loop-run.invariant)

@@ -1,9 +1,7 @@
-use Rattle.std.proofs.Common.{arith, rules, sym, subst, refl, ◌∙◌}
+use Rattle.std.proofs.Common.{arith, rules, sym, refl, ◌∙◌}
 use Rattle.std.proofs.lemmas.List.{take_all}
-use Rattle.std.specs.List.{All}
 use Rattle.config_text.specs.SameWord.{SameWord}
 use Rattle.config_file.specs.KeyView.{key_of}
-use Rattle.config_checks.specs.Rows.{rows_of}
 use Rattle.config_checks.proofs.RunLemmas.{all_more, has_run}
 use Rattle.config_checks.proofs.suggestion.has_section.Goals as goal
 
@@ -23,9 +21,6 @@ returns-then-is_same_word c =
 
 pub returns : goal.returns
 returns c =
-    let none = subst (λ runs. All (λ row. ¬ (SameWord (key_of row.key).section c.args.section.now)) (rows_of runs))
-    (take_all c.loop-run.run-index c.args.runs.now (omega (arith, c.loop-run-test.false))) c.loop-run.invariant in (
-      λ yes. absurd (search rules),
-      λ (place, row, inside, stands, same).
-          absurd (none place row inside (subst (λ row. SameWord (key_of row.key).section c.args.section.now) (sym stands) same)),
-    )
+    let all = take_all c.loop-run.run-index c.args.runs.now (omega (arith, c.loop-run-test.false)) in
+    let none = rw all at c.loop-run.invariant in
+    (λ yes. absurd (search rules), λ (place, row, inside, stands, same). absurd (none place row inside (rw stands same)))

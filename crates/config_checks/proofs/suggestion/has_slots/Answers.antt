@@ -1,8 +1,6 @@
-use Rattle.std.proofs.Common.{arith, rules, sym, subst, refl, ◌∙◌}
+use Rattle.std.proofs.Common.{arith, rules, sym, refl, ◌∙◌}
 use Rattle.std.proofs.lemmas.List.{take_all}
 use Rattle.std.proofs.lemmas.Bool.{false≢true}
-use Rattle.config_checks.specs.Rows.{rows_of}
-use Rattle.config_checks.specs.Suggestions.{HasNone}
 use Rattle.config_checks.proofs.RunLemmas.{IsSlot, all_more, slots_in, no_slots, no_colors}
 use Rattle.config_checks.proofs.suggestion.has_slots.Goals.{else-is_same_word-via-then-is_same_word+else-is_some, else-is_same_word-via-else-is_same_word}
 use Rattle.config_checks.proofs.suggestion.has_slots.Goals as goal
@@ -31,9 +29,6 @@ loop-run-preserved c =
 
 pub returns : goal.returns
 returns c =
-    let t = c.args.subsection.now in
-    let none = subst (λ runs. HasNone (IsSlot t) (rows_of runs))
-    (take_all c.loop-run.run-index c.args.runs.now (omega (arith, c.loop-run-test.false))) c.loop-run.invariant in (
-      λ yes. absurd (search rules),
-      λ (place, row, inside, stands, is). absurd (none place row inside (subst (IsSlot t) (sym stands) is)),
-    )
+    let all = take_all c.loop-run.run-index c.args.runs.now (omega (arith, c.loop-run-test.false)) in
+    let none = rw all at c.loop-run.invariant in
+    (λ yes. absurd (search rules), λ (place, row, inside, stands, is). absurd (none place row inside (rw stands is)))

@@ -1,8 +1,7 @@
-use Rattle.std.proofs.Common.{arith, sym, subst}
+use Rattle.std.proofs.Common.{arith, sym}
 use Rattle.std.proofs.lemmas.List.{take_all}
 use Rattle.config_file.specs.KeyView.{key_of}
-use Rattle.config_checks.specs.Rows.{rows_of}
-use Rattle.config_checks.specs.Suggestions.{IsMovedRow, HasNone}
+use Rattle.config_checks.specs.Suggestions.{IsMovedRow}
 use Rattle.config_checks.proofs.RunLemmas.{all_more, first_such}
 use Rattle.config_checks.proofs.suggestion.moved.Goals as goal
 
@@ -19,5 +18,4 @@ loop-run-preserved c =
     c.loop-run.invariant c.in_default.ensures
 
 pub returns : goal.returns
-returns c = subst (λ runs. HasNone (IsMovedRow (key_of c.args.key.now)) (rows_of runs))
-    (take_all c.loop-run.run-index c.args.runs.now (omega (arith, c.loop-run-test.false))) c.loop-run.invariant
+returns c = rw (take_all c.loop-run.run-index c.args.runs.now (omega (arith, c.loop-run-test.false))) at c.loop-run.invariant

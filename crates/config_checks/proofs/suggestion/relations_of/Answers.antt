@@ -1,6 +1,6 @@
-use Rattle.std.proofs.Common.{sym, subst, arith}
+use Rattle.std.proofs.Common.{sym, arith}
 use Rattle.std.proofs.lemmas.List.{take_all}
-use Rattle.config_checks.specs.Reading.Steps.{AreRelations, IsRelation}
+use Rattle.config_checks.specs.Reading.Steps.{IsRelation}
 use Rattle.std.proofs.lemmas.Slice.Zip.{all_zipped_more}
 use Rattle.config_checks.specs.declared.row.Run.{Run}
 use Rattle.config_checks.specs.declared.suggestion.Relation.{Relation}
@@ -16,5 +16,4 @@ loop-run-preserved c =
     c.loop-run.invariant c.in_ok-relation_between.ensures)
 
 pub returns : goal.returns
-returns c = subst (λ runs. AreRelations runs c.args.section.now c.loop-run.relations.items)
-    (take_all c.loop-run.run-index c.args.runs.now (omega (arith, c.loop-run-test.false))) c.loop-run.invariant
+returns c = rw (take_all c.loop-run.run-index c.args.runs.now (omega (arith, c.loop-run-test.false))) at c.loop-run.invariant

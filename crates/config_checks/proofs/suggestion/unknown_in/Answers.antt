@@ -1,57 +1,33 @@
-use Rattle.std.proofs.Common.{◌↔◌, IsTrue, MatchOption, subst, rules}
-use Rattle.config_file.specs.KeyView.{key_of}
-use Rattle.config_checks.specs.Nearest.{AreFar, IsNearest}
-use Rattle.config_checks.specs.Reading.Steps.{AreRelations}
-use Rattle.config_checks.specs.Rows.{rows_of}
-use Rattle.config_checks.specs.Suggestions.{RowEdits, HasSection}
+use Rattle.std.proofs.Common.{IsTrue, rules}
 use Rattle.config_checks.specs.Suggestions.IsSuggested.{near, moved}
 use Rattle.config_checks.proofs.suggestion.unknown_in.Goals as goal
 
 pub nearest-requires : goal.nearest-requires
 nearest-requires c =
-    rw c.deref.ensures.value (subst (λ name. AreRelations c.args.runs.now name c.args.section.now.relations.items) c.requires.same c.requires.known.relations)
+    rw c.deref.ensures.value (rw c.requires.same at c.requires.known.relations)
 
 pub elsewhere-requires : goal.elsewhere-requires
-elsewhere-requires c =
-    subst (λ name. IsTrue c.args.section.now.is_known ↔ HasSection (rows_of c.args.runs.now) name) c.requires.same c.requires.known.known
+elsewhere-requires c = rw c.requires.same at c.requires.known.known
 
 pub is_own-requires : goal.is_own-requires
-is_own-requires c =
-    subst (λ name. IsTrue c.args.section.now.is_known ↔ HasSection (rows_of c.args.runs.now) name) c.requires.same c.requires.known.known
+is_own-requires c = rw c.requires.same at c.requires.known.known
 
 pub returns-in-Some : goal.returns-in-Some
-returns-in-Some c =
-    let key = key_of c.args.key.now in
-    let rows = rows_of c.args.runs.now in (
-      c.in-Some.row.now,
-      near (subst (λ r. MatchOption r (AreFar (RowEdits key) rows) (λ row. IsNearest (RowEdits key) rows row.now)) c.in-Some.is c.in_ok-row.ensures),
-      c.filled_key.ensures,
-    )
+returns-in-Some c = (c.in-Some.row.now, near (rw c.in-Some.is at c.in_ok-row.ensures), c.filled_key.ensures)
 
 pub returns-in-Some-elsewhere : goal.returns-in-Some-elsewhere
-returns-in-Some-elsewhere c =
-    let key = key_of c.args.key.now in
-    let rows = rows_of c.args.runs.now in (
-      c.in-Some-elsewhere.row.now,
-      moved (subst (λ r. MatchOption r (AreFar (RowEdits key) rows) (λ row. IsNearest (RowEdits key) rows row.now)) c.in_default.is c.in_ok-row.ensures)
-          c.in-Some-elsewhere.ensures,
-      c.filled_key-in-Some-elsewhere.ensures,
-    )
+returns-in-Some-elsewhere c = (
+  c.in-Some-elsewhere.row.now,
+  moved (rw c.in_default.is at c.in_ok-row.ensures) c.in-Some-elsewhere.ensures,
+  c.filled_key-in-Some-elsewhere.ensures,
+)
 
 pub returns-in-None : goal.returns-in-None
 returns-in-None c =
-    let key = key_of c.args.key.now in
-    let rows = rows_of c.args.runs.now in (
-      subst (λ r. MatchOption r (AreFar (RowEdits key) rows) (λ row. IsNearest (RowEdits key) rows row.now)) c.in_default.is c.in_ok-row.ensures,
-      (c.in-None.ensures, c.is_own.ensures.0 c.if-is_own.true),
-    )
+    (rw c.in_default.is at c.in_ok-row.ensures, (c.in-None.ensures, c.is_own.ensures.0 c.if-is_own.true))
 
 pub returns-in-None-2 : goal.returns-in-None-2
 returns-in-None-2 c =
-    let key = key_of c.args.key.now in
-    let rows = rows_of c.args.runs.now in
-    let wrong : ¬ (IsTrue c.is_own.result) = search rules in record {
-      far = subst (λ r. MatchOption r (AreFar (RowEdits key) rows) (λ row. IsNearest (RowEdits key) rows row.now)) c.in_default.is c.in_ok-row.ensures;
-      nowhere = c.in-None.ensures;
-      not_own = λ own. wrong (c.is_own.ensures.1 own);
-    }
+    let wrong : ¬ (IsTrue c.is_own.result) = search rules in
+    let far = rw c.in_default.is at c.in_ok-row.ensures in
+    record { far = far; nowhere = c.in-None.ensures; not_own = λ own. wrong (c.is_own.ensures.1 own) }

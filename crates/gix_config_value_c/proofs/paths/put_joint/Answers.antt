@@ -1,5 +1,5 @@
-use Rattle.std.proofs.Common.{◌≡◌, ℕ, ◌+◌, ◌≤◌, List, [], ◌++◌, length, take, drop, codes, Option, None, Some}
-use Rattle.std.proofs.Common.{refl, sym, ap, ◌∙◌, arith, if◌then◌else◌}
+use Rattle.std.proofs.Common.{◌≡◌, ℕ, ◌+◌, ◌≤◌, List, [], ◌++◌, length, take, drop, codes, Option}
+use Rattle.std.proofs.Common.{refl, sym, ◌∙◌, arith, if◌then◌else◌}
 use Rattle.std.specs.Option.{option_map_or, unwrap_or}
 use denote.Ref.{Bor}
 use Rattle.config_path.specs.declared.parts.Joint.{Joint}
@@ -30,8 +30,7 @@ filled dir slash rest old one two new first second end e f k e' f' k' e'' f'' k'
 
 dir_bytes : (o : Option (Bor (List ℕ))) (given dir : Bor (List ℕ)) → dir ≡ unwrap_or o given → given.now ≡ []
     → option_map_or (λ d. d.now) o [] ≡ dir.now
-dir_bytes None given dir e n = sym (ap (λ d. d.now) e ∙ n)
-dir_bytes (Some d) given dir e n = sym (ap (λ d. d.now) e)
+dir_bytes o given dir e n = grind arith
 
 is_text : (joint : Joint (Bor (List ℕ))) (given dir : Bor (List ℕ)) (slash shown rest : List ℕ)
     → dir ≡ unwrap_or joint.dir given → given.now ≡ [] → slash ≡ shown

@@ -1,8 +1,5 @@
-use Rattle.std.proofs.Common.{refl}
+use Rattle.std.proofs.Common.{arith, refl}
 use Rattle.config_path.specs.declared.interpolate.Error.{Error}
-use Rattle.config_path.specs.declared.interpolate.Error.TheVariants.{PathMissing, InstallDirMissing}
-use Rattle.config_path.specs.declared.interpolate.Error.TheVariants.{HomeMissing, LookupMissing, UserNotFound}
-use Rattle.config_path.specs.declared.interpolate.Error.TheVariants.{IllFormed, Memory}
 use Rattle.config_path.specs.Interpolation.{refusal}
 use Rattle.gix_config_value_c.specs.Faults.{path_fault_number}
 use Rattle.gix_config_value_c.specs.Paths.{IsPathFault}
@@ -10,13 +7,7 @@ use Rattle.gix_config_value_c.specs.Paths.PutsPath.{refused}
 use Rattle.gix_config_value_c.proofs.paths.put_path.Goals as goal
 
 numbered : (e : Error) → IsPathFault (refusal e) (path_fault_number e)
-numbered PathMissing = refl
-numbered InstallDirMissing = refl
-numbered HomeMissing = refl
-numbered LookupMissing = refl
-numbered UserNotFound = refl
-numbered (IllFormed place input) = refl
-numbered (Memory e) = refl
+numbered e = grind arith
 
 pub returns-in-Ok : goal.returns-in-Ok
 returns-in-Ok c = rw c.in-Ok.is (c.put_joint.ensures _)

@@ -10,13 +10,7 @@ use Rattle.gix_config_value_c.proofs.structs.name_of.Goals as goal
 equal : (a b : GcvName) → a ≡ b
     → (a.tag == b.tag && (a.palette == b.palette && (a.red == b.red && (a.green == b.green && a.blue == b.blue))))
     ≡ true
-equal a b e =
-    let tag = ap (λ (n : GcvName). n.tag) e in
-    let palette = ap (λ (n : GcvName). n.palette) e in
-    let red = ap (λ (n : GcvName). n.red) e in
-    let green = ap (λ (n : GcvName). n.green) e in
-    let blue = ap (λ (n : GcvName). n.blue) e in
-    grind (arith, nat_tests)
+equal a b e = rw e (grind (arith, nat_tests))
 
 pub returns-in_err-found : goal.returns-in_err-found
 returns-in_err-found c =

@@ -1,7 +1,6 @@
 use Rattle.std.proofs.Common.{◌≡◌, sym, ◌∙◌, arith, ℕ, ◌-◌, ◌<◌, ◌≤◌, false, None, Result}
-use Rattle.std.proofs.Common.{Ok, Err}
 use Rattle.std.proofs.lemmas.Bool.Decides.{nat_tests}
-use Rattle.std.proofs.lemmas.Option.{none-some, slice_get_past}
+use Rattle.std.proofs.lemmas.Option.{slice_get_past}
 use Rattle.std.specs.Prelude.{◌==◌}
 use Rattle.std.specs.Result.{OkIff, result_ok}
 use Rattle.config_word.specs.Name.{word_names}
@@ -10,8 +9,7 @@ use Rattle.gix_config_value_c.specs.Reading.Structs.{tagged_name}
 use Rattle.gix_config_value_c.proofs.structs.tagged_name.Goals as goal
 
 no_number : {E P : Type 0} (r : Result ℕ E) (k : ℕ) → OkIff r P k → None ≡ result_ok r → ¬ P
-no_number (Ok n) k h e = absurd (none-some n e)
-no_number (Err f) k h e = h
+no_number r k h e = grind arith
 
 past_words : (c : GcvName) → ¬ (c.tag - 1 < 256) → tagged_name c ≡ None
 unfolding word_names

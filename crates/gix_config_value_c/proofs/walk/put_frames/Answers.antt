@@ -1,7 +1,5 @@
-use Rattle.std.proofs.Common.{arith, subst, refl, take, length, ap, ◌<◌, ◌+◌}
-use Rattle.std.specs.List.{AllZip}
+use Rattle.std.proofs.Common.{arith, refl, length, ap, ◌<◌, ◌+◌}
 use Rattle.std.proofs.lemmas.List.{take_all}
-use Rattle.gix_config_value_c.specs.Walks.{HoldsFrame}
 use Rattle.gix_config_value_c.proofs.Frames.{one_put}
 use Rattle.gix_config_value_c.proofs.walk.put_frames.Goals as goal
 
@@ -42,5 +40,4 @@ pub returns-clause-holds : goal.returns-clause-holds
 returns-clause-holds c =
     let all = take_all c.loop-frame.count c.frames-frame-items.result.now
     (omega (arith, c.loop-frame.invariant.0, c.loop-frame-test.false)) in
-    subst (λ fs. AllZip HoldsFrame (take c.loop-frame.count c.loop-frame.frames) fs) c.frames-frame-items.ensures
-    (subst (λ fs. AllZip HoldsFrame (take c.loop-frame.count c.loop-frame.frames) fs) all c.loop-frame.invariant.1)
+    rw (all, c.frames-frame-items.ensures) at c.loop-frame.invariant.1

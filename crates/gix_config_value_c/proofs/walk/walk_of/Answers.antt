@@ -1,12 +1,10 @@
-use Rattle.std.proofs.Common.{arith, subst, sym, []}
-use Rattle.std.specs.List.{AllZip}
+use Rattle.std.proofs.Common.{arith}
 use Rattle.std.proofs.lemmas.List.{take_all}
-use Rattle.gix_config_value_c.specs.Walks.{HoldsFrame}
 use Rattle.gix_config_value_c.proofs.Frames.{held_at, one_more, too_many}
 use Rattle.gix_config_value_c.proofs.walk.walk_of.Goals as goal
 
 pub loop-frame-init : goal.loop-frame-init
-loop-frame-init c = subst (λ fs. AllZip HoldsFrame [] fs) (sym c.default-walk.ensures) tt
+loop-frame-init c = rw c.default-walk.ensures tt
 
 pub returns-in_err-frame : goal.returns-in_err-frame
 returns-in_err-frame c =
@@ -27,6 +25,4 @@ loop-frame-preserved c =
 
 pub returns : goal.returns
 returns c =
-    subst (λ cs. AllZip HoldsFrame cs c.loop-frame.walk.frames.items)
-    (take_all c.loop-frame.frame-index c.args.frames.now (omega (arith, c.loop-frame-test.false)))
-    c.loop-frame.invariant
+    rw (take_all c.loop-frame.frame-index c.args.frames.now (omega (arith, c.loop-frame-test.false))) at c.loop-frame.invariant

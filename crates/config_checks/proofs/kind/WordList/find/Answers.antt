@@ -1,6 +1,6 @@
-use Rattle.std.proofs.Common.{rules, arith, subst, sym, ap, length, get_or, ◌<◌, [], IsTrue, Bor, List, ℕ}
+use Rattle.std.proofs.Common.{rules, arith, subst, ap, length, ◌<◌, [], IsTrue}
 use Rattle.std.proofs.lemmas.List.{take_all, get_or_default}
-use Rattle.config_checks.specs.Kinds.{IsNoWord, IsWord}
+use Rattle.config_checks.specs.Kinds.{IsNoWord}
 use Rattle.config_checks.proofs.WordLemmas.{no_more}
 use Rattle.config_checks.proofs.kind.WordList.find.Goals as goal
 
@@ -13,9 +13,7 @@ loop-word-preserved c =
     let wrong : ¬ (IsTrue c.is_word.result) = search rules in
     no_more list c.args.text.now c.loop-word.word-index c.loop-word.invariant inside
     (λ d word. wrong (c.is_word.ensures.1
-    (subst (λ xs. IsWord list c.args.text.now (get_or {A = Bor (List ℕ)} xs c.loop-word.word-index (record { ref_ptr = (0, 0); now = [] })).now) (sym words)
-    (subst (λ w. IsWord list c.args.text.now w.now)
-    (get_or_default list.words.items c.loop-word.word-index d (record { ref_ptr = (0, 0); now = [] }) inside) word))))
+    (rw (words, get_or_default list.words.items c.loop-word.word-index (record { ref_ptr = (0, 0); now = [] }) d inside) word)))
 
 pub returns : goal.returns
 returns c = subst (IsNoWord c.args.self.now c.args.text.now)

@@ -9,23 +9,13 @@ use Rattle.config_color.specs.Laws.Color.{color_one_value}
 use Rattle.gix_config_value_c.proofs.OneAnswer.{reads_once, one_fault, always_one, one_amount_fault}
 use Rattle.gix_config_value_c.proofs.laws.answers.readers.Goals as goal
 
-pub returns-clause-suffixes : goal.returns-clause-suffixes
-returns-clause-suffixes c = reads_once _ _ _ suffix_one_value (λ t m n p q. p ∙ sym q)
-
-pub returns-clause-integers : goal.returns-clause-integers
-returns-clause-integers c = reads_once _ _ _ integer_one_value (one_fault _ (always_one _))
-
-pub returns-clause-amounts : goal.returns-clause-amounts
-returns-clause-amounts c = reads_once _ _ _ amount_one_value (one_fault _ one_amount_fault)
-
-pub returns-clause-booleans : goal.returns-clause-booleans
-returns-clause-booleans c = reads_once _ _ _ boolean_one_value (one_fault _ (always_one _))
-
-pub returns-clause-names : goal.returns-clause-names
-returns-clause-names c = reads_once _ _ _ name_one_value (one_fault _ (always_one _))
-
-pub returns-clause-attributes : goal.returns-clause-attributes
-returns-clause-attributes c = reads_once _ _ _ attribute_one_value (one_fault _ (always_one _))
-
-pub returns-clause-colors : goal.returns-clause-colors
-returns-clause-colors c = reads_once _ _ _ color_one_value (one_fault _ (always_one _))
+pub returns : goal.returns
+returns c = record {
+  suffixes = reads_once _ _ _ suffix_one_value (λ t m n p q. p ∙ sym q);
+  integers = reads_once _ _ _ integer_one_value (one_fault _ (always_one _));
+  amounts = reads_once _ _ _ amount_one_value (one_fault _ one_amount_fault);
+  booleans = reads_once _ _ _ boolean_one_value (one_fault _ (always_one _));
+  names = reads_once _ _ _ name_one_value (one_fault _ (always_one _));
+  attributes = reads_once _ _ _ attribute_one_value (one_fault _ (always_one _));
+  colors = reads_once _ _ _ color_one_value (one_fault _ (always_one _));
+}
