@@ -1,7 +1,7 @@
 -- Words of printing ASCII bytes. They contain no white space, so a text that joins them by spaces has these
 -- words.
 use Rattle.std.proofs.Common.{◌≡◌, ℕ, ◌≤◌, inl, inr, Bool, true, false, ◌&&◌, codes, nat_le, List, [], ◌∷◌}
-use Rattle.std.proofs.Common.{◌++◌, Option, Some, None, refl, ◌∙◌, arith}
+use Rattle.std.proofs.Common.{◌++◌, Option, Some, None, refl, ◌∙◌, append_assoc, arith}
 use Rattle.std.specs.List.{AllByRecursion, join_with_byte, list_all}
 use Rattle.std.specs.Str.Parse.{AllDigits}
 use Rattle.std.proofs.lemmas.Bool.{and_from, and_parts}
@@ -61,16 +61,13 @@ words_spaced [] h = words_none [] refl
 words_spaced (w ∷ []) h = plain_word w (and_parts (is_plain_word w) true h).0
 words_spaced (w ∷ v ∷ ws) h =
     let k = and_parts (is_plain_word w) (list_all is_plain_word (v ∷ ws)) h in
-    words_joined w (codes " ") (join_with_byte space (v ∷ ws)) space_byte
-    ∙ rw (plain_word w k.0, words_spaced (v ∷ ws) k.1) refl
-
-pub all_plain_append : (xs ys : List (List ℕ)) → list_all is_plain_word xs ≡ true
-    → list_all is_plain_word ys ≡ true
-    → list_all is_plain_word (xs ++ ys) ≡ true
-all_plain_append [] ys p q = q
-all_plain_append (x ∷ xs) ys p q =
-    let k = and_parts (is_plain_word x) (list_all is_plain_word xs) p in
-    and_from (is_plain_word x) (list_all is_plain_word (xs ++ ys)) k.0 (all_plain_append xs ys k.1 q)
+    rw (
+      ← (append_assoc w (codes " ") (join_with_byte space (v ∷ ws))),
+      words_joined,
+      plain_word w k.0,
+      words_spaced (v ∷ ws) k.1,
+      space_byte,
+    )
 
 chosen_all_plain : (rows ws : List (List ℕ)) → list_all is_plain_word rows ≡ true → Chosen rows ws
     → list_all is_plain_word ws ≡ true
