@@ -467,10 +467,6 @@ same_parts E v w =
     option_eq E v.foreground w.foreground
     && (option_eq E v.background w.background && (v.attributes.0 == w.attributes.0))
 
--- three tests that are all true
-all_pass : (a b c : Bool) → (a && (b && c)) ≡ true → (a ≡ true) × (b ≡ true) × (c ≡ true)
-all_pass a b c h = let k = and_parts a (b && c) h in let l = and_parts b c k.1 in (k.0, l.0, l.1)
-
 -- the test of the parts is true exactly if the colors are the same
 pub color_equal : (E : Name → Name → Bool) → ((n m : Name) → (IsTrue (E n m)) ↔ (n ≡ m))
     → (v w : Color) → (IsTrue (same_parts E v w)) ↔ (v ≡ w)
@@ -487,11 +483,9 @@ color_equal E law v w = (to, from) where
 
   to : IsTrue (same_parts E v w) → v ≡ w
   to h =
-      let front = option_eq E v.foreground w.foreground in
-      let back = option_eq E v.background w.background in
-      let k = all_pass front back (v.attributes.0 == w.attributes.0) h in
-      same_color v w (part_same v.foreground w.foreground k.0) (part_same v.background w.background k.1)
-      ((Decides-eqb v.attributes.0 w.attributes.0).0 k.2)
+      let (front, rest) = and_parts _ _ h in
+      let (back, bits) = and_parts _ _ rest in
+      same_color v w (part_same _ _ front) (part_same _ _ back) ((Decides-eqb _ _).0 bits)
 
   from : v ≡ w → IsTrue (same_parts E v w)
   from e =

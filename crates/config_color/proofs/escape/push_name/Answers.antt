@@ -6,6 +6,5 @@ use Rattle.config_color.proofs.escape.push_name.Goals as goal
 
 pub returns-in-Default : goal.returns-in-Default
 returns-in-Default c =
-    let one = of_two (c.args.black + 9) _ _ (omega (arith, c.requires.black)) c.push_number.ensures in
-    subst (λ n. Continues (map decimal (name_codes c.args.black n)) 17 c.args.text.now.bytes
-    c.push_number.new.text.bytes) (sym c.in-Default.is) (continues_within _ 3 17 _ _ one (omega arith))
+    let one = of_two (c.args.black + 9) (omega (arith, c.requires.black)) c.push_number.ensures in
+    rw c.in-Default.is (continues_within _ 3 17 _ _ one (omega arith))
