@@ -87,10 +87,7 @@ opened_short bits (row ∷ rows) =
 -- the codes of two lists of rows
 pub rows_append : (bits : ℕ) (xs ys : List (ℕ × List ℕ))
     → row_codes bits (xs ++ ys) ≡ row_codes bits xs ++ row_codes bits ys
-rows_append bits xs ys =
-    let p : ℕ × List ℕ → Bool = λ row. not (bit_and bits row.0 == 0) in
-    ap (map (λ (row : ℕ × List ℕ). row.1)) (filter-append p xs ys)
-    ∙ map-append (λ (row : ℕ × List ℕ). row.1) (filter p xs) (filter p ys)
+rows_append bits xs ys = rw (filter-append, map-append)
 
 pub size_append : (xs ys : List (ℕ × List ℕ)) → size (xs ++ ys) ≡ size xs + size ys
 size_append [] ys = omega arith

@@ -14,6 +14,7 @@ use Rattle.std.specs.Option.{option_or}
 use Rattle.config_color.specs.declared.color.Color.{Color}
 use Rattle.config_word.specs.declared.name.Name.{Name}
 use Rattle.config_word.specs.Attribute.{IsKnownBit}
+use Rattle.config_word.specs.Laws.Attribute.{bit_test}
 use Rattle.config_color.specs.Color.{AreKnown, ColorText, PartFits}
 use Rattle.config_color.specs.Laws.Color.{same_color}
 use Rattle.config_color.specs.Laws.ColorShown.{bit_told, color_has_text, parts_fit}
@@ -36,16 +37,6 @@ pub or_bit : (a b i : ℕ) → (bit_at (bit_or a b) i ≡ 1) ↔ ((bit_at a i �
 or_bit a b i = rw bit_at_or (one_of (bit_at a i) (bit_at b i) (bit_at-lt a i) (bit_at-lt b i)) where
   one_of : (x y : ℕ) → x < 2 → y < 2 → (max x y ≡ 1) ↔ ((x ≡ 1) ⊎ (y ≡ 1))
   one_of x y h k = (λ e. grind arith, λ e. grind arith)
-
--- if `b` is 0 or 1, `b` times a power of 2 is that power exactly if `b` is 1
-test_of : (k b : ℕ) → b < 2 → (b * 2 ^ k == 2 ^ k) ≡ (b == 1)
-test_of k zero h = let p = pow_pos k in grind (arith, nat_tests)
-test_of k (suc zero) h = let e : 1 * 2 ^ k ≡ 2 ^ k = omega arith in grind (arith, nat_tests)
-test_of k (suc (suc b)) h = absurd (omega arith)
-
--- the test that the code makes is true exactly if the bit is set
-bit_test : (bits k : ℕ) → (bit_and bits (2 ^ k) == 2 ^ k) ≡ (bit_at bits k == 1)
-bit_test bits k = ap (λ n. n == 2 ^ k) (and_pow bits k) ∙ test_of k (bit_at bits k) (bit_at-lt bits k)
 
 -- which bit is set in a power of 2, or in nothing
 chosen_bit : (x : Bool) (k i : ℕ) → (bit_at (if x then 2 ^ k else 0) i ≡ 1) ↔ ((i ≡ k) × (x ≡ true))
