@@ -1,6 +1,6 @@
 -- The laws of `Value` for attributes, and how several attributes are shown.
 use Rattle.std.proofs.Common.{◌≡◌, ℕ, zero, suc, ◌+◌, ◌*◌, ◌^◌, ◌<◌, ◌≤◌, ◌⊎◌, ◌↔◌, inl, inr, Bool, true}
-use Rattle.std.proofs.Common.{false, cond, ◌||◌, List, [], ◌∷◌, ◌++◌, map, filter, flat_map, length, take}
+use Rattle.std.proofs.Common.{false, List, [], ◌∷◌, ◌++◌, map, filter, flat_map, length, take}
 use Rattle.std.proofs.Common.{drop, codes, refl, sym, ap, ◌∙◌, arith, lit≤, ◌==◌, nat_le, bit_and}
 use Rattle.std.proofs.Common.{bytes_eq, IsTrue, slice_index_or}
 use Rattle.std.proofs.Math.Bool.{or-true}
