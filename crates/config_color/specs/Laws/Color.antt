@@ -88,22 +88,16 @@ WordsRead-one (WordsRead.attribute {w = w} {a = a} t r) (WordsRead.attribute {a 
 
 pub Placed-words : (ns : List Name) (f b : Option Name) → Placed ns f b
     → option_to_list f ++ option_to_list b ≡ ns
-Placed-words [] f b p = rw (p.0, p.1) refl
-Placed-words (n ∷ []) f b p = rw (p.0, p.1) refl
-Placed-words (n ∷ m ∷ []) f b p = rw (p.0, p.1) refl
 Placed-words (n ∷ m ∷ o ∷ ns) f b p = absurd p
+Placed-words ns f b p = rw (p.0, p.1) refl
 
 pub Placed-short : (ns : List Name) (f b : Option Name) → Placed ns f b → length ns ≤ 2
-Placed-short [] f b p = omega arith
-Placed-short (n ∷ []) f b p = omega arith
-Placed-short (n ∷ m ∷ []) f b p = omega arith
 Placed-short (n ∷ m ∷ o ∷ ns) f b p = absurd p
+Placed-short ns f b p = omega arith
 
 pub Placed-one : (ns : List Name) (f b g d : Option Name) → Placed ns f b → Placed ns g d → (f ≡ g) × (b ≡ d)
-Placed-one [] f b g d p q = (cc, cc)
-Placed-one (n ∷ []) f b g d p q = (cc, cc)
-Placed-one (n ∷ m ∷ []) f b g d p q = (cc, cc)
 Placed-one (n ∷ m ∷ o ∷ ns) f b g d p q = absurd p
+Placed-one ns f b g d p q = (cc, cc)
 
 -- the foreground and background of at most two names
 pub placing : (ns : List Name) → length ns ≤ 2 → (f : Option Name) × (b : Option Name) × Placed ns f b

@@ -304,10 +304,8 @@ join_last (x ∷ z ∷ xs) y ys = ap (λ t. x ++ space ∷ t) (join_last (z ∷ 
 -- the shown foreground and background are what the names are shown as
 parts_named : (ns : List Name) (f b : Option Name) → Placed ns f b
     → part_shown f ++ part_shown b ≡ map name_shown ns
-parts_named [] f b p = rw (p.0, p.1) refl
-parts_named (n ∷ []) f b p = rw (p.0, p.1) refl
-parts_named (n ∷ m ∷ []) f b p = rw (p.0, p.1) refl
 parts_named (n ∷ m ∷ o ∷ ns) f b p = absurd p
+parts_named ns f b p = rw (p.0, p.1) refl
 
 no_words_no_bits : {ns : List Name} {bits : ℕ} → WordsRead [] ns bits → bits ≡ 0
 no_words_no_bits WordsRead.nothing = refl
