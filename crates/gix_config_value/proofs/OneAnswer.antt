@@ -99,12 +99,9 @@ module _ (one : (line : List ℕ) (a b : Outcome) → LineOutcome line a → Lin
   one_each : (lines : List (List ℕ)) (os ps : List Outcome) → AllZip LineOutcome lines os
       → AllZip LineOutcome lines ps → os ≡ ps
   one_each [] [] [] a b = refl
-  one_each [] [] (p ∷ ps) a b = absurd b
-  one_each [] (o ∷ os) ps a b = absurd a
-  one_each (l ∷ ls) [] ps a b = absurd a
-  one_each (l ∷ ls) (o ∷ os) [] a b = absurd b
   one_each (l ∷ ls) (o ∷ os) (p ∷ ps) a b =
       let first = one l o p a.0 b.0 in let others = one_each ls os ps a.1 b.1 in cc
+  one_each lines os ps a b = absurd (search)
 
   lines_answered : (lines : List (List ℕ)) (o p : List ℕ) (x y : Bool) → LinesAnswered lines o x
       → LinesAnswered lines p y → (o ≡ p) × (x ≡ y)

@@ -471,9 +471,8 @@ pub color_equal : (E : Name → Name → Bool) → ((n m : Name) → (IsTrue (E 
 color_equal E law v w = (to, from) where
   part_same : (f g : Option Name) → option_eq E f g ≡ true → f ≡ g
   part_same None None h = refl
-  part_same None (Some m) h = absurd (cc)
-  part_same (Some n) None h = absurd (cc)
   part_same (Some n) (Some m) h = ap Some ((law n m).0 h)
+  part_same f g h = absurd (cc)
 
   part_equal : (f : Option Name) → option_eq E f f ≡ true
   part_equal None = refl

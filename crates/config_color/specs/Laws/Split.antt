@@ -198,14 +198,18 @@ uncut n text h = no_cut (take n text) (λ before space rest s e.
     h (length before) (omega (arith, size, length-take n text, space_some space s)) space (rest ++ drop n text) s
     (ap (drop (length before)) whole ∙ drop-append_seam before (space ++ (rest ++ drop n text))))
 
+-- a text in three parts
+pub three_parts : (text : List ℕ) (n s : ℕ)
+    → text ≡ take n text ++ take s (drop n text) ++ drop (n + s) text
+three_parts text n s = rw (append_assoc, ← (drop-drop s n text), take-append-drop, take-append-drop)
+
 -- the words of a text whose first white space begins at place `n` and has `s` bytes
 pub words_step : (text : List ℕ) (n s : ℕ) → IsWithoutSpace text n → Space (slice_range text n (n + s))
     → words text ≡ piece (take n text) ++ words (drop (n + s) text)
 words_step text n s h k =
     let size : n + s - n ≡ s = omega arith in
-    let parts : text ≡ take n text ++ slice_range text n (n + s) ++ drop (n + s) text =
-    rw (size, append_assoc, ← (drop-drop s n text), take-append-drop, take-append-drop) in
-    ap words parts ∙ words_joined (take n text) (slice_range text n (n + s)) (drop (n + s) text) k
+    let space = rw size at k in
+    ap words (three_parts text n s) ∙ words_joined (take n text) (take s (drop n text)) (drop (n + s) text) space
     ∙ ap (λ ws. ws ++ words (drop (n + s) text)) (words_none (take n text) (uncut n text h))
 
 -- the words of a text in which no white space begins

@@ -31,15 +31,9 @@ pub record SameBelow (m n : List ℕ) (r s : Option (List ℕ)) : Type 0 where
 same_below : (m n : List ℕ) (r s : Option (List ℕ)) → below m r ≡ below n s → IsOneName m → IsOneName n
     → SameBelow m n r s
 same_below [] [] None None e h k = record { name = refl; rest = refl }
-same_below [] [] None (Some s) e h k = absurd (grind arith)
-same_below [] [] (Some r) None e h k = absurd (grind arith)
 same_below [] [] (Some r) (Some s) e h k = record { name = refl; rest = cc }
-same_below [] (y ∷ n) None None e h k = absurd (grind arith)
-same_below [] (y ∷ n) None (Some s) e h k = absurd (grind arith)
 same_below [] (y ∷ n) (Some r) None e h k = absurd (k.0 (cc))
 same_below [] (y ∷ n) (Some r) (Some s) e h k = absurd (k.0 (cc))
-same_below (x ∷ m) [] None None e h k = absurd (grind arith)
-same_below (x ∷ m) [] (Some r) None e h k = absurd (grind arith)
 same_below (x ∷ m) [] None (Some s) e h k = absurd (h.0 (cc))
 same_below (x ∷ m) [] (Some r) (Some s) e h k = absurd (h.0 (cc))
 same_below (x ∷ m) (y ∷ n) r s e h k =
@@ -56,6 +50,7 @@ same_below (x ∷ m) (y ∷ n) r s e h k =
       heads None (Some s) e = cc
       heads (Some r) None e = cc
       heads (Some r) (Some s) e = cc
+same_below m n r s e h k = absurd (grind arith)
 
 same_rest : (r s : Option (List ℕ)) → below [] r ≡ below [] s → r ≡ s
 same_rest r s e = (same_below [] [] r s e tt tt).rest
