@@ -160,10 +160,11 @@ one_more most n small one two = continues_on _ (decimal n ∷ []) most 4 _ _ _ o
 size_part : (rows : List AttributeCode) (i : ℕ) (row : AttributeCode) → i < length rows
     → size (map code_row (take i rows)) + 1 + length (get_or rows i row).code.now ≤ size (map code_row rows)
 size_part rows i row below =
-    let more : size (map code_row (take (i + 1) rows)) ≡ size (map code_row (take i rows)) + (1 + length (get_or rows i row).code.now + 0)
-    = rw (take_more rows i row below, map-append, size_append) in
-    let whole : size (map code_row rows) ≡ size (map code_row (take (i + 1) rows)) + size (map code_row (drop (i + 1) rows))
-    = rw (← size_append, ← map-append, take-append-drop) in
+    let all = λ (rows : List AttributeCode). size (map code_row rows) in
+    let more : all (take (i + 1) rows) ≡ all (take i rows) + (1 + length (get_or rows i row).code.now + 0) =
+    rw (take_more rows i row below, map-append, size_append) in
+    let whole : all rows ≡ all (take (i + 1) rows) + all (drop (i + 1) rows) =
+    rw (← size_append, ← map-append, take-append-drop) in
     omega (arith, more, whole)
 
 -- the codes of one more row, after those of the rows before it

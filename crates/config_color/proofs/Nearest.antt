@@ -71,7 +71,8 @@ best_pair f g rows r u first second =
       until = let i = first.until in let j = second.until in omega arith;
       nearest = λ m low high.
           let a = first.nearest (m / 6) (omega arith) (omega arith) in
-          let b = second.nearest (m % 6) (omega arith) (omega arith) in rw (row, column) (omega (arith, a, b));
+          let b = second.nearest (m % 6) (omega arith) (omega arith) in
+          rw (row, column) (omega (arith, a, b));
       least = λ m low less. before m less (eq-or-lt_of_le (omega (arith, less, second.until)));
     } where
       row : (r * 6 + u) / 6 ≡ r
@@ -96,7 +97,8 @@ best_after f g end best same h =
       from = omega arith;
       until = omega (arith, h.until);
       nearest = λ m low high. at m low (omega arith) (h.nearest (m - 16) (omega arith) (omega arith));
-      least = λ m low less. under m low (omega (arith, h.until)) (h.least (m - 16) (omega arith) (omega arith));
+      least = λ m low less.
+          under m low (omega (arith, h.until)) (h.least (m - 16) (omega arith) (omega arith));
     } where
       at : (m : ℕ) → 16 ≤ m → m < 16 + end → g best ≤ g (m - 16) → f (16 + best) ≤ f m
       at m low high near =

@@ -1,5 +1,6 @@
 -- Lemmas for one color over another: which bits are set in the opposites of bits.
-use Rattle.std.proofs.Common.{◌≡◌, ◌≢◌, ℕ, zero, suc, ◌-◌, ◌*◌, ◌^◌, ◌<◌, ◌⊎◌, ◌↔◌, inl, inr, Bool, true, false}
+use Rattle.std.proofs.Common.{◌≡◌, ◌≢◌, ℕ, zero, suc, ◌-◌, ◌*◌, ◌^◌, ◌<◌, ◌⊎◌, ◌↔◌, inl, inr, Bool, true}
+use Rattle.std.proofs.Common.{false}
 use Rattle.std.proofs.Common.{Option, None, Some, List, [], ◌∷◌, map, refl, sym, ap, subst, ◌∙◌, arith, ◌==◌, bit_and, max, min, w32}
 use Rattle.std.specs.Prelude.{if◌then◌else◌}
 use Rattle.bitflags.specs.Sets.{without}
@@ -77,8 +78,10 @@ taken_more bits a b i pairs P = (to, from) where
   from : P ⊎ IsTaken bits ((a, b) ∷ pairs) i
       → (P ⊎ (((i ≡ b) × (bit_at bits a ≡ 1)) ⊎ ((i ≡ a) × (bit_at bits b ≡ 1)))) ⊎ IsTaken bits pairs i
   from (inl p) = inl (inl p)
-  from (inr (other, inl (inl e), h)) = let k = some_pair_parts _ _ _ _ (ap Some e) in inl (inr (inr (k.0, cc)))
-  from (inr (other, inr (inl e), h)) = let k = some_pair_parts _ _ _ _ (ap Some e) in inl (inr (inl (k.1, cc)))
+  from (inr (other, inl (inl e), h)) =
+      let k = some_pair_parts _ _ _ _ (ap Some e) in inl (inr (inr (k.0, cc)))
+  from (inr (other, inr (inl e), h)) =
+      let k = some_pair_parts _ _ _ _ (ap Some e) in inl (inr (inl (k.1, cc)))
   from (inr (other, inl (inr o), h)) = inr (other, inl o, h)
   from (inr (other, inr (inr o), h)) = inr (other, inr o, h)
 
@@ -167,7 +170,8 @@ pub attributes_over : (base top out stays all : ℕ) → base < 2 ^ 32 → out <
     → out ≡ opposites_from top 0 opposite_sets → stays ≡ without 32 base out → all ≡ bit_or top stays
     → (bit : ℕ) → (bit_at all bit ≡ 1) ↔ ((bit_at top bit ≡ 1) ⊎ Stays base top bit)
 attributes_over base top out stays all small fits found left united bit =
-    rw (united, left, found) (iff_trans (or_bit top (without 32 base (opposites_from top 0 opposite_sets)) bit)
+    rw (united, left, found)
+    (iff_trans (or_bit top (without 32 base (opposites_from top 0 opposite_sets)) bit)
     (either (λ h. h, λ h. h) (stays_bit base top bit small (rw found at fits))))
 
 -- a bit that is set in both of two sets or in neither is the same in both

@@ -14,7 +14,8 @@ use Rattle.gix_config_value.specs.Reading.Steps.{FailsWithin, EndsAnswered, Ends
 use Rattle.std.proofs.KnownBytes.{Keeps-refl, Consumes-nil, Consumes-trans, Consumes-kept}
 use Rattle.std.specs.Borrow.{GName}
 use Rattle.gix_config_value.proofs.StepLemmas.{CompletesLines-trans, takes_any, last_any, Answers-last}
-use Rattle.gix_config_value.proofs.StepLemmas.{begins, all_but, cut_of, answered_of, SendsBytes-trans, SendsBytes-all}
+use Rattle.gix_config_value.proofs.StepLemmas.{begins, all_but, cut_of, answered_of, SendsBytes-trans}
+use Rattle.gix_config_value.proofs.StepLemmas.{SendsBytes-all}
 use Rattle.gix_config_value.proofs.StepLemmas.{FailsSending-after, Advances-nil, Advances-trans}
 use Rattle.gix_config_value.proofs.StepLemmas.{Advances-sent, FailsWithin-after, FailsWithin-whole}
 
@@ -191,7 +192,7 @@ module _ (unread held : Option (List ℕ)) (writer : GName) where
       consumed = rw append-nil at (Consumes-trans unread left left' g.input [] g.consumed read.0);
       at_end = read.1;
       appended =
-          SendsBytes-all (start writer held).to after _ refl e.empty (SendsBytes-trans g.advances.sends e.sends);
+          SendsBytes-all _ after _ refl e.empty (SendsBytes-trans g.advances.sends e.sends);
       answers = Answers-last _ _ _ _ _ _ g.advances.taken e.answered;
     }
 

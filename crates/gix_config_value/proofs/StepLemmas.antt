@@ -18,7 +18,8 @@ use Rattle.gix_config_value.specs.declared.program.RunError.TheVariants.{Write}
 use Rattle.gix_config_value.specs.Answers.Outcome.{accepted, refused, unknown_kind}
 use Rattle.config_text.specs.Bytes.{line_feed}
 use Rattle.gix_config_value.specs.Answers.{Outcome, ended, IsUnbroken, line_head, line_value, LineOutcome}
-use Rattle.gix_config_value.specs.Answers.{outcome_text, is_accepted, Answers, IsBeginningOfAnswers, IsCut, LinesAnswered}
+use Rattle.gix_config_value.specs.Answers.{outcome_text, is_accepted, Answers, IsBeginningOfAnswers, IsCut}
+use Rattle.gix_config_value.specs.Answers.{LinesAnswered}
 use Rattle.gix_config_value.specs.Answers.{AnswersAllBut}
 use Rattle.gix_config_value.specs.Reading.Steps.{CompletesLines, AnswersLast, CutsLine, OutputState}
 use Rattle.gix_config_value.specs.Reading.Steps.{SendsBytes, SendsAnswer, AppendsAnswer, FailsSending}
@@ -142,7 +143,8 @@ pub Answers-last : (input line output last : List ℕ) (ok ok' : Bool)
     → CompletesLines [] true input line ok output → AnswersLast line ok ok' last
     → Answers input (output ++ last) ok'
 Answers-last input [] output last ok ok' t l =
-    record { lines = t.lines; rest = []; cut = cut_of t; answered = rw (l.0, append-nil, l.1) (answered_of t) }
+    let answered : LinesAnswered t.lines (output ++ last) ok' = rw (l.0, append-nil, l.1) (answered_of t) in
+    record { lines = t.lines; rest = []; cut = cut_of t; answered = answered }
 Answers-last input (b ∷ bs) output last ok ok' t l = record {
   lines = t.lines;
   rest = b ∷ bs;
@@ -198,7 +200,13 @@ SendsBytes-trans {a} {b} {c} {o} {o'} s t = record {
   same_writer = t.same_writer ∙ s.same_writer;
   written = s.written ++ t.written;
   appended = Appends-trans a.held b.held c.held s.written t.written s.appended t.appended;
-  in_order = rw (← (append_assoc a.waiting o o'), s.in_order, append_assoc s.written b.waiting o', t.in_order, append_assoc);
+  in_order = rw (
+    ← (append_assoc a.waiting o o'),
+    s.in_order,
+    append_assoc s.written b.waiting o',
+    t.in_order,
+    append_assoc,
+  );
 }
 
 -- a beginning of what waits is written
@@ -288,8 +296,8 @@ Advances-begun a b bytes unbroken gathered = rw gathered (record {
 })
 
 -- the line begun is completed by bytes up to an LF, and answered
-pub Advances-line : (a : RunState) (front line : List ℕ) (to : OutputState) (accepts : Bool) → IsUnbroken front
-    → SendsAnswer (a.line ++ front) a.to to accepts → line ≡ []
+pub Advances-line : (a : RunState) (front line : List ℕ) (to : OutputState) (accepts : Bool)
+    → IsUnbroken front → SendsAnswer (a.line ++ front) a.to to accepts → line ≡ []
     → Advances a (record { line = line; accepted = a.accepted && accepts; to = to }) (ended front)
 Advances-line a front line to accepts unbroken e none = record {
   output = outcome_text e.outcome;

@@ -424,7 +424,7 @@ shown_is_text c ns placed texts e =
         chosen = chosen;
         spelled = spelled;
       };
-      reads_to = record { names = ns; read = text_read (color_shown c) (rw shown_words read); placed = placed };
+      reads_to = record { names = ns; read = text_read _ (rw shown_words read); placed = placed };
       short = color_short c fit.0 fit.1;
     }
 

@@ -36,7 +36,8 @@ pub joined_reads : (front space back : List ℕ) (c : Color) → Space space →
 joined_reads front space back c s (a, b, p, q, k) = record {
   names = p.names ++ q.names;
   read = text_read (front ++ space ++ back)
-      (rw (words_joined front space back s, k.united) (WordsRead-join (read_words p.read) (read_words q.read)));
+      (rw (words_joined front space back s, k.united)
+      (WordsRead-join (read_words p.read) (read_words q.read)));
   placed = rw (
     ← (Placed-words p.names a.foreground a.background p.placed),
     ← (Placed-words q.names b.foreground b.background q.placed),

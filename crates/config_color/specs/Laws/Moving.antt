@@ -25,7 +25,8 @@ put_in : {w : List ℕ} {a : Attribute} (front back : List (List ℕ)) {names : 
     → WordsRead (front ++ back) names bits → WordsRead (front ++ w ∷ back) names (bit_or a.0 bits)
 put_in [] back t r = WordsRead.attribute t r
 put_in (x ∷ front) back t (WordsRead.name u r) = WordsRead.name u (put_in front back t r)
-put_in (x ∷ front) back t (WordsRead.attribute u r) = rw or_swap (WordsRead.attribute u (put_in front back t r))
+put_in (x ∷ front) back t (WordsRead.attribute u r) =
+    rw or_swap (WordsRead.attribute u (put_in front back t r))
 
 -- without an attribute word the other words are read; its bits and theirs are all bits
 taken_out : (w : List ℕ) (a : Attribute) (front back : List (List ℕ)) {names : List Name} {bits : ℕ}

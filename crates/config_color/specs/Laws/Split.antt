@@ -195,7 +195,8 @@ uncut n text h = no_cut (take n text) (λ before space rest s e.
     let whole : text ≡ before ++ (space ++ (rest ++ drop n text)) =
     sym (take-append-drop n text) ∙ ap (λ t. t ++ drop n text) e ∙ simp append_assoc in
     let size = simp length-append at (ap length e) in
-    h (length before) (omega (arith, size, length-take n text, space_some space s)) space (rest ++ drop n text) s
+    h (length before) (omega (arith, size, length-take n text, space_some space s)) space
+    (rest ++ drop n text) s
     (ap (drop (length before)) whole ∙ drop-append_seam before (space ++ (rest ++ drop n text))))
 
 -- a text in three parts
@@ -208,8 +209,8 @@ pub words_step : (text : List ℕ) (n s : ℕ) → IsWithoutSpace text n → Spa
     → words text ≡ piece (take n text) ++ words (drop (n + s) text)
 words_step text n s h k =
     let size : n + s - n ≡ s = omega arith in
-    let space = rw size at k in
-    ap words (three_parts text n s) ∙ words_joined (take n text) (take s (drop n text)) (drop (n + s) text) space
+    ap words (three_parts text n s)
+    ∙ words_joined (take n text) (take s (drop n text)) (drop (n + s) text) (rw size at k)
     ∙ ap (λ ws. ws ++ words (drop (n + s) text)) (words_none (take n text) (uncut n text h))
 
 -- the words of a text in which no white space begins

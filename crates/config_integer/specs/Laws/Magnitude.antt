@@ -320,7 +320,8 @@ magnitude_derived limit t n o e =
       turn c is true false false p q r e =
           octal_read limit t n o (eqb-true _ 48 p) (number_derived 8 limit (omega arith) t n o e)
       turn c is false x b p q r e =
-          decimal_read limit t n o (λ z. cc (p, eq-eqb _ 48 z)) (number_derived 10 limit (omega arith) t n o e)
+          decimal_read limit t n o (λ z. cc (p, eq-eqb _ 48 z))
+          (number_derived 10 limit (omega arith) t n o e)
 
 -- a magnitude begins with a digit
 pub magnitude_first : (t : List ℕ) (n : ℕ) (back : List ℕ) → Magnitude t n

@@ -1,6 +1,7 @@
 use Rattle.std.proofs.Common.{◌+◌, ◌-◌, ◌<◌, ◌≤◌, List, ℕ, decimal, map, sym, subst, arith}
 use Rattle.std.proofs.lemmas.Bool.Decides.{nat_tests}
-use Rattle.config_color.proofs.EscapeLemmas.{continues_within, of_two, of_three, one_more, room_after, two_codes}
+use Rattle.config_color.proofs.EscapeLemmas.{continues_within, of_two, of_three, one_more, room_after}
+use Rattle.config_color.proofs.EscapeLemmas.{two_codes}
 use Rattle.config_color.proofs.EscapeLemmas.{palette_basic, palette_bright, palette_other}
 use Rattle.config_color.specs.Reading.Escape.{Continues}
 use Rattle.config_color.proofs.escape.push_palette.Goals as goal
@@ -12,7 +13,7 @@ push_number-requires-3 c =
 
 pub push_number-requires-4 : goal.push_number-requires-4
 push_number-requires-4 c =
-    let two = two_codes c.args.black 5 c.requires.black (omega arith) c.push_number-2.ensures c.push_number-3.ensures in
+    let two = two_codes _ 5 c.requires.black (omega arith) c.push_number-2.ensures c.push_number-3.ensures in
     room_after two (omega arith) c.requires.room
 
 pub returns-then-number-lt8 : goal.returns-then-number-lt8
@@ -32,6 +33,6 @@ returns-then-number-lt16 c =
 pub returns : goal.returns
 returns c =
     let least : 16 ≤ c.args.number = grind (arith, nat_tests) in
-    let two = two_codes c.args.black 5 c.requires.black (omega arith) c.push_number-2.ensures c.push_number-3.ensures in
+    let two = two_codes _ 5 c.requires.black (omega arith) c.push_number-2.ensures c.push_number-3.ensures in
     let all = one_more 5 c.args.number (omega arith) two c.push_number-4.ensures in
     rw (palette_other c.args.black c.args.number least) (continues_within _ 9 17 _ _ all (omega arith))
