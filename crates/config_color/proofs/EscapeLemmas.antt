@@ -1,7 +1,7 @@
 -- Lemmas for the sequences of colors: decimal numbers below 256, and the codes of a text that goes on.
 use Rattle.std.proofs.Common.{◌≡◌, ◌≢◌, ℕ, ◌+◌, ◌-◌, ◌/◌, ◌%◌, ◌^◌, ◌<◌, ◌≤◌, Bool, true, false, cond, not}
 use Rattle.std.proofs.Common.{List, [], ◌∷◌, ◌++◌, length, map, filter, take, drop, codes, decimal, bit_and}
-use Rattle.std.proofs.Common.{refl, sym, ap, subst, get_or, ◌∙◌, arith, ◌==◌, append_assoc, length-append}
+use Rattle.std.proofs.Common.{refl, sym, ap, get_or, ◌∙◌, arith, ◌==◌, append_assoc, length-append}
 use Rattle.std.proofs.lemmas.Bool.{le-ltb, lt-ltb}
 use Rattle.std.proofs.lemmas.Fmt.{decimal_digit, decimal_step, length-decimal-le}
 use Rattle.std.proofs.lemmas.List.{append-nil, map-append, take-append-drop, take_more}

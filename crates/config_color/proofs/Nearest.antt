@@ -1,10 +1,10 @@
 -- The search for the least of the nearest numbers, whatever the distance is; and the cube, where the nearest
 -- number has the nearest steps.
-use Rattle.std.proofs.Common.{◌≡◌, ℕ, ◌+◌, ◌*◌, ◌-◌, ◌/◌, ◌%◌, ◌<◌, ◌≤◌, ◌⊎◌, inl, inr, arith, refl, sym, true, false, nat_lt}
+use Rattle.std.proofs.Common.{◌≡◌, ℕ, ◌+◌, ◌*◌, ◌-◌, ◌/◌, ◌%◌, ◌<◌, ◌≤◌, ◌⊎◌, inl, inr, arith, refl, true, false, nat_lt}
 use Rattle.std.proofs.Math.Nat.{eq-or-lt_of_le}
 use Rattle.std.proofs.lemmas.Bool.Decides.{nat_tests}
 use Rattle.config_color.specs.declared.depth.Shade.{Shade}
-use Rattle.config_color.specs.Depth.{IsNearest, distance, palette, cube_shade}
+use Rattle.config_color.specs.Depth.{IsNearest}
 use Rattle.config_color.specs.Reading.Depth.{IsBest, number_distance, step_distance}
 
 -- the first number alone

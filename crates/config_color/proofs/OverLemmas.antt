@@ -1,22 +1,20 @@
 -- Lemmas for one color over another: which bits are set in the opposites of bits.
-use Rattle.std.proofs.Common.{◌≡◌, ◌≢◌, ℕ, zero, suc, ◌-◌, ◌*◌, ◌^◌, ◌<◌, ◌⊎◌, ◌↔◌, inl, inr, Bool, true}
+use Rattle.std.proofs.Common.{◌≡◌, ◌≢◌, ℕ, ◌-◌, ◌^◌, ◌<◌, ◌⊎◌, ◌↔◌, inl, inr, Bool, true}
 use Rattle.std.proofs.Common.{false}
-use Rattle.std.proofs.Common.{Option, None, Some, List, [], ◌∷◌, map, refl, sym, ap, subst, ◌∙◌, arith, ◌==◌, bit_and, max, min, w32}
+use Rattle.std.proofs.Common.{Option, None, Some, List, [], ◌∷◌, map, refl, sym, ap, ◌∙◌, arith, ◌==◌, bit_and, max, min, w32}
 use Rattle.std.specs.Prelude.{if◌then◌else◌}
 use Rattle.bitflags.specs.Sets.{without}
-use Rattle.std.proofs.lemmas.Bool.Decides.{Decides-eqb, eqb_tells, leb_tells, nat_tests}
+use Rattle.std.proofs.lemmas.Bool.Decides.{Decides-eqb, eqb_tells, leb_tells}
 use Rattle.std.proofs.lemmas.Option.{some_pair_parts}
-use Rattle.std.proofs.lemmas.Nat.{pow_pos}
-use Rattle.std.proofs.lemmas.Nat.Bits.{and_pow, bit_at-lt, bit_at_or, bit_at_and, bit_at-zero, bit_at-pow_same}
+use Rattle.std.proofs.lemmas.Nat.Bits.{bit_at-lt, bit_at_or, bit_at_and, bit_at-zero, bit_at-pow_same}
 use Rattle.std.proofs.lemmas.Nat.Bits.{bit_at-pow_other, bit_at_above, bit_at_not, same_from_bits}
 use Rattle.std.specs.Int.{bit_at}
 use Rattle.std.specs.Int.RustNames.{bit_or}
 use Rattle.std.specs.Option.{option_or}
 use Rattle.config_color.specs.declared.color.Color.{Color}
 use Rattle.config_word.specs.declared.name.Name.{Name}
-use Rattle.config_word.specs.Attribute.{IsKnownBit}
 use Rattle.config_word.specs.Laws.Attribute.{bit_test}
-use Rattle.config_color.specs.Color.{AreKnown, ColorText, PartFits}
+use Rattle.config_color.specs.Color.{ColorText, PartFits}
 use Rattle.config_color.specs.Laws.Color.{same_color}
 use Rattle.config_color.specs.Laws.ColorShown.{bit_told, color_has_text, parts_fit}
 use Rattle.config_color.specs.Composition.{opposites, IsOver, Stays}

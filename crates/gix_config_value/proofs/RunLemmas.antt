@@ -1,14 +1,14 @@
 -- A run as a whole: how it goes on after a read, how it ends, and what holds if it stops with an error.
 use Rattle.std.proofs.Common.{◌≡◌, ◌≢◌, ◌==◌, ℕ, ◌<◌, List, [], ◌∷◌, ◌++◌, ◌&&◌, length, take, Bool, true}
-use Rattle.std.proofs.Common.{false, Option, Result, Ok, Err, IfOk, IfErr, refl, sym, ap, ◌∙◌, append_assoc}
+use Rattle.std.proofs.Common.{false, Option, refl, sym, ap, ◌∙◌, append_assoc}
 use Rattle.std.proofs.Common.{append-nil, subst}
 use Rattle.std.specs.Io.KnownBytes.{Appends, Consumes, Keeps, IsAtEnd}
 use Rattle.gix_config_value.specs.declared.program.RunError.{RunError}
 use Rattle.gix_config_value.specs.declared.program.RunError.TheVariants.{Read, Write, Memory}
-use Rattle.gix_config_value.specs.Answers.{Outcome, IsCut, LineOutcome, outcome_text, is_accepted}
+use Rattle.gix_config_value.specs.Answers.{Outcome, LineOutcome, outcome_text, is_accepted}
 use Rattle.gix_config_value.specs.Answers.{IsBeginningOfAnswers, AnswersAllBut, AnswersLines, Completes}
 use Rattle.gix_config_value.specs.Answers.{Fails}
-use Rattle.gix_config_value.specs.Reading.Steps.{CompletesLines, AnswersLast, MayMiss, OutputState}
+use Rattle.gix_config_value.specs.Reading.Steps.{AnswersLast, MayMiss, OutputState}
 use Rattle.gix_config_value.specs.Reading.Steps.{SendsBytes, SendsAnswer, FailsSending, RunState, Advances}
 use Rattle.gix_config_value.specs.Reading.Steps.{FailsWithin, EndsAnswered, EndsEarly, start, HasAnswered}
 use Rattle.std.proofs.KnownBytes.{Keeps-refl, Consumes-nil, Consumes-trans, Consumes-kept}

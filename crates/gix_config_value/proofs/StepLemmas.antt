@@ -1,8 +1,8 @@
 -- How the steps of a run compose; and every line has an outcome, and every input an output.
-use Rattle.std.proofs.Common.{length, Result, Ok, Err, OnOk, IfErr, ◌+◌, take, drop, take-append-drop, ◌≡◌, ℕ}
-use Rattle.std.proofs.Common.{inl, inr, Some, None, List, [], ◌∷◌, ◌++◌, ◌&&◌, flat_map, Bool, true, Option}
+use Rattle.std.proofs.Common.{length, Result, Ok, Err, IfErr, ◌+◌, take, drop, take-append-drop, ◌≡◌, ℕ}
+use Rattle.std.proofs.Common.{inl, inr, Some, None, List, [], ◌∷◌, ◌++◌, ◌&&◌, Bool, true, Option}
 use Rattle.std.proofs.Common.{refl, sym, ap, ◌∙◌, append_assoc, append-nil, subst}
-use Rattle.std.specs.List.{AllByRecursion, AllZip, list_all}
+use Rattle.std.specs.List.{AllByRecursion, AllZip}
 use Rattle.std.specs.Result.{IsErrAnd}
 use Rattle.std.specs.Io.KnownBytes.{Appends}
 use Rattle.std.proofs.Math.Bool.{and-true, and_assoc}

@@ -1,7 +1,7 @@
 -- The laws of color texts: how joined and split words are read, how names are placed, and that a text has at
 -- most one color.
-use Rattle.std.proofs.Common.{◌≡◌, ◌≢◌, take, drop, slice_range, ℕ, ◌+◌, ◌<◌, ◌≤◌, ◌⊎◌, inl, inr, List, []}
-use Rattle.std.proofs.Common.{◌∷◌, ◌++◌, length, Option, Some, None, refl, sym, ap, subst, ◌∙◌, append_assoc}
+use Rattle.std.proofs.Common.{◌≡◌, ◌≢◌, take, drop, ℕ, ◌+◌, ◌≤◌, ◌⊎◌, inl, inr, List, []}
+use Rattle.std.proofs.Common.{◌∷◌, ◌++◌, length, Option, Some, None, refl, sym, ap, ◌∙◌, append_assoc}
 use Rattle.std.proofs.Common.{arith, zero, suc, ◌-◌, length-take-le}
 use Rattle.std.specs.Int.RustNames.{bit_or}
 use Rattle.std.specs.Int.Bits.{or_zero_l, or_zero_r}
@@ -25,10 +25,9 @@ use Rattle.config_text.specs.Laws.Value.{decided_by, one_value_by, read_by, read
 use Rattle.config_word.specs.Item.{ItemText}
 use Rattle.config_word.specs.Laws.Item.{item-law, item_one_value, long_refused, not_both}
 use Rattle.config_color.specs.Words.{piece}
-use Rattle.config_color.specs.Reading.Split.{IsWithoutSpace, words}
+use Rattle.config_color.specs.Reading.Split.{words}
 use Rattle.config_color.specs.Laws.Split.{words_are, words_only, words_step, words_last, option_told}
 use Rattle.config_color.specs.Laws.Split.{first_end}
-use Rattle.config_color.specs.Space.{Space}
 
 word_item-value : IsValueOf ItemText word_item
 unfolding word_item

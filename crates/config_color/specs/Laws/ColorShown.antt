@@ -1,8 +1,8 @@
 -- The laws of `Value` for colors: each canonical text has a color, a color has at most one canonical text,
 -- and it is the text that the color is shown as.
-use Rattle.std.proofs.Common.{◌≡◌, ◌≢◌, ℕ, zero, suc, ◌+◌, ◌^◌, ◌<◌, ◌≤◌, ◌↔◌, ◌⊎◌, inl, inr, ◌&&◌, nat_le}
+use Rattle.std.proofs.Common.{◌≡◌, ◌≢◌, ℕ, zero, suc, ◌+◌, ◌^◌, ◌<◌, ◌≤◌, ◌↔◌, ◌⊎◌, inl, inr, ◌&&◌}
 use Rattle.std.proofs.Common.{Bool, true, false, ◌==◌, List, [], ◌∷◌, ◌++◌, length, map, filter, Option, Some}
-use Rattle.std.proofs.Common.{None, bit_and, min, refl, sym, ap, subst, ◌∙◌, length-append, arith}
+use Rattle.std.proofs.Common.{None, bit_and, refl, sym, ap, ◌∙◌, length-append, arith}
 use Rattle.std.specs.Bool.{⊤, IsTrue}
 use Rattle.std.specs.Option.{option_eq, is_some}
 use Rattle.std.specs.Prelude.{not}
@@ -10,7 +10,7 @@ use Rattle.bitflags.specs.Sets.{known_bits as known_bits_of, known_from}
 use Rattle.std.specs.Int.{bit_at}
 use Rattle.std.specs.Int.RustNames.{bit_or}
 use Rattle.std.specs.Int.Bits.{or_zero_l}
-use Rattle.std.specs.List.{AllByRecursion, join_with_byte, list_all}
+use Rattle.std.specs.List.{AllByRecursion, join_with_byte}
 use Rattle.std.proofs.lemmas.List.{append-nil, length-map}
 use Rattle.std.proofs.lemmas.Bool.{and_from, and_parts}
 use Rattle.std.proofs.lemmas.List.Folds.{list_all-append}

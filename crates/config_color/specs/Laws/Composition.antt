@@ -1,15 +1,15 @@
 -- The laws of composition: the color of a joined text is the composition of its parts' colors, and what this
 -- means for `same`.
 use Rattle.std.proofs.Common.{◌≡◌, ℕ, ◌+◌, ◌<◌, ◌≤◌, ◌↔◌, ◌⊎◌, inl, inr, List, [], ◌∷◌, ◌++◌, length, codes}
-use Rattle.std.proofs.Common.{Option, Some, None, IfSome, Bool, IsTrue, refl, sym, ap, subst, ◌∙◌}
-use Rattle.std.proofs.Common.{append_assoc, length-append, arith}
+use Rattle.std.proofs.Common.{Option, Some, None, IfSome, Bool, IsTrue, refl, sym, ap, ◌∙◌}
+use Rattle.std.proofs.Common.{length-append, arith}
 use Rattle.std.proofs.lemmas.Option.{some_pair_parts}
 use Rattle.std.proofs.lemmas.Bool.Decides.{leb_tells}
 use Rattle.std.specs.Int.RustNames.{bit_or}
 use Rattle.std.specs.Option.{option_to_list}
 use Rattle.config_color.specs.declared.color.Color.{Color}
 use Rattle.config_word.specs.declared.name.Name.{Name}
-use Rattle.config_color.specs.Color.{WordsRead, TextRead, Placed, ColorText}
+use Rattle.config_color.specs.Color.{Placed, ColorText}
 use Rattle.config_color.specs.Laws.Color.{read_words, text_read, WordsRead-join, WordsRead-split}
 use Rattle.config_color.specs.Laws.Color.{WordsRead-one, Placed-words, Placed-short, Placed-one, placing}
 use Rattle.config_color.specs.Laws.Color.{color_with, same_color, color_one_value, color_decided}

@@ -1,5 +1,5 @@
 -- An attribute word adds its bits wherever it is, and adds nothing if it is repeated.
-use Rattle.std.proofs.Common.{◌≡◌, ℕ, List, [], ◌∷◌, ◌++◌, ◌↔◌, sym, ap, subst, ◌∙◌, arith}
+use Rattle.std.proofs.Common.{◌≡◌, ℕ, List, [], ◌∷◌, ◌++◌, ◌↔◌, sym, ap, ◌∙◌, arith}
 use Rattle.std.specs.Int.RustNames.{bit_or}
 use Rattle.std.proofs.lemmas.Nat.Bits.{bit_at_or, same_from_bits}
 use Rattle.config_word.specs.declared.attribute.Attribute.{Attribute}
@@ -7,7 +7,7 @@ use Rattle.config_word.specs.declared.name.Name.{Name}
 use Rattle.config_word.specs.Attribute.{AttributeText}
 use Rattle.config_word.specs.Laws.Item.{not_both}
 use Rattle.config_color.specs.declared.color.Color.{Color}
-use Rattle.config_color.specs.Color.{WordsRead, TextRead, ColorText}
+use Rattle.config_color.specs.Color.{WordsRead, ColorText}
 use Rattle.config_color.specs.Composition.{Moves}
 use Rattle.config_color.specs.Laws.Color.{one_attribute}
 use Rattle.config_color.specs.Words.{Words}

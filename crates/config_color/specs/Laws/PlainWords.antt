@@ -1,7 +1,7 @@
 -- Words of printing ASCII bytes. They contain no white space, so a text that joins them by spaces has these
 -- words.
 use Rattle.std.proofs.Common.{◌≡◌, ℕ, ◌≤◌, inl, inr, Bool, true, false, ◌&&◌, codes, nat_le, List, [], ◌∷◌}
-use Rattle.std.proofs.Common.{◌++◌, Option, Some, None, refl, ◌∙◌, append_assoc, arith}
+use Rattle.std.proofs.Common.{None, refl, append_assoc, arith}
 use Rattle.std.specs.List.{AllByRecursion, join_with_byte, list_all}
 use Rattle.std.specs.Str.Parse.{AllDigits}
 use Rattle.std.proofs.lemmas.Bool.{and_from, and_parts}

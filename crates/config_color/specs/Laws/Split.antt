@@ -1,10 +1,9 @@
 -- The laws of words: each text has one list of words, which the function gives; the words of two texts that
 -- are joined by white space; and the first word of a text that is read from the front.
-use Rattle.std.proofs.Common.{◌≡◌, ℕ, zero, suc, ◌+◌, ◌-◌, ◌<◌, ◌≤◌, ◌==◌, ◌⊎◌, inl, inr, Bool, true, false}
+use Rattle.std.proofs.Common.{◌≡◌, ℕ, zero, suc, ◌+◌, ◌-◌, ◌<◌, ◌≤◌, ◌⊎◌, inl, inr}
 use Rattle.std.proofs.Common.{List, [], ◌∷◌, ◌++◌, length, map, get_or, take, drop, slice_range, Option, Some}
 use Rattle.std.proofs.Common.{replicate, None, refl, sym, ap, subst, ◌∙◌, append_assoc, arith}
 use Rattle.std.proofs.Common.{length-append, length-drop, length-take}
-use Rattle.std.specs.Option.{option_or}
 use Rattle.std.proofs.lemmas.Bool.Decides.{Decides-eqb, eqb_tells, leb_tells}
 use Rattle.std.proofs.lemmas.List.{append-nil, take-append-drop, drop-drop, take_all, take_rest}
 use Rattle.std.proofs.Math.Seq.{take-append_seam, drop-append_seam}

@@ -1,6 +1,6 @@
 -- Each value has exactly one form, and one result in the path table.
 use Rattle.std.proofs.Common.{◌≡◌, ◌≢◌, inl, inr, ◌⊎◌, ℕ, List, [], ◌∷◌, ◌++◌, codes, Option, None, Some}
-use Rattle.std.proofs.Common.{Result, Bool, true, false, refl, sym, ap, ◌∙◌, subst, arith, drop, IsUtf8, Ok}
+use Rattle.std.proofs.Common.{Result, Bool, true, false, refl, sym, ap, ◌∙◌, subst, arith, drop, IsUtf8}
 use Rattle.std.proofs.Common.{Err, ◌↔◌}
 use Rattle.std.specs.declared.string.String.{String}
 use Rattle.std.specs.declared.alloc.Global.{Global}
@@ -10,9 +10,7 @@ use Rattle.std.specs.declared.alloc.AllocError.{AllocError}
 use Rattle.config_path.specs.declared.interpolate.Place.{Place}
 use Rattle.config_path.specs.declared.interpolate.Place.TheVariants.{Username, Whole}
 use Rattle.config_path.specs.declared.interpolate.Error.{Error}
-use Rattle.config_path.specs.declared.interpolate.Error.TheVariants.{PathMissing, InstallDirMissing}
-use Rattle.config_path.specs.declared.interpolate.Error.TheVariants.{HomeMissing, LookupMissing, UserNotFound}
-use Rattle.config_path.specs.declared.interpolate.Error.TheVariants.{IllFormed, Memory}
+use Rattle.config_path.specs.declared.interpolate.Error.TheVariants.{Memory}
 use Rattle.config_path.specs.Interpolation.{Form, HasForm, below, join, IsOneName, Users, Known, PathResult}
 use Rattle.config_path.specs.Interpolation.{WhereUtf8, Row, home_row, IsBelow, IsBelowUser, Gives, PathTable}
 use Rattle.config_path.specs.Interpolation.{refusal, returned, IsAllocated, Interpolated, HaveOneHome}

@@ -1,11 +1,8 @@
-use Rattle.std.proofs.Common.{Option, drop, sym, ap, subst, ◌∙◌, arith}
+use Rattle.std.proofs.Common.{drop, sym, ap, ◌∙◌, arith}
 use Rattle.std.proofs.lemmas.List.{take_rest, drop-drop, nil_from_length}
 use Rattle.std.proofs.lemmas.Bool.Decides.{nat_tests}
-use Rattle.config_color.specs.declared.color.Color.{Color}
-use Rattle.config_color.specs.Color.{ColorText}
 use Rattle.config_color.specs.Laws.Color.{walk, walk_refused, walk_done, walk_too_long}
 use Rattle.config_color.specs.Reading.Color.{read_from}
-use Rattle.config_text.specs.Value.{Reads}
 use Rattle.config_color.specs.Reading.Split.{words}
 use Rattle.config_color.proofs.color.color_of.Goals as goal
 

@@ -1,7 +1,6 @@
 use Rattle.std.proofs.Common.{◌≡◌, ◌∙◌, ap, arith}
 use Rattle.config_color.proofs.Nearest.{best_next, best_stays, less_by, at_most_by}
 use Rattle.config_color.specs.Depth.{distance}
-use Rattle.config_color.specs.Reading.Depth.{number_distance}
 use Rattle.config_color.proofs.depth.nearest_of.Goals as goal
 use Rattle.config_color.proofs.depth.nearest_of.Goals.{then-apart-least, else-apart-least}
 

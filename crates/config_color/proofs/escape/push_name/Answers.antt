@@ -1,7 +1,5 @@
-use Rattle.std.proofs.Common.{◌+◌, decimal, map, sym, subst, arith}
+use Rattle.std.proofs.Common.{◌+◌, arith}
 use Rattle.config_color.proofs.EscapeLemmas.{continues_within, of_two}
-use Rattle.config_color.specs.Escape.{name_codes}
-use Rattle.config_color.specs.Reading.Escape.{Continues}
 use Rattle.config_color.proofs.escape.push_name.Goals as goal
 
 pub returns-in-Default : goal.returns-in-Default
