@@ -1,7 +1,8 @@
 -- What tests of variables tell of them: each test is of a value that may be missing.
 use Rattle.std.proofs.Common.{◌≡◌, ◌↔◌, ◌++◌, ℕ, ◌+◌, ◌<◌, List, Option, None, Some, IsTrue, Bool, true, false, eqb}
 use Rattle.std.proofs.Common.{length, take, drop, option_copied, arith, sym, ap, ◌∙◌}
-use Rattle.std.proofs.Common.{length-append, length-drop, length-take-le, ext_get_or, get_or-take, get_or-drop}
+use Rattle.std.proofs.Common.{length-append, length-drop, length-take-le, ext_get_or, get_or-take}
+use Rattle.std.proofs.Common.{get_or-drop}
 use Rattle.std.specs.Borrow.{Bor}
 use Rattle.std.specs.List.{ends_with}
 use Rattle.std.specs.Option.{IsSomeAnd}

@@ -1,6 +1,7 @@
 -- The search for the least of the nearest numbers, whatever the distance is; and the cube, where the nearest
 -- number has the nearest steps.
-use Rattle.std.proofs.Common.{◌≡◌, ℕ, ◌+◌, ◌*◌, ◌-◌, ◌/◌, ◌%◌, ◌<◌, ◌≤◌, ◌⊎◌, inl, inr, arith, refl, true, false, nat_lt}
+use Rattle.std.proofs.Common.{◌≡◌, ℕ, ◌+◌, ◌*◌, ◌-◌, ◌/◌, ◌%◌, ◌<◌, ◌≤◌, ◌⊎◌, inl, inr, arith, refl, true}
+use Rattle.std.proofs.Common.{false, nat_lt}
 use Rattle.std.proofs.Math.Nat.{eq-or-lt_of_le}
 use Rattle.std.proofs.lemmas.Bool.Decides.{nat_tests}
 use Rattle.config_color.specs.declared.depth.Shade.{Shade}
@@ -18,9 +19,9 @@ best_alone far first =
     }
 
 -- the next number is nearer than all before it
-pub best_next : (far : ℕ → ℕ) (first end best : ℕ) → IsBest far first end best → far end < far best
-    → IsBest far first (end + 1) end
-best_next far first end best h nearer =
+pub best_next : {far : ℕ → ℕ} {first end best apart least : ℕ} → IsBest far first end best → apart ≡ far end
+    → least ≡ far best → apart < least → IsBest far first (end + 1) end
+best_next {far} {first} {end} h p q nearer =
     record {
       from = let k = h.from in let j = h.until in omega arith;
       until = omega arith;
@@ -32,9 +33,9 @@ best_next far first end best h nearer =
       at_or_before m low (inr high) = let k = h.nearest m low high in omega arith
 
 -- the next number is not nearer
-pub best_stays : (far : ℕ → ℕ) (first end best : ℕ) → IsBest far first end best → far best ≤ far end
-    → IsBest far first (end + 1) best
-best_stays far first end best h farther =
+pub best_stays : {far : ℕ → ℕ} {first end best apart least : ℕ} → IsBest far first end best → apart ≡ far end
+    → least ≡ far best → least ≤ apart → IsBest far first (end + 1) best
+best_stays {far} {first} {end} {best} h p q farther =
     record {
       from = h.from;
       until = let k = h.until in omega arith;
@@ -42,15 +43,8 @@ best_stays far first end best h farther =
       least = h.least;
     } where
       at_or_before : (m : ℕ) → first ≤ m → (m ≡ end) ⊎ (m < end) → far best ≤ far m
-      at_or_before m low (inl e) = rw e farther
+      at_or_before m low (inl e) = rw e (omega arith)
       at_or_before m low (inr high) = h.nearest m low high
-
--- facts about distances, which are read here as numbers alone
-pub less_by : {a b c d : ℕ} → a ≡ c → b ≡ d → a < b → c < d
-less_by p q h = omega arith
-
-pub at_most_by : {a b c d : ℕ} → a ≡ c → b ≡ d → b ≤ a → d ≤ c
-at_most_by p q h = omega arith
 
 -- the best number is the nearest to the shade
 pub best_nearest : (s : Shade) (first last best : ℕ) → IsBest (number_distance s) first (last + 1) best

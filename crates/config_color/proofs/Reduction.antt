@@ -1,5 +1,6 @@
 -- What is left of a color: there is only one such color, and it still has a text.
-use Rattle.std.proofs.Common.{◌≡◌, ℕ, ◌<◌, ◌≤◌, Option, None, Some, arith, refl, sym, ap, subst, ◌∙◌, MatchOption}
+use Rattle.std.proofs.Common.{◌≡◌, ℕ, ◌<◌, ◌≤◌, Option, None, Some, arith, refl, sym, ap, subst, ◌∙◌}
+use Rattle.std.proofs.Common.{MatchOption}
 use Rattle.config_color.specs.declared.color.Color.{Color}
 use Rattle.config_color.specs.declared.depth.Depth.{Depth}
 use Rattle.config_color.specs.declared.depth.Depth.TheVariants.{Ansi16, Ansi256, TrueColor}

@@ -1,6 +1,7 @@
 -- The pieces of a text: where the first one ends, and that the pieces of UTF-8 are UTF-8.
 use Rattle.std.proofs.Common.{◌≡◌, ◌<◌, ◌+◌, ◌==◌, ℕ, zero, suc, List, [], ◌∷◌, Bool, true, false, not, Option, None, Some, ◌⊎◌, inl, inr}
-use Rattle.std.proofs.Common.{length, take, drop, get_or, bytes_eq, sym, subst, arith, eqb-true, IsUtf8, if◌then◌else◌}
+use Rattle.std.proofs.Common.{length, take, drop, get_or, bytes_eq, sym, subst, arith, eqb-true, IsUtf8}
+use Rattle.std.proofs.Common.{if◌then◌else◌}
 use Rattle.std.specs.List.{AllByRecursion, list_any, position_or_len}
 use Rattle.std.specs.Option.{option_or}
 use Rattle.std.proofs.lemmas.Bool.{false_from_ne_true}

@@ -33,15 +33,13 @@ line_outcome one_name line (accepted r) (accepted s) a b =
 line_outcome one_name line (accepted r) refused a b =
     absurd (subst (λ k. IsRefused (KindGrammar k) (line_value line)) (one_name b.0 a.0 (b.1 ∙ sym a.1)) b.2
     a.2.0 a.2.1.derived)
-line_outcome one_name line (accepted r) unknown_kind a b = absurd (b a.0 a.1)
 line_outcome one_name line refused (accepted s) a b =
     absurd (subst (λ k. IsRefused (KindGrammar k) (line_value line)) (one_name a.0 b.0 (a.1 ∙ sym b.1)) a.2
     b.2.0 b.2.1.derived)
 line_outcome one_name line refused refused a b = refl
-line_outcome one_name line refused unknown_kind a b = absurd (b a.0 a.1)
-line_outcome one_name line unknown_kind (accepted s) a b = absurd (a b.0 b.1)
-line_outcome one_name line unknown_kind refused a b = absurd (a b.0 b.1)
 line_outcome one_name line unknown_kind unknown_kind a b = refl
+line_outcome one_name line unknown_kind o a b = absurd (a b.0 b.1)
+line_outcome one_name line o unknown_kind a b = absurd (b a.0 a.1)
 
 -- ---- the lines of an input
 

@@ -114,16 +114,14 @@ cut_shorter text cut h =
 within_enough : (n m : ℕ) (text : List ℕ) → length text ≤ n → length text ≤ m
     → words_within n text ≡ words_within m text
 within_enough zero zero text p q = refl
-within_enough zero (suc m) [] p q = refl
-within_enough zero (suc m) (x ∷ text) p q = absurd (omega arith)
-within_enough (suc n) zero [] p q = refl
-within_enough (suc n) zero (x ∷ text) p q = absurd (omega arith)
 within_enough (suc n) (suc m) text p q =
     elim (option_told (last_cut text)) [
       | inl e ↦ rw e refl
       | inr c ↦ let less = cut_shorter text c.0 c.1 in
           rw c.1 (ap (λ ws. ws ++ piece c.0.1) (within_enough n m c.0.0 (omega arith) (omega arith)))
     ]
+within_enough n m [] p q = refl
+within_enough n m (x ∷ text) p q = absurd (omega arith)
 
 -- the words of a text without a cut: the text itself, or no word if it is empty
 pub words_none : (text : List ℕ) → last_cut text ≡ None → words text ≡ piece text

@@ -282,9 +282,8 @@ decimal_read limit t n o z k =
         range c d z = grind (arith, nat_tests, digit_from_value c d)
 
 two_bytes : (t : List ℕ) (c : ℕ) → get_or t 1 0 ≡ c → get_or t 0 0 ≡ 48 → 0 < c → t ≡ 48 ∷ c ∷ drop 2 t
-two_bytes [] c e z p = absurd (omega arith)
-two_bytes (b ∷ []) c e z p = absurd (omega arith)
 two_bytes (b ∷ d ∷ ds) c e z p = rw (z, e) refl
+two_bytes t c e z p = absurd (omega arith)
 
 one_of : (x y z : ℕ) → (x == y || x == z) ≡ true → (x ≡ y) ⊎ (x ≡ z)
 one_of x y z e = grind (arith, nat_tests)

@@ -165,10 +165,9 @@ pub one_row : (known : Known) → HaveOneHome known.users → (form : Form) (r s
     → Gives known form r
     → Gives known form s → r ≡ s
 one_row known one empty r s p q = p ∙ sym q
-one_row known one (below_prefix rest) r s p q = one_below _ r s p q
-one_row known one (below_home rest) r s p q = one_below _ r s p q
 one_row known one (below_user name rest) r s p q = one_user known.users one name rest r s p q
 one_row known one (other value) r s p q = one_where Whole value _ _ r s (λ e f. e ∙ sym f) p q
+one_row known one form r s p q = one_below _ r s p q
 
 -- a value has at most one result
 pub one_result_of : (known : Known) → HaveOneHome known.users → (value : List ℕ) (r s : PathResult)
@@ -198,10 +197,9 @@ user_memory (looked_up may_give) name rest e w =
 
 row_memory : (known : Known) (form : Form) (e : AllocError) → ¬ (Gives known form (fault (Memory e)))
 row_memory known empty e h = cc (h)
-row_memory known (below_prefix rest) e h = below_memory _ e (λ k. cc (k)) h
-row_memory known (below_home rest) e h = below_memory _ e (λ k. cc (k)) h
 row_memory known (below_user name rest) e h = user_memory known.users name rest e h
 row_memory known (other value) e h = where_memory Whole value _ e (λ k. cc (k)) h
+row_memory known form e h = below_memory _ e (λ k. cc (k)) h
 
 pub never_memory : (known : Known) (value : List ℕ) (e : AllocError)
     → ¬ (PathTable known value (fault (Memory e)))
