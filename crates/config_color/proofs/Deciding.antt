@@ -1,7 +1,8 @@
 -- What tests of variables tell of them: each test is of a value that may be missing.
 use Rattle.std.proofs.Common.{◌≡◌, ◌↔◌, ◌++◌, ℕ, ◌+◌, ◌<◌, List, Option, None, Some, IsTrue, Bool, true, false, eqb}
-use Rattle.std.proofs.Common.{length, take, drop, option_copied, arith, sym, ap, ◌∙◌, take-append-drop, append_assoc}
-use Rattle.std.proofs.Common.{length-append, length-drop, length-take-le, drop-drop, ext_get_or, get_or-take, get_or-drop}
+use Rattle.std.proofs.Common.{length, take, drop, option_copied, arith, sym, ap, ◌∙◌}
+use Rattle.std.proofs.Common.{length-append, length-drop, length-take-le, ext_get_or, get_or-take}
+use Rattle.std.proofs.Common.{get_or-drop}
 use Rattle.std.specs.Borrow.{Bor}
 use Rattle.std.specs.List.{ends_with}
 use Rattle.std.specs.Option.{IsSomeAnd}
@@ -10,7 +11,8 @@ use Rattle.std.proofs.lemmas.Bool.Decides.{Decides-eqb}
 use Rattle.std.proofs.lemmas.Slice.Eq.{ends_is}
 use Rattle.bstr.specs.Text.{Contains}
 use Rattle.bstr.specs.Find.{OccursAt}
-use Rattle.std.proofs.Common.{[], ◌∷◌, ◌⊎◌, inl, inr}
+use Rattle.std.proofs.Common.{[], ◌∷◌, inl, inr}
+use Rattle.config_color.specs.Laws.Split.{three_parts}
 use Rattle.config_color.specs.declared.depth.Depth.{Depth}
 use Rattle.config_color.specs.Terminal.{DecidesFirst, EndsIn, HasWord}
 
@@ -41,11 +43,7 @@ cut_at text word k h =
     let part : take (length word) (drop k text) ≡ word =
     ext_get_or 0 _ word whole (λ j less. get_or-take (length word) _ j 0 (omega arith)
     ∙ get_or-drop k text j 0 ∙ h.reads j (omega arith)) in
-    let rest : drop k text ≡ word ++ drop (k + length word) text =
-    sym (take-append-drop (length word) (drop k text))
-    ∙ ap (λ front. front ++ drop (length word) (drop k text)) part
-    ∙ ap (λ back. word ++ back) (drop-drop (length word) k text) in
-    sym (take-append-drop k text) ∙ ap (λ back. take k text ++ back) rest ∙ sym (append_assoc (take k text) word (drop (k + length word) text))
+    three_parts text k (length word) ∙ ap (λ w. take k text ++ w ++ drop (k + length word) text) part
 
 -- what `contains_str` tells
 pub contains_told : (text word : List ℕ) (r : Bool) → (IsTrue r) ↔ (Contains text word)

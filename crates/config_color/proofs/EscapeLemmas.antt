@@ -1,7 +1,7 @@
 -- Lemmas for the sequences of colors: decimal numbers below 256, and the codes of a text that goes on.
-use Rattle.std.proofs.Common.{◌≡◌, ◌≢◌, ℕ, ◌+◌, ◌-◌, ◌/◌, ◌%◌, ◌<◌, ◌≤◌, Bool, true, false, cond, not}
+use Rattle.std.proofs.Common.{◌≡◌, ◌≢◌, ℕ, ◌+◌, ◌-◌, ◌/◌, ◌%◌, ◌^◌, ◌<◌, ◌≤◌, Bool, true, false, cond, not}
 use Rattle.std.proofs.Common.{List, [], ◌∷◌, ◌++◌, length, map, filter, take, drop, codes, decimal, bit_and}
-use Rattle.std.proofs.Common.{refl, sym, ap, subst, get_or, ◌∙◌, arith, ◌==◌, append_assoc, length-append}
+use Rattle.std.proofs.Common.{refl, sym, ap, get_or, ◌∙◌, arith, ◌==◌, append_assoc, length-append}
 use Rattle.std.proofs.lemmas.Bool.{le-ltb, lt-ltb}
 use Rattle.std.proofs.lemmas.Fmt.{decimal_digit, decimal_step, length-decimal-le}
 use Rattle.std.proofs.lemmas.List.{append-nil, map-append, take-append-drop, take_more}
@@ -25,13 +25,6 @@ three_digits n least most =
     decimal_step n (omega arith) (omega arith)
     ∙ ap (λ front. front ++ (48 + n % 10) ∷ []) (two_digits (n / 10) (omega arith) (omega arith))
     ∙ ap (λ d. (48 + d) ∷ (48 + n / 10 % 10) ∷ (48 + n % 10) ∷ []) (omega arith)
-
--- the code of a byte has at most three bytes, and one below 100 at most two
-pub byte_short : (n : ℕ) → n < 256 → length (decimal n) ≤ 3
-byte_short n most = length-decimal-le 3 n (omega arith) (omega arith) (omega arith)
-
-pub two_short : (n : ℕ) → n < 100 → length (decimal n) ≤ 2
-two_short n most = length-decimal-le 2 n (omega arith) (omega arith) (omega arith)
 
 -- one more code, after a separator
 join_more : (first : List ℕ) (more : List (List ℕ)) (code : List ℕ)
@@ -94,10 +87,7 @@ opened_short bits (row ∷ rows) =
 -- the codes of two lists of rows
 pub rows_append : (bits : ℕ) (xs ys : List (ℕ × List ℕ))
     → row_codes bits (xs ++ ys) ≡ row_codes bits xs ++ row_codes bits ys
-rows_append bits xs ys =
-    let p : ℕ × List ℕ → Bool = λ row. not (bit_and bits row.0 == 0) in
-    ap (map (λ (row : ℕ × List ℕ). row.1)) (filter-append p xs ys)
-    ∙ map-append (λ (row : ℕ × List ℕ). row.1) (filter p xs) (filter p ys)
+rows_append bits xs ys = rw (filter-append, map-append)
 
 pub size_append : (xs ys : List (ℕ × List ℕ)) → size (xs ++ ys) ≡ size xs + size ys
 size_append [] ys = omega arith
@@ -120,21 +110,24 @@ sequence_none [] text e none = none
 sequence_none (first ∷ more) text e none = absurd (cc)
 
 -- the bound of one more number, by how many digits it has
-pub of_one : (n : ℕ) (a b : List ℕ) → n < 10 → Continues (decimal n ∷ []) (1 + length (decimal n)) a b
-    → Continues (decimal n ∷ []) 2 a b
-of_one n a b small one =
-    let e = ap length (decimal_digit n small) in
-    continues_within (decimal n ∷ []) _ 2 a b one (omega (arith, e))
+digits : (k n : ℕ) {a b : List ℕ} → 0 < k → n < 10 ^ k → n < 256
+    → Continues (decimal n ∷ []) (1 + length (decimal n)) a b
+    → Continues (decimal n ∷ []) (1 + k) a b
+digits k n some small byte one = let l = length-decimal-le k n some small (omega arith) in
+    continues_within (decimal n ∷ []) _ (1 + k) _ _ one (omega (arith, l))
 
-pub of_two : (n : ℕ) (a b : List ℕ) → n < 100 → Continues (decimal n ∷ []) (1 + length (decimal n)) a b
+pub of_two : (n : ℕ) {a b : List ℕ} → n < 100 → Continues (decimal n ∷ []) (1 + length (decimal n)) a b
     → Continues (decimal n ∷ []) 3 a b
-of_two n a b small one = let e = two_short n small in
-    continues_within (decimal n ∷ []) _ 3 a b one (omega (arith, e))
+of_two n small one = digits 2 n (omega arith) (omega arith) (omega arith) one
 
-pub of_three : (n : ℕ) (a b : List ℕ) → n < 256 → Continues (decimal n ∷ []) (1 + length (decimal n)) a b
+pub of_three : (n : ℕ) {a b : List ℕ} → n < 256 → Continues (decimal n ∷ []) (1 + length (decimal n)) a b
     → Continues (decimal n ∷ []) 4 a b
-of_three n a b small one = let e = byte_short n small in
-    continues_within (decimal n ∷ []) _ 4 a b one (omega (arith, e))
+of_three n small one = digits 3 n (omega arith) (omega arith) small one
+
+-- there is room for one more number
+pub room_after : {cs : List (List ℕ)} {most : ℕ} {a b : List ℕ} → Continues cs most a b → most ≤ 13
+    → length a + 17 < LONGEST_ESCAPE → length b + 5 ≤ LONGEST_ESCAPE
+room_after one few room = let short = one.short 51 (omega arith) (omega arith) in omega arith
 
 -- the codes of a number of the palette
 pub palette_basic : (black number : ℕ) → number < 8 → palette_codes black number ≡ (black + number) ∷ []
@@ -150,30 +143,28 @@ palette_other black number least =
     rw (le-ltb number 8 (omega (arith, least))) (rw (le-ltb number 16 least) refl)
 
 -- the code of a ground and a second code, before the numbers of a color
-pub two_codes : (black second : ℕ) (a b c : List ℕ) → black ≤ 40 → second < 10
+pub two_codes : (black second : ℕ) {a b c : List ℕ} → black ≤ 40 → second < 10
     → Continues (decimal (black + 8) ∷ []) (1 + length (decimal (black + 8))) a b
     → Continues (decimal second ∷ []) (1 + length (decimal second)) b c
     → Continues (decimal (black + 8) ∷ decimal second ∷ []) 5 a c
-two_codes black second a b c low small one two =
-    continues_on (decimal (black + 8) ∷ []) (decimal second ∷ []) 3 2 a b c
-    (of_two (black + 8) a b (omega (arith, low)) one) (of_one second b c small two)
+two_codes black second low small one two =
+    continues_on (decimal (black + 8) ∷ []) (decimal second ∷ []) 3 2 _ _ _
+    (of_two (black + 8) (omega arith) one) (digits 1 second (omega arith) (omega arith) (omega arith) two)
 
 -- one more number of a byte
-pub one_more : (cs : List (List ℕ)) (most n : ℕ) (a b c : List ℕ) → n < 256 → Continues cs most a b
+pub one_more : {cs : List (List ℕ)} (most n : ℕ) {a b c : List ℕ} → n < 256 → Continues cs most a b
     → Continues (decimal n ∷ []) (1 + length (decimal n)) b c → Continues (cs ++ decimal n ∷ []) (most + 4) a c
-one_more cs most n a b c small one two =
-    continues_on cs (decimal n ∷ []) most 4 a b c one (of_three n b c small two)
+one_more most n small one two = continues_on _ (decimal n ∷ []) most 4 _ _ _ one (of_three n small two)
 
 -- a part of the rows is no longer than all rows
 size_part : (rows : List AttributeCode) (i : ℕ) (row : AttributeCode) → i < length rows
     → size (map code_row (take i rows)) + 1 + length (get_or rows i row).code.now ≤ size (map code_row rows)
 size_part rows i row below =
-    let more = ap (λ part. size (map code_row part)) (take_more rows i row below)
-    ∙ ap size (map-append code_row (take i rows) (get_or rows i row ∷ []))
-    ∙ size_append (map code_row (take i rows)) (code_row (get_or rows i row) ∷ []) in
-    let whole = sym (size_append (map code_row (take (i + 1) rows)) (map code_row (drop (i + 1) rows)))
-    ∙ ap size (sym (map-append code_row (take (i + 1) rows) (drop (i + 1) rows)))
-    ∙ ap (λ all. size (map code_row all)) (take-append-drop (i + 1) rows) in
+    let all = λ (rows : List AttributeCode). size (map code_row rows) in
+    let more : all (take (i + 1) rows) ≡ all (take i rows) + (1 + length (get_or rows i row).code.now + 0) =
+    rw (take_more rows i row below, map-append, size_append) in
+    let whole : all rows ≡ all (take (i + 1) rows) + all (drop (i + 1) rows) =
+    rw (← size_append, ← map-append, take-append-drop) in
     omega (arith, more, whole)
 
 -- the codes of one more row, after those of the rows before it
@@ -182,18 +173,10 @@ pub rows_more : (bits i : ℕ) (rows : List AttributeCode) (row : AttributeCode)
     → Continues (row_codes bits (code_row (get_or rows i row) ∷ [])) (size (code_row (get_or rows i row) ∷ [])) b c
     → Continues (row_codes bits (map code_row (take (i + 1) rows))) (size (map code_row (take (i + 1) rows))) a c
 rows_more bits i rows row a b c below before one =
-    let more : map code_row (take (i + 1) rows) ≡ map code_row (take i rows) ++ code_row (get_or rows i row) ∷ []
-    = ap (map code_row) (take_more rows i row below)
-    ∙ map-append code_row (take i rows) (get_or rows i row ∷ []) in
-    let both = continues_on (row_codes bits (map code_row (take i rows)))
-    (row_codes bits (code_row (get_or rows i row) ∷ [])) (size (map code_row (take i rows)))
-    (size (code_row (get_or rows i row) ∷ [])) a b c before one in
-    subst (λ (rs : List (ℕ × List ℕ)). Continues (row_codes bits rs) (size rs) a c) (sym more)
-    (subst (λ (cs : List (List ℕ)). Continues cs
-    (size (map code_row (take i rows) ++ code_row (get_or rows i row) ∷ [])) a c)
-    (sym (rows_append bits (map code_row (take i rows)) (code_row (get_or rows i row) ∷ [])))
-    (continues_within _ _ _ a c both
-    (omega (arith, size_append (map code_row (take i rows)) (code_row (get_or rows i row) ∷ [])))))
+    let front = map code_row (take i rows) in
+    let back = code_row (get_or rows i row) ∷ [] in
+    let both = continues_on _ _ (size front) (size back) a b c before one in
+    rw (take_more rows i row below, map-append, rows_append bits front back, size_append front back) both
 
 -- there is room for the code of one more row
 pub row_room : (rows : List AttributeCode) (i : ℕ) (row : AttributeCode) (start now : ℕ) → i < length rows

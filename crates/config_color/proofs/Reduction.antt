@@ -1,5 +1,6 @@
 -- What is left of a color: there is only one such color, and it still has a text.
-use Rattle.std.proofs.Common.{◌≡◌, ℕ, ◌<◌, ◌≤◌, ◌⊎◌, inl, inr, Option, None, Some, arith, refl, sym, ap, subst, ◌∙◌, MatchOption}
+use Rattle.std.proofs.Common.{◌≡◌, ℕ, ◌<◌, ◌≤◌, Option, None, Some, arith, refl, sym, ap, subst, ◌∙◌}
+use Rattle.std.proofs.Common.{MatchOption}
 use Rattle.config_color.specs.declared.color.Color.{Color}
 use Rattle.config_color.specs.declared.depth.Depth.{Depth}
 use Rattle.config_color.specs.declared.depth.Depth.TheVariants.{Ansi16, Ansi256, TrueColor}
@@ -19,19 +20,21 @@ last_fits Ansi16 = omega arith
 last_fits Ansi256 = omega arith
 last_fits TrueColor = omega arith
 
+-- what is left of a name that has to be replaced by the nearest to this shade, or stays
+abbrev Left : Depth → Name → Option Shade → Name → Type 0
+Left depth n shade m =
+    MatchOption shade (m ≡ n) (λ s.
+    (k : ℕ) × (m ≡ Ansi k) × IsNearest (replacements depth).0 (replacements depth).1 s k)
+
 -- the numbers of what is left of a name are bytes, if those of the name are
 name_fits : (depth : Depth) (n m : Name) → NameFits n → ReducedName depth n m → NameFits m
 name_fits depth n m fits h = by_shade (replaced depth n) h where
-  by_shade : (o : Option Shade)
-      → MatchOption o (m ≡ n) (λ s.
-      (k : ℕ) × (m ≡ Ansi k) × IsNearest (replacements depth).0 (replacements depth).1 s k)
-      → NameFits m
-  by_shade None e = subst NameFits (sym e) fits
+  by_shade : (o : Option Shade) → Left depth n o m → NameFits m
+  by_shade None e = rw e fits
   by_shade (Some s) h =
       let last = last_fits depth in
       let within = h.2.within.1 in
-      let fits : NameFits (Ansi h.0) = omega arith in
-      subst NameFits (sym h.1) fits
+      let fits : NameFits (Ansi h.0) = omega arith in rw h.1 fits
 
 part_fits : (depth : Depth) (p q : Option Name) → PartFits p → ReducedPart depth p q → PartFits q
 part_fits depth None q fits h = subst PartFits (sym h) tt
@@ -73,12 +76,7 @@ one_nearest first last s n m p q =
 
 one_name : (depth : Depth) (n m o : Name) → ReducedName depth n m → ReducedName depth n o → m ≡ o
 one_name depth n m o p q = by_shade (replaced depth n) p q where
-  Left : Option Shade → Name → Type 0
-  Left shade m =
-      MatchOption shade (m ≡ n) (λ s.
-      (k : ℕ) × (m ≡ Ansi k) × IsNearest (replacements depth).0 (replacements depth).1 s k)
-
-  by_shade : (shade : Option Shade) → Left shade m → Left shade o → m ≡ o
+  by_shade : (shade : Option Shade) → Left depth n shade m → Left depth n shade o → m ≡ o
   by_shade None p q = p ∙ sym q
   by_shade (Some s) p q =
       p.1 ∙ ap Ansi (one_nearest (replacements depth).0 (replacements depth).1 s p.0 q.0 p.2 q.2) ∙ sym q.1

@@ -53,9 +53,8 @@ without_zero base limit t long first second low high =
     ap (number_and_suffix base limit) (take_rest t 1) ∙ dropped t long first second where
       dropped : (t : List ℕ) → 2 ≤ length t → get_or t 0 0 ≡ 48 → get_or t 1 0 ≡ 48
           → number_and_suffix base limit (drop 1 t) ≡ number_and_suffix base limit t
-      dropped [] long first second = absurd (omega arith)
-      dropped (x ∷ []) long first second = absurd (omega arith)
       dropped (x ∷ y ∷ ds) long first second = rw (first, second) (two_zeros base limit ds low high)
+      dropped t long first second = absurd (omega arith)
 
 -- a run of zeros before a zero does not change the number
 many_zeros : (n base limit : ℕ) (ds : List ℕ) → 0 < base → base ≤ 16

@@ -102,8 +102,7 @@ refused_product refuses t faults.Overflow z p r =
     absurd (r.2 (subst IsInI64 (product_one_value t z r.0 p.product_text r.1) p.in_range))
 refused_product refuses t faults.OutOfRange z p r =
     subst refuses (product_one_value t r.0 z r.1.product_text p.product_text) r.2
-refused_product refuses t faults.Boolean z p r = absurd r
-refused_product refuses t faults.Color z p r = absurd r
+refused_product refuses t f z p r = absurd r
 
 -- if the caller's type accepts the product of a text, `Integer::from_bytes` returns what the type makes of it
 pub converts : {T : Type 0} (accepts : ℤ → T → Type 0) (refuses : ℤ

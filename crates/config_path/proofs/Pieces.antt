@@ -1,8 +1,10 @@
 -- The pieces of a text: where the first one ends, and that the pieces of UTF-8 are UTF-8.
 use Rattle.std.proofs.Common.{◌≡◌, ◌<◌, ◌+◌, ◌==◌, ℕ, zero, suc, List, [], ◌∷◌, Bool, true, false, not, Option, None, Some, ◌⊎◌, inl, inr}
-use Rattle.std.proofs.Common.{length, take, drop, get_or, bytes_eq, refl, sym, subst, arith, eqb-true, IsUtf8, if◌then◌else◌}
+use Rattle.std.proofs.Common.{length, take, drop, get_or, bytes_eq, sym, subst, arith, eqb-true, IsUtf8}
+use Rattle.std.proofs.Common.{if◌then◌else◌}
 use Rattle.std.specs.List.{AllByRecursion, list_any, position_or_len}
 use Rattle.std.specs.Option.{option_or}
+use Rattle.std.proofs.lemmas.Bool.{false_from_ne_true}
 use Rattle.std.proofs.lemmas.Bool.Decides.{eqb_tells}
 use Rattle.std.proofs.lemmas.List.Elements.{All-from_get_or}
 use Rattle.std.proofs.lemmas.List.Splits.{slice_split_none, slice_split_first}
@@ -13,15 +15,11 @@ use Rattle.bstr.specs.Find.{Passes, Nowhere, NoneBefore, is_byte}
 use Rattle.config_text.specs.Bytes.{line_feed}
 use Rattle.config_path.specs.Passwd.{colon, nul, pieces, home_of_fields, home_in_lines, home_in}
 
-false_from : (b : Bool) → ¬ (b ≡ true) → b ≡ false
-false_from true n = absurd (n refl)
-false_from false n = refl
-
 pub no_piece : (separator : ℕ) (text : List ℕ) → Nowhere (Passes (is_byte separator) text) 0 (length text)
     → pieces separator text ≡ text ∷ []
 no_piece separator text none =
     slice_split_none _ text (All-from_get_or (λ b. (b == separator) ≡ false) text 0
-    (λ k below. false_from _ (none k (omega arith) below)))
+    (λ k below. false_from_ne_true _ (none k (omega arith) below)))
 
 pub first_piece : (separator : ℕ) (text : List ℕ) (i : ℕ)
     → NoneBefore (Passes (is_byte separator) text) 0 (length text) i → Passes (is_byte separator) text i
@@ -29,7 +27,7 @@ pub first_piece : (separator : ℕ) (text : List ℕ) (i : ℕ)
 first_piece separator text i first passes =
     let at : position_or_len (λ b. b == separator) text ≡ i =
     position_or_len_is (λ b. b == separator) text i 0 (omega (arith, first.high))
-    (λ k below. false_from _ (first.before k (omega arith) below)) (λ _. passes) in
+    (λ k below. false_from_ne_true _ (first.before k (omega arith) below)) (λ _. passes) in
     subst (λ k. pieces separator text ≡ take k text ∷ pieces separator (drop (k + 1) text)) at
     (slice_split_first (λ b. b == separator) text 0 (omega (arith, at, first.high)))
 
@@ -70,16 +68,9 @@ same_home false x home e = absurd (cc (e))
 
 field_is_utf8 : (name home : List ℕ) (fields : List (List ℕ)) → AllByRecursion IsUtf8 fields
     → home_of_fields name fields ≡ Some home → IsUtf8 home
-field_is_utf8 name home [] all e = absurd (cc (e))
-field_is_utf8 name home (a ∷ []) all e = absurd (cc (e))
-field_is_utf8 name home (a ∷ b ∷ []) all e = absurd (cc (e))
-field_is_utf8 name home (a ∷ b ∷ c ∷ []) all e = absurd (cc (e))
-field_is_utf8 name home (a ∷ b ∷ c ∷ d ∷ []) all e = absurd (cc (e))
-field_is_utf8 name home (a ∷ b ∷ c ∷ d ∷ f ∷ []) all e = absurd (cc (e))
-field_is_utf8 name home (a ∷ b ∷ c ∷ d ∷ f ∷ g ∷ []) all e = absurd (cc (e))
 field_is_utf8 name home (a ∷ b ∷ c ∷ d ∷ f ∷ g ∷ h ∷ []) all e =
     subst IsUtf8 (same_home (bytes_eq a name) g home e) all.1.1.1.1.1.0
-field_is_utf8 name home (a ∷ b ∷ c ∷ d ∷ f ∷ g ∷ h ∷ i ∷ more) all e = absurd (cc (e))
+field_is_utf8 name home fields all e = absurd (cc (e))
 
 either : (a b : Option (List ℕ)) (home : List ℕ) → option_or a b ≡ Some home → (a ≡ Some home) ⊎ (b ≡ Some home)
 either None b home e = inr e

@@ -1,6 +1,6 @@
 -- The shown text of several attributes has a space, and no attribute text has a space.
-use Rattle.std.proofs.Common.{◌≡◌, ◌≢◌, ℕ, inl, inr, Bool, true, false, cond, not, ◌&&◌, List, [], ◌∷◌, ◌++◌}
-use Rattle.std.proofs.Common.{map, filter, refl, sym, ap, ◌∙◌, arith, ◌==◌}
+use Rattle.std.proofs.Common.{◌≡◌, ◌≢◌, ◌≤◌, ℕ, inl, inr, Bool, true, false, cond, not, ◌&&◌, List, [], ◌∷◌}
+use Rattle.std.proofs.Common.{◌++◌, length, map, filter, refl, sym, ap, ◌∙◌, arith, ◌==◌}
 use Rattle.std.proofs.lemmas.Bool.{and_parts}
 use Rattle.std.proofs.lemmas.Bool.Decides.{Decides-eqb, nat_tests}
 use Rattle.std.specs.Char.{to_ascii_lowercase}
@@ -53,57 +53,40 @@ spaced (c ∷ cs) rest = rw (spaced cs rest) (none (not (c == space))) where
   none true = refl
   none false = refl
 
--- a list of one row or more
-abbrev HasOne : List AttributeRow → Type 0
-HasOne rows = (x : AttributeRow) × (rest : List AttributeRow) × (rows ≡ x ∷ rest)
-
--- a list of two rows or more
-abbrev HasTwo : List AttributeRow → Type 0
-HasTwo rows = (x y : AttributeRow) × (rest : List AttributeRow) × (rows ≡ x ∷ y ∷ rest)
-
--- adding a row, or not, leaves one row or more
-one-told : (b : Bool) (first : AttributeRow) (rows : List AttributeRow) → HasOne rows
-    → HasOne (cond b (first ∷ rows) rows)
-one-told true first rows h = (first, rows, refl)
-one-told false first rows h = h
+-- leaving a row out, or not, leaves no fewer rows than those after it
+no_fewer : (b : Bool) (first : AttributeRow) (rows : List AttributeRow)
+    → length rows ≤ length (cond b (first ∷ rows) rows)
+no_fewer true first rows = omega arith
+no_fewer false first rows = omega arith
 
 -- if a row passes the test, at least one row is kept
 one-kept : (p : AttributeRow → Bool) (rows : List AttributeRow) (r : AttributeRow) → OneOf rows r → p r ≡ true
-    → HasOne (filter p rows)
+    → 1 ≤ length (filter p rows)
 one-kept p [] r o h = absurd o
-one-kept p (first ∷ rows) r (inl e) h =
-    let kept : p first ≡ true = rw (← e) h in rw kept (first, filter p rows, refl)
-one-kept p (first ∷ rows) r (inr o) h = one-told (p first) first (filter p rows) (one-kept p rows r o h)
-
--- adding a row to one or more rows makes two rows or more
-front : (first : AttributeRow) (rows : List AttributeRow) → HasOne rows → HasTwo (first ∷ rows)
-front first rows h = (first, h.0, h.1, ap (λ rest. first ∷ rest) h.2)
-
--- adding a row, or not, leaves two rows or more
-two-told : (b : Bool) (first : AttributeRow) (rows : List AttributeRow) → HasTwo rows
-    → HasTwo (cond b (first ∷ rows) rows)
-two-told true first rows h = (first, h.0, h.1 ∷ h.2, ap (λ rest. first ∷ rest) h.3)
-two-told false first rows h = h
+one-kept p (first ∷ rows) r (inl e) h = let kept : p first ≡ true = rw (← e) h in rw kept (omega arith)
+one-kept p (first ∷ rows) r (inr o) h =
+    omega (arith, no_fewer (p first) first (filter p rows), one-kept p rows r o h)
 
 -- if two rows of different bits pass the test, at least two rows are kept
 two-kept : (p : AttributeRow → Bool) (rows : List AttributeRow) (r s : AttributeRow) → OneOf rows r
     → OneOf rows s → r.1 ≢ s.1
-    → p r ≡ true → p s ≡ true → HasTwo (filter p rows)
+    → p r ≡ true → p s ≡ true → 2 ≤ length (filter p rows)
 two-kept p [] r s o q apart h k = absurd o
 two-kept p (first ∷ rows) r s (inl e) (inl f) apart h k =
     absurd (apart (ap (λ (x : AttributeRow). x.1) (e ∙ sym f)))
 two-kept p (first ∷ rows) r s (inl e) (inr q) apart h k =
-    let kept : p first ≡ true = rw (← e) h in rw kept (front first (filter p rows) (one-kept p rows s q k))
+    let kept : p first ≡ true = rw (← e) h in rw kept (omega (arith, one-kept p rows s q k))
 two-kept p (first ∷ rows) r s (inr o) (inl f) apart h k =
-    let kept : p first ≡ true = rw (← f) k in rw kept (front first (filter p rows) (one-kept p rows r o h))
+    let kept : p first ≡ true = rw (← f) k in rw kept (omega (arith, one-kept p rows r o h))
 two-kept p (first ∷ rows) r s (inr o) (inr q) apart h k =
-    two-told (p first) first (filter p rows) (two-kept p rows r s o q apart h k)
+    omega (arith, no_fewer (p first) first (filter p rows), two-kept p rows r s o q apart h k)
 
 -- two words or more have a space between them
-two-spaced : (rows : List AttributeRow) → HasTwo rows
+two-spaced : (rows : List AttributeRow) → 2 ≤ length rows
     → no_space (join_with_byte space (map (λ row. row.2) rows)) ≡ false
-two-spaced rows h =
-    rw h.3 (spaced h.0.2 (join_with_byte space (map (λ (row : AttributeRow). row.2) (h.1 ∷ h.2))))
+two-spaced (x ∷ y ∷ rest) h =
+    spaced x.2 (join_with_byte space (map (λ (row : AttributeRow). row.2) (y ∷ rest)))
+two-spaced rows h = absurd (omega arith)
 
 -- if two known bits are set, the shown text is not an attribute text
 pub several_refused : (a : Attribute) (i j : ℕ) → i ≢ j → IsKnownBit i → IsKnownBit j → bit_at a.0 i ≡ 1

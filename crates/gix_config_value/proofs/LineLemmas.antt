@@ -1,7 +1,8 @@
 -- Lines: the index of the first LF or of the first space in a list of bytes.
 use Rattle.std.proofs.Common.{◌-◌, suc, eq-eqb, eqb-true, ◌≡◌, ◌≢◌, ℕ, ◌+◌, ◌<◌, ◌==◌, List, [], ◌∷◌, ◌++◌}
-use Rattle.std.proofs.Common.{Bool, true, false, length, take, drop, get_or, refl, sym, ap, ◌∙◌, arith}
+use Rattle.std.proofs.Common.{length, take, drop, get_or, sym, ap, ◌∙◌, arith}
 use Rattle.std.proofs.Common.{append_assoc, add-one, drop-cons, length-take, take-append-drop}
+use Rattle.std.proofs.lemmas.Bool.{false_from_ne_true}
 use Rattle.std.specs.List.{AllByRecursion, position_or_len}
 use Rattle.std.proofs.lemmas.List.Sums.{position_or_len_is}
 use Rattle.std.proofs.lemmas.List.{take_rest, get_or-take}
@@ -12,16 +13,12 @@ use Rattle.config_text.specs.Bytes.{line_feed, space}
 use Rattle.gix_config_value.specs.Answers.{IsUnbroken, line_head, line_value}
 use Rattle.gix_config_value.specs.Reading.Steps.{CutsLine}
 
-false_from : (b : Bool) → ¬ (b ≡ true) → b ≡ false
-false_from true n = absurd (n refl)
-false_from false n = refl
-
 -- the position of a byte that does not occur is the length
 pub position_nowhere : (byte : ℕ) (bytes : List ℕ) → Nowhere (Passes (is_byte byte) bytes) 0 (length bytes)
     → position_or_len (λ b. b == byte) bytes ≡ length bytes
 position_nowhere byte bytes none =
     position_or_len_is (λ b. b == byte) bytes (length bytes) 0 (omega arith)
-    (λ k below. false_from _ (none k (omega arith) below))
+    (λ k below. false_from_ne_true _ (none k (omega arith) below))
     (λ below. absurd (omega arith))
 
 -- the position of a byte that occurs first at index `i` is `i`
@@ -30,7 +27,7 @@ pub position_first : (byte : ℕ) (bytes : List ℕ) (i : ℕ)
     → Passes (is_byte byte) bytes i → position_or_len (λ b. b == byte) bytes ≡ i
 position_first byte bytes i first passes =
     position_or_len_is (λ b. b == byte) bytes i 0 (omega (arith, first.high))
-    (λ k below. false_from _ (first.before k (omega arith) below))
+    (λ k below. false_from_ne_true _ (first.before k (omega arith) below))
     (λ _. passes)
 
 -- what holds at each index holds for each element

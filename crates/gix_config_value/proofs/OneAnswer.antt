@@ -33,15 +33,13 @@ line_outcome one_name line (accepted r) (accepted s) a b =
 line_outcome one_name line (accepted r) refused a b =
     absurd (subst (λ k. IsRefused (KindGrammar k) (line_value line)) (one_name b.0 a.0 (b.1 ∙ sym a.1)) b.2
     a.2.0 a.2.1.derived)
-line_outcome one_name line (accepted r) unknown_kind a b = absurd (b a.0 a.1)
 line_outcome one_name line refused (accepted s) a b =
     absurd (subst (λ k. IsRefused (KindGrammar k) (line_value line)) (one_name a.0 b.0 (a.1 ∙ sym b.1)) a.2
     b.2.0 b.2.1.derived)
 line_outcome one_name line refused refused a b = refl
-line_outcome one_name line refused unknown_kind a b = absurd (b a.0 a.1)
-line_outcome one_name line unknown_kind (accepted s) a b = absurd (a b.0 b.1)
-line_outcome one_name line unknown_kind refused a b = absurd (a b.0 b.1)
 line_outcome one_name line unknown_kind unknown_kind a b = refl
+line_outcome one_name line unknown_kind o a b = absurd (a b.0 b.1)
+line_outcome one_name line o unknown_kind a b = absurd (b a.0 a.1)
 
 -- ---- the lines of an input
 
@@ -99,12 +97,9 @@ module _ (one : (line : List ℕ) (a b : Outcome) → LineOutcome line a → Lin
   one_each : (lines : List (List ℕ)) (os ps : List Outcome) → AllZip LineOutcome lines os
       → AllZip LineOutcome lines ps → os ≡ ps
   one_each [] [] [] a b = refl
-  one_each [] [] (p ∷ ps) a b = absurd b
-  one_each [] (o ∷ os) ps a b = absurd a
-  one_each (l ∷ ls) [] ps a b = absurd a
-  one_each (l ∷ ls) (o ∷ os) [] a b = absurd b
   one_each (l ∷ ls) (o ∷ os) (p ∷ ps) a b =
       let first = one l o p a.0 b.0 in let others = one_each ls os ps a.1 b.1 in cc
+  one_each lines os ps a b = absurd (search)
 
   lines_answered : (lines : List (List ℕ)) (o p : List ℕ) (x y : Bool) → LinesAnswered lines o x
       → LinesAnswered lines p y → (o ≡ p) × (x ≡ y)

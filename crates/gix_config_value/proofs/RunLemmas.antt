@@ -1,20 +1,21 @@
 -- A run as a whole: how it goes on after a read, how it ends, and what holds if it stops with an error.
 use Rattle.std.proofs.Common.{◌≡◌, ◌≢◌, ◌==◌, ℕ, ◌<◌, List, [], ◌∷◌, ◌++◌, ◌&&◌, length, take, Bool, true}
-use Rattle.std.proofs.Common.{false, Option, Result, Ok, Err, IfOk, IfErr, refl, sym, ap, ◌∙◌, append_assoc}
+use Rattle.std.proofs.Common.{false, Option, refl, sym, ap, ◌∙◌, append_assoc}
 use Rattle.std.proofs.Common.{append-nil, subst}
 use Rattle.std.specs.Io.KnownBytes.{Appends, Consumes, Keeps, IsAtEnd}
 use Rattle.gix_config_value.specs.declared.program.RunError.{RunError}
 use Rattle.gix_config_value.specs.declared.program.RunError.TheVariants.{Read, Write, Memory}
-use Rattle.gix_config_value.specs.Answers.{Outcome, IsCut, LineOutcome, outcome_text, is_accepted}
+use Rattle.gix_config_value.specs.Answers.{Outcome, LineOutcome, outcome_text, is_accepted}
 use Rattle.gix_config_value.specs.Answers.{IsBeginningOfAnswers, AnswersAllBut, AnswersLines, Completes}
 use Rattle.gix_config_value.specs.Answers.{Fails}
-use Rattle.gix_config_value.specs.Reading.Steps.{CompletesLines, AnswersLast, MayMiss, OutputState}
+use Rattle.gix_config_value.specs.Reading.Steps.{AnswersLast, MayMiss, OutputState}
 use Rattle.gix_config_value.specs.Reading.Steps.{SendsBytes, SendsAnswer, FailsSending, RunState, Advances}
 use Rattle.gix_config_value.specs.Reading.Steps.{FailsWithin, EndsAnswered, EndsEarly, start, HasAnswered}
 use Rattle.std.proofs.KnownBytes.{Keeps-refl, Consumes-nil, Consumes-trans, Consumes-kept}
 use Rattle.std.specs.Borrow.{GName}
 use Rattle.gix_config_value.proofs.StepLemmas.{CompletesLines-trans, takes_any, last_any, Answers-last}
-use Rattle.gix_config_value.proofs.StepLemmas.{begins, all_but, SendsBytes-trans, SendsBytes-all}
+use Rattle.gix_config_value.proofs.StepLemmas.{begins, all_but, cut_of, answered_of, SendsBytes-trans}
+use Rattle.gix_config_value.proofs.StepLemmas.{SendsBytes-all}
 use Rattle.gix_config_value.proofs.StepLemmas.{FailsSending-after, Advances-nil, Advances-trans}
 use Rattle.gix_config_value.proofs.StepLemmas.{Advances-sent, FailsWithin-after, FailsWithin-whole}
 
@@ -44,10 +45,9 @@ EndsEarly-first a b e k is_write = let last = last_any a.line a.accepted in reco
       same_writer = k.sends.same_writer;
       written = k.sends.written;
       appended = k.sends.appended;
-      in_order = ap (λ x. x ++ last.1) (sym (append-nil a.to.waiting) ∙ k.sends.in_order)
-          ∙ append_assoc k.sends.written k.missing last.1;
+      in_order = rw (← append_assoc, ← k.sends.in_order, append-nil);
     };
-    allowed = subst (λ e. MayMiss e (k.missing ++ last.1)) (sym is_write) tt;
+    allowed = rw is_write tt;
   };
   is_write = is_write;
 }
@@ -59,8 +59,7 @@ module _ (a : RunState) (b : OutputState) (accepts : Bool) (some : a.line ≢ []
   EndsAnswered-line c s empty = record {
     last = outcome_text e.outcome;
     answered = AnswersLast-of a.line a.accepted accepts e.outcome some e.is e.accepts;
-    sends = subst (SendsBytes a.to c) (append-nil _)
-        (SendsBytes-trans a.to b c (outcome_text e.outcome) [] e.sends s);
+    sends = rw append-nil at (SendsBytes-trans e.sends s);
     empty = empty;
   }
 
@@ -70,8 +69,7 @@ module _ (a : RunState) (b : OutputState) (accepts : Bool) (some : a.line ≢ []
     last = outcome_text e.outcome;
     ok = a.accepted && accepts;
     answered = AnswersLast-of a.line a.accepted accepts e.outcome some e.is e.accepts;
-    breaks = subst (λ x. FailsSending a.to c x error) (append-nil _)
-        (FailsSending-after a.to b c (outcome_text e.outcome) [] error e.sends k);
+    breaks = rw append-nil at (FailsSending-after e.sends k);
     is_write = is_write;
   }
 
@@ -80,7 +78,7 @@ pub at_the_end : (left left' : Option (List ℕ)) (buf : List ℕ) (n : ℕ) →
     → Consumes left left' (take n buf) × (n ≡ 0 → 0 < length buf → IsAtEnd left')
     → Consumes left left' [] × IsAtEnd left'
 at_the_end left left' buf n nothing room read =
-    (subst (λ k. Consumes left left' (take k buf)) nothing read.0, read.1 nothing room)
+    (rw nothing at read.0, read.1 nothing room)
 
 -- which lines are answered after an error in the middle of the bytes of a read
 lines_of : (e : RunError) (missing input output : List ℕ) → MayMiss e missing
@@ -120,22 +118,19 @@ module _ (unread held : Option (List ℕ)) (writer : GName) where
 
     beginning : IsBeginningOfAnswers input written
     unfolding written missing
-    beginning = let rest = takes_any s.line s.accepted s.left in
-        begins input rest.0 (s.output ++ rest.2) written (missing ++ rest.2) rest.1
-        (subst (λ x. CompletesLines [] true x rest.0 rest.1 (s.output ++ rest.2)) (sym s.split)
-        (CompletesLines-trans [] s.done s.line s.left rest.0 true s.accepted rest.1 s.output rest.2 s.taken
-        rest.3))
-        (ap (λ x. x ++ rest.2) s.breaks.sends.in_order ∙ append_assoc written missing rest.2)
+    beginning = let (line, ok, output, rest) = takes_any s.line s.accepted s.left in
+        begins input line (s.output ++ output) written (missing ++ output) ok
+        (rw s.split (CompletesLines-trans s.taken rest))
+        (ap (λ x. x ++ output) s.breaks.sends.in_order ∙ append_assoc written missing output)
 
     some_lines : missing ≡ [] → (more : List (List ℕ)) × AnswersAllBut more input written
     unfolding written missing
-    some_lines whole = let rest = takes_any s.line s.accepted s.left in
-        let found = all_but s.done s.left s.line rest.0 s.output rest.2 s.accepted rest.1 s.taken rest.3 in (
-          found.0,
-          subst (λ x. AnswersAllBut found.0 x written) (sym s.split)
-              (subst (AnswersAllBut found.0 (s.done ++ s.left))
-              (s.breaks.sends.in_order ∙ ap (λ x. written ++ x) whole ∙ append-nil written) found.1),
-        )
+    some_lines whole =
+        let (line, ok, output, rest) = takes_any s.line s.accepted s.left in
+        let (more, found) = all_but s.done s.left s.line line s.output output s.accepted ok s.taken rest in
+        let same : s.output ≡ written =
+        s.breaks.sends.in_order ∙ ap (λ x. written ++ x) whole ∙ append-nil written in
+        (more, subst (AnswersAllBut more input) same (rw (sym s.split) at found))
 
     pub Fails-amid : Fails unread left held after.held e
     unfolding written missing
@@ -161,8 +156,7 @@ module _ (unread held : Option (List ℕ)) (writer : GName) where
     HasAnswered-on left' between after bytes read t s empty = record {
       input = g.input ++ bytes;
       consumed = Consumes-trans unread left left' g.input bytes g.consumed read;
-      advances = Advances-trans (start writer held) now _ g.input bytes g.advances
-          (Advances-sent now between after bytes t s);
+      advances = Advances-trans g.advances (Advances-sent now between after bytes t s);
       empty = empty;
     }
 
@@ -179,18 +173,8 @@ module _ (unread held : Option (List ℕ)) (writer : GName) where
         lines = g.advances.taken.lines;
         rest = now.line;
         ok = now.accepted;
-        cut = subst (λ lines. IsCut g.input lines now.line) (sym (append-nil g.advances.taken.lines))
-            (record {
-              joined = g.advances.taken.joined;
-              unbroken = g.advances.taken.unbroken tt;
-              rest_unbroken = g.advances.taken.rest_unbroken tt;
-            });
-        answered = record {
-          outcomes = g.advances.taken.outcomes;
-          each = g.advances.taken.each;
-          written = g.advances.taken.written;
-          all_accepted = g.advances.taken.all_accepted;
-        };
+        cut = rw append-nil (cut_of g.advances.taken);
+        answered = answered_of g.advances.taken;
       };
     }
 
@@ -205,14 +189,11 @@ module _ (unread held : Option (List ℕ)) (writer : GName) where
     Completes-end left' after ok read e = record {
       input = g.input;
       output = g.advances.output ++ e.last;
-      consumed = subst (Consumes unread left') (append-nil g.input)
-          (Consumes-trans unread left left' g.input [] g.consumed read.0);
+      consumed = rw append-nil at (Consumes-trans unread left left' g.input [] g.consumed read.0);
       at_end = read.1;
-      appended = SendsBytes-all (start writer held).to after _ refl e.empty
-          (SendsBytes-trans (start writer held).to now.to after g.advances.output e.last g.advances.sends
-          e.sends);
-      answers = Answers-last g.input now.line g.advances.output e.last now.accepted ok g.advances.taken
-          e.answered;
+      appended =
+          SendsBytes-all _ after _ refl e.empty (SendsBytes-trans g.advances.sends e.sends);
+      answers = Answers-last _ _ _ _ _ _ g.advances.taken e.answered;
     }
 
     -- an error at the end of the input
@@ -220,19 +201,16 @@ module _ (unread held : Option (List ℕ)) (writer : GName) where
         → Consumes left left' [] × IsAtEnd left' → EndsEarly now after e
         → Fails unread left' held after.held e
     Fails-end left' after e read end =
-        let k = FailsSending-after (start writer held).to now.to after g.advances.output end.last e
-        g.advances.sends end.breaks in
-        subst (Fails unread left' held after.held) (sym end.is_write) (record {
+        let k = FailsSending-after g.advances.sends end.breaks in
+        rw end.is_write (record {
           input = g.input;
           output = k.sends.written;
-          consumed = subst (Consumes unread left') (append-nil g.input)
-              (Consumes-trans unread left left' g.input [] g.consumed read.0);
+          consumed = rw append-nil at (Consumes-trans unread left left' g.input [] g.consumed read.0);
           appended = k.sends.appended;
           begins = (
             g.advances.output ++ end.last,
             end.ok,
-            Answers-last g.input now.line g.advances.output end.last now.accepted end.ok g.advances.taken
-                end.answered,
+            Answers-last _ _ _ _ _ _ g.advances.taken end.answered,
             (k.missing, k.sends.in_order),
           );
           lines = tt;
@@ -244,20 +222,7 @@ module _ (unread held : Option (List ℕ)) (writer : GName) where
         → Fails unread left' held after.held e
     Fails-on left' after bytes e read s = Fails-amid left' after (g.input ++ bytes) e
         (Consumes-trans unread left left' g.input bytes g.consumed read)
-        (FailsWithin-after (start writer held) now after g.input bytes e g.advances s)
-
-    -- if `finish` returns `Ok`, the run completes with the same truth value
-    pub Completes-at_end : (r : Result Bool RunError) (left' : Option (List ℕ)) (after : OutputState)
-        → Consumes left left' [] × IsAtEnd left'
-        → IfOk r (EndsAnswered now after) → IfOk r (Completes unread left' held after.held)
-    Completes-at_end (Ok ok) left' after read e = Completes-end left' after ok read e
-    Completes-at_end (Err e) left' after read p = tt
-
-    pub Fails-at_end : (r : Result Bool RunError) (left' : Option (List ℕ)) (after : OutputState)
-        → Consumes left left' [] × IsAtEnd left'
-        → IfErr r (EndsEarly now after) → IfErr r (Fails unread left' held after.held)
-    Fails-at_end (Ok ok) left' after read p = tt
-    Fails-at_end (Err e) left' after read early = Fails-end left' after e read early
+        (FailsWithin-after g.advances s)
 
     -- an error while the answers to the lines of a read were written
     pub Fails-unsent : (left' : Option (List ℕ)) (between : RunState) (after : OutputState) (bytes : List ℕ)

@@ -1,8 +1,8 @@
 -- How the steps of a run compose; and every line has an outcome, and every input an output.
-use Rattle.std.proofs.Common.{length, Result, Ok, Err, OnOk, IfErr, ◌+◌, take, drop, take-append-drop, ◌≡◌, ℕ}
-use Rattle.std.proofs.Common.{inl, inr, Some, None, List, [], ◌∷◌, ◌++◌, ◌&&◌, flat_map, Bool, true, Option}
+use Rattle.std.proofs.Common.{length, Result, Ok, Err, IfErr, ◌+◌, take, drop, take-append-drop, ◌≡◌, ℕ}
+use Rattle.std.proofs.Common.{inl, inr, Some, None, List, [], ◌∷◌, ◌++◌, ◌&&◌, Bool, true, Option}
 use Rattle.std.proofs.Common.{refl, sym, ap, ◌∙◌, append_assoc, append-nil, subst}
-use Rattle.std.specs.List.{AllByRecursion, AllZip, list_all}
+use Rattle.std.specs.List.{AllByRecursion, AllZip}
 use Rattle.std.specs.Result.{IsErrAnd}
 use Rattle.std.specs.Io.KnownBytes.{Appends}
 use Rattle.std.proofs.Math.Bool.{and-true, and_assoc}
@@ -18,7 +18,8 @@ use Rattle.gix_config_value.specs.declared.program.RunError.TheVariants.{Write}
 use Rattle.gix_config_value.specs.Answers.Outcome.{accepted, refused, unknown_kind}
 use Rattle.config_text.specs.Bytes.{line_feed}
 use Rattle.gix_config_value.specs.Answers.{Outcome, ended, IsUnbroken, line_head, line_value, LineOutcome}
-use Rattle.gix_config_value.specs.Answers.{outcome_text, is_accepted, Answers, IsBeginningOfAnswers}
+use Rattle.gix_config_value.specs.Answers.{outcome_text, is_accepted, Answers, IsBeginningOfAnswers, IsCut}
+use Rattle.gix_config_value.specs.Answers.{LinesAnswered}
 use Rattle.gix_config_value.specs.Answers.{AnswersAllBut}
 use Rattle.gix_config_value.specs.Reading.Steps.{CompletesLines, AnswersLast, CutsLine, OutputState}
 use Rattle.gix_config_value.specs.Reading.Steps.{SendsBytes, SendsAnswer, AppendsAnswer, FailsSending}
@@ -36,23 +37,10 @@ AllByRecursion-append P (x ∷ xs) ys p q = (p.0, AllByRecursion-append P xs ys 
 AllZip-append : {A B : Type 0} (R : A → B → Type 0) (xs : List A) (ys : List B) (vs : List A) (ws : List B)
     → AllZip R xs ys → AllZip R vs ws → AllZip R (xs ++ vs) (ys ++ ws)
 AllZip-append R [] [] vs ws p q = q
-AllZip-append R [] (y ∷ ys) vs ws p q = absurd p
-AllZip-append R (x ∷ xs) [] vs ws p q = absurd p
 AllZip-append R (x ∷ xs) (y ∷ ys) vs ws p q = (p.0, AllZip-append R xs ys vs ws p.1 q)
+AllZip-append R xs ys vs ws p q = absurd p
 
 -- ---- bytes taken
-
-pub CompletesLines-nil : (line : List ℕ) (ok : Bool) → CompletesLines line ok [] line ok []
-CompletesLines-nil line ok = record {
-  lines = [];
-  outcomes = [];
-  joined = append-nil line;
-  unbroken = λ _. tt;
-  rest_unbroken = λ h. h;
-  each = tt;
-  written = refl;
-  all_accepted = sym (and-true ok);
-}
 
 -- bytes without LF are appended to the line begun
 pub CompletesLines-begun : (line front : List ℕ) (ok : Bool) → IsUnbroken front
@@ -68,6 +56,9 @@ CompletesLines-begun line front ok unbroken = record {
   all_accepted = sym (and-true ok);
 }
 
+pub CompletesLines-nil : (line : List ℕ) (ok : Bool) → CompletesLines line ok [] line ok []
+CompletesLines-nil line ok = rw append-nil at (CompletesLines-begun line [] ok tt)
+
 -- bytes with one LF, at their end, complete the line begun
 pub CompletesLines-line : (line front : List ℕ) (ok : Bool) (outcome : Outcome) → IsUnbroken front
     → LineOutcome (line ++ front) outcome
@@ -75,7 +66,7 @@ pub CompletesLines-line : (line front : List ℕ) (ok : Bool) (outcome : Outcome
 CompletesLines-line line front ok outcome unbroken is = record {
   lines = (line ++ front) ∷ [];
   outcomes = outcome ∷ [];
-  joined = sym (append_assoc line front _) ∙ sym (append-nil _) ∙ sym (append-nil _);
+  joined = simp (append_assoc, append-nil);
   unbroken = λ h. (AllByRecursion-append _ line front h unbroken, tt);
   rest_unbroken = λ _. tt;
   each = (is, tt);
@@ -83,25 +74,18 @@ CompletesLines-line line front ok outcome unbroken is = record {
   all_accepted = ap (λ b. ok && b) (sym (and-true _));
 }
 
-pub CompletesLines-trans : (line p line' q line'' : List ℕ) (ok ok' ok'' : Bool) (first second : List ℕ)
+pub CompletesLines-trans : {line p line' q line'' : List ℕ} {ok ok' ok'' : Bool} {first second : List ℕ}
     → CompletesLines line ok p line' ok' first → CompletesLines line' ok' q line'' ok'' second
     → CompletesLines line ok (p ++ q) line'' ok'' (first ++ second)
-CompletesLines-trans line p line' q line'' ok ok' ok'' first second t u = record {
+CompletesLines-trans {line} {p} {line'} {q} t u = record {
   lines = t.lines ++ u.lines;
   outcomes = t.outcomes ++ u.outcomes;
-  joined = sym (append_assoc line p q) ∙ ap (λ l. l ++ q) t.joined
-      ∙ append_assoc (flat_map ended t.lines) line' q
-      ∙ ap (λ l. flat_map ended t.lines ++ l) u.joined
-      ∙ sym (append_assoc (flat_map ended t.lines) (flat_map ended u.lines) line'')
-      ∙ ap (λ l. l ++ line'') (sym (flat_map-append ended t.lines u.lines));
+  joined = rw (← (append_assoc line p q), t.joined, append_assoc, u.joined, flat_map-append, append_assoc);
   unbroken = λ h. AllByRecursion-append _ t.lines u.lines (t.unbroken h) (u.unbroken (t.rest_unbroken h));
   rest_unbroken = λ h. u.rest_unbroken (t.rest_unbroken h);
   each = AllZip-append _ t.lines t.outcomes u.lines u.outcomes t.each u.each;
-  written = ap (λ l. l ++ second) t.written ∙ ap (λ l. flat_map outcome_text t.outcomes ++ l) u.written
-      ∙ sym (flat_map-append outcome_text t.outcomes u.outcomes);
-  all_accepted = u.all_accepted ∙ ap (λ b. b && list_all is_accepted u.outcomes) t.all_accepted
-      ∙ and_assoc ok _ _
-      ∙ ap (λ b. ok && b) (sym (list_all-append is_accepted t.outcomes u.outcomes));
+  written = rw (flat_map-append, t.written, u.written);
+  all_accepted = rw (list_all-append, u.all_accepted, t.all_accepted, and_assoc);
 }
 
 -- ---- every line has an outcome, and any bytes complete some lines
@@ -121,29 +105,21 @@ abbrev pub CompletesSome : List ℕ → Bool → List ℕ → Type 0
 CompletesSome line ok bytes =
     (line' : List ℕ) × (ok' : Bool) × (output : List ℕ) × CompletesLines line ok bytes line' ok' output
 
-take_on : (line : List ℕ) (ok : Bool) (b : ℕ) (bs line' : List ℕ) (ok' : Bool) (output : List ℕ)
-    → CompletesLines line ok (b ∷ []) line' ok' output → CompletesSome line' ok' bs
-    → CompletesSome line ok (b ∷ bs)
-take_on line ok b bs line' ok' output t rest = (
-  rest.0,
-  rest.1,
-  output ++ rest.2,
-  CompletesLines-trans line (b ∷ []) line' bs rest.0 ok ok' rest.1 output rest.2 t rest.3,
-)
-
-take_line_feed : (line : List ℕ) (ok : Bool) → CompletesSome line ok (line_feed ∷ [])
-take_line_feed line ok = let o = line_decided (line ++ []) in
-    ([], ok && is_accepted o.0, outcome_text o.0, CompletesLines-line line [] ok o.0 tt o.1)
-
 -- any bytes complete some lines and leave some line begun
 pub takes_any : (line : List ℕ) (ok : Bool) (bytes : List ℕ) → CompletesSome line ok bytes
 takes_any line ok [] = (line, ok, [], CompletesLines-nil line ok)
 takes_any line ok (b ∷ bs) = elim (eqb_tells b line_feed) [
-  | inl at ↦ let t = take_line_feed line ok in
-      take_on line ok b bs t.0 t.1 t.2
-      (subst (λ x. CompletesLines line ok (x ∷ []) t.0 t.1 t.2) (sym at.1) t.3) (takes_any t.0 t.1 bs)
-  | inr other ↦ take_on line ok b bs (line ++ b ∷ []) ok []
-      (CompletesLines-begun line (b ∷ []) ok (other.1, tt)) (takes_any (line ++ b ∷ []) ok bs)
+  | inl at ↦
+      let (outcome, is) = line_decided (line ++ []) in
+      let (line', ok', output, t) = takes_any [] (ok && is_accepted outcome) bs in (
+        line',
+        ok',
+        outcome_text outcome ++ output,
+        rw at.1 (CompletesLines-trans (CompletesLines-line line [] ok outcome tt is) t),
+      )
+  | inr other ↦
+      let (line', ok', output, t) = takes_any (line ++ b ∷ []) ok bs in
+      (line', ok', output, CompletesLines-trans (CompletesLines-begun line (b ∷ []) ok (other.1, tt)) t)
 ]
 
 pub last_any : (line : List ℕ) (ok : Bool) → (ok' : Bool) × (output : List ℕ) × AnswersLast line ok ok' output
@@ -153,34 +129,31 @@ last_any (b ∷ bs) ok =
 
 -- ---- the answers to an input
 
+pub cut_of : {input line output : List ℕ} {ok : Bool} (t : CompletesLines [] true input line ok output)
+    → IsCut input t.lines line
+cut_of t = record { joined = t.joined; unbroken = t.unbroken tt; rest_unbroken = t.rest_unbroken tt }
+
+pub answered_of : {input line output : List ℕ} {ok : Bool} (t : CompletesLines [] true input line ok output)
+    → LinesAnswered t.lines output ok
+answered_of t =
+    record { outcomes = t.outcomes; each = t.each; written = t.written; all_accepted = t.all_accepted }
+
 -- the answers to the lines that an input completes, and then the answer to the last line
 pub Answers-last : (input line output last : List ℕ) (ok ok' : Bool)
     → CompletesLines [] true input line ok output → AnswersLast line ok ok' last
     → Answers input (output ++ last) ok'
-Answers-last input [] output last ok ok' t l = record {
-  lines = t.lines;
-  rest = [];
-  cut = record { joined = t.joined; unbroken = t.unbroken tt; rest_unbroken = tt };
-  answered = record {
-    outcomes = t.outcomes;
-    each = t.each;
-    written = ap (λ x. output ++ x) l.0 ∙ append-nil output ∙ t.written;
-    all_accepted = l.1 ∙ t.all_accepted;
-  };
-}
+Answers-last input [] output last ok ok' t l =
+    let answered : LinesAnswered t.lines (output ++ last) ok' = rw (l.0, append-nil, l.1) (answered_of t) in
+    record { lines = t.lines; rest = []; cut = cut_of t; answered = answered }
 Answers-last input (b ∷ bs) output last ok ok' t l = record {
   lines = t.lines;
   rest = b ∷ bs;
-  cut = record { joined = t.joined; unbroken = t.unbroken tt; rest_unbroken = t.rest_unbroken tt };
+  cut = cut_of t;
   answered = record {
     outcomes = t.outcomes ++ l.0 ∷ [];
     each = AllZip-append _ t.lines t.outcomes _ _ t.each (l.1, tt);
-    written = ap (λ x. output ++ x) (l.2 ∙ sym (append-nil _))
-        ∙ ap (λ x. x ++ flat_map outcome_text (l.0 ∷ [])) t.written
-        ∙ sym (flat_map-append outcome_text t.outcomes (l.0 ∷ []));
-    all_accepted = l.3 ∙ ap (λ b. b && is_accepted l.0) t.all_accepted
-        ∙ ap (λ b. list_all is_accepted t.outcomes && b) (sym (and-true _))
-        ∙ sym (list_all-append is_accepted t.outcomes (l.0 ∷ []));
+    written = rw (flat_map-append, t.written, l.2, append-nil);
+    all_accepted = rw (list_all-append, l.3, t.all_accepted, and-true);
   };
 }
 
@@ -200,26 +173,16 @@ pub all_but : (input left line line' output output' : List ℕ) (ok ok' : Bool)
     → CompletesLines [] true input line ok output → CompletesLines line ok left line' ok' output'
     → (more : List (List ℕ)) × AnswersAllBut more (input ++ left) output
 unfolding CompletesLines-trans
-all_but input left line line' output output' ok ok' t u =
-    let whole = CompletesLines-trans [] input line left line' true ok ok' output output' t u in (
-      u.lines,
-      record {
-        lines = t.lines;
-        rest = line';
-        ok = ok;
-        cut = record {
-          joined = whole.joined;
-          unbroken = whole.unbroken tt;
-          rest_unbroken = whole.rest_unbroken tt;
-        };
-        answered = record {
-          outcomes = t.outcomes;
-          each = t.each;
-          written = t.written;
-          all_accepted = t.all_accepted;
-        };
-      },
-    )
+all_but input left line line' output output' ok ok' t u = (
+  u.lines,
+  record {
+    lines = t.lines;
+    rest = line';
+    ok = ok;
+    cut = cut_of (CompletesLines-trans t u);
+    answered = answered_of t;
+  },
+)
 
 -- ---- what is sent
 
@@ -231,22 +194,26 @@ SendsBytes-nil a = record {
   in_order = append-nil a.waiting;
 }
 
-pub SendsBytes-trans : (a b c : OutputState) (o o' : List ℕ) → SendsBytes a b o → SendsBytes b c o'
+pub SendsBytes-trans : {a b c : OutputState} {o o' : List ℕ} → SendsBytes a b o → SendsBytes b c o'
     → SendsBytes a c (o ++ o')
-SendsBytes-trans a b c o o' s t = record {
+SendsBytes-trans {a} {b} {c} {o} {o'} s t = record {
   same_writer = t.same_writer ∙ s.same_writer;
   written = s.written ++ t.written;
   appended = Appends-trans a.held b.held c.held s.written t.written s.appended t.appended;
-  in_order = sym (append_assoc a.waiting o o') ∙ ap (λ x. x ++ o') s.in_order
-      ∙ append_assoc s.written b.waiting o'
-      ∙ ap (λ x. s.written ++ x) t.in_order ∙ sym (append_assoc s.written t.written c.waiting);
+  in_order = rw (
+    ← (append_assoc a.waiting o o'),
+    s.in_order,
+    append_assoc s.written b.waiting o',
+    t.in_order,
+    append_assoc,
+  );
 }
 
 -- a beginning of what waits is written
 pub SendsBytes-write : (a b : OutputState) (held : Option (List ℕ)) (n : ℕ) → SendsBytes a b []
     → Appends b.held held (take n b.waiting)
     → SendsBytes a (record { writer = b.writer; held = held; waiting = drop n b.waiting }) []
-SendsBytes-write a b held n s h = SendsBytes-trans a b _ [] [] s
+SendsBytes-write a b held n s h = SendsBytes-trans s
     (record {
       same_writer = refl;
       written = take n b.waiting;
@@ -257,18 +224,13 @@ SendsBytes-write a b held n s h = SendsBytes-trans a b _ [] [] s
 -- if nothing waits before and after, all bytes sent are written
 pub SendsBytes-all : (a b : OutputState) (bytes : List ℕ) → a.waiting ≡ [] → b.waiting ≡ []
     → SendsBytes a b bytes → Appends a.held b.held bytes
-SendsBytes-all a b bytes first last s = subst (Appends a.held b.held)
-    (sym (ap (λ x. x ++ bytes) (sym first) ∙ s.in_order ∙ ap (λ x. s.written ++ x) last
-    ∙ append-nil s.written)) s.appended
+SendsBytes-all a b bytes first last s =
+    let same : bytes ≡ s.written = rw (first, last, append-nil) at s.in_order in rw same s.appended
 
-pub FailsSending-after : (a b c : OutputState) (o o' : List ℕ) (e : RunError) → SendsBytes a b o
+pub FailsSending-after : {a b c : OutputState} {o o' : List ℕ} {e : RunError} → SendsBytes a b o
     → FailsSending b c o' e → FailsSending a c (o ++ o') e
-FailsSending-after a b c o o' e s k =
-    record {
-      missing = k.missing;
-      sends = SendsBytes-trans a b (record c { waiting = k.missing }) o o' s k.sends;
-      allowed = k.allowed;
-    }
+FailsSending-after s k =
+    record { missing = k.missing; sends = SendsBytes-trans s k.sends; allowed = k.allowed }
 
 -- the answer to a line is appended to what waits
 pub SendsAnswer-appended : (line : List ℕ) (a b : OutputState) (waiting : List ℕ) (ok : Bool)
@@ -277,19 +239,15 @@ pub SendsAnswer-appended : (line : List ℕ) (a b : OutputState) (waiting : List
 SendsAnswer-appended line a b waiting ok s p = record {
   outcome = p.outcome;
   is = p.is;
-  sends = SendsBytes-trans a b _ [] (outcome_text p.outcome) s
+  sends = SendsBytes-trans s
       (record { same_writer = refl; written = []; appended = Appends-nil b.held; in_order = sym p.puts });
   accepts = p.accepts;
 }
 
 -- nothing is left of what waited, and the buffer is cleared
 pub SendsBytes-cleared : (a b : OutputState) (waiting : List ℕ) → SendsBytes a b [] → length b.waiting ≡ 0
-    → waiting ≡ [] → SendsBytes a (record b {
-      waiting =
-          waiting;
-    }) []
-SendsBytes-cleared a b waiting s none cleared =
-    subst (λ w. SendsBytes a (record b { waiting = w }) []) (nil_from_length b.waiting none ∙ sym cleared) s
+    → waiting ≡ [] → SendsBytes a (record b { waiting = waiting }) []
+SendsBytes-cleared a b waiting s none cleared = rw (cleared ∙ sym (nil_from_length b.waiting none)) s
 
 -- a write fails, and what waits is missing
 pub FailsSending-write : (a b after : OutputState) (bytes : List ℕ) → SendsBytes a b bytes
@@ -314,47 +272,36 @@ Advances-nil a = record {
   sends = SendsBytes-nil a.to;
 }
 
-pub Advances-trans : (a b c : RunState) (p q : List ℕ) → Advances a b p → Advances b c q
+pub Advances-trans : {a b c : RunState} {p q : List ℕ} → Advances a b p → Advances b c q
     → Advances a c (p ++ q)
-Advances-trans a b c p q t u = record {
+Advances-trans t u = record {
   output = t.output ++ u.output;
-  taken = CompletesLines-trans a.line p b.line q c.line a.accepted b.accepted c.accepted t.output u.output
-      t.taken u.taken;
-  sends = SendsBytes-trans a.to b.to c.to t.output u.output t.sends u.sends;
+  taken = CompletesLines-trans t.taken u.taken;
+  sends = SendsBytes-trans t.sends u.sends;
 }
 
 -- after the bytes were taken, a beginning of what waits is written
 pub Advances-sent : (a b : RunState) (to : OutputState) (bytes : List ℕ) → Advances a b bytes
-    → SendsBytes b.to to [] → Advances a (record b {
-      to =
-          to;
-    }) bytes
-Advances-sent a b to bytes t s = record {
-  output = t.output;
-  taken = t.taken;
-  sends = subst (SendsBytes a.to to) (append-nil t.output)
-      (SendsBytes-trans a.to b.to to t.output [] t.sends s);
-}
+    → SendsBytes b.to to [] → Advances a (record b { to = to }) bytes
+Advances-sent a b to bytes t s =
+    record { output = t.output; taken = t.taken; sends = rw append-nil at (SendsBytes-trans t.sends s) }
 
 -- bytes without LF are appended to the line begun, and nothing is answered
 pub Advances-begun : (a b : RunState) (bytes : List ℕ) → IsUnbroken bytes → b ≡ with_more a bytes
     → Advances a b bytes
-Advances-begun a b bytes unbroken gathered = subst (λ x. Advances a x bytes) (sym gathered)
-    (record {
-      output = [];
-      taken = CompletesLines-begun a.line bytes a.accepted unbroken;
-      sends = SendsBytes-nil a.to;
-    })
+Advances-begun a b bytes unbroken gathered = rw gathered (record {
+  output = [];
+  taken = CompletesLines-begun a.line bytes a.accepted unbroken;
+  sends = SendsBytes-nil a.to;
+})
 
 -- the line begun is completed by bytes up to an LF, and answered
-pub Advances-line : (a : RunState) (front : List ℕ) (to : OutputState) (accepts : Bool) → IsUnbroken front
-    → SendsAnswer (a.line ++ front) a.to to accepts
-    → Advances a (record { line = []; accepted = a.accepted && accepts; to = to }) (ended front)
-Advances-line a front to accepts unbroken e = record {
+pub Advances-line : (a : RunState) (front line : List ℕ) (to : OutputState) (accepts : Bool)
+    → IsUnbroken front → SendsAnswer (a.line ++ front) a.to to accepts → line ≡ []
+    → Advances a (record { line = line; accepted = a.accepted && accepts; to = to }) (ended front)
+Advances-line a front line to accepts unbroken e none = record {
   output = outcome_text e.outcome;
-  taken = subst (λ x. CompletesLines a.line a.accepted (ended front) [] (a.accepted && x)
-      (outcome_text e.outcome)) (sym e.accepts)
-      (CompletesLines-line a.line front a.accepted e.outcome unbroken e.is);
+  taken = rw (none, e.accepts) (CompletesLines-line a.line front a.accepted e.outcome unbroken e.is);
   sends = e.sends;
 }
 
@@ -373,26 +320,24 @@ FailsWithin-first a after bytes e k = record {
 }
 
 -- an error after some of the bytes were taken
-pub FailsWithin-after : (a b : RunState) (after : OutputState) (p q : List ℕ) (e : RunError) → Advances a b p
+pub FailsWithin-after : {a b : RunState} {after : OutputState} {p q : List ℕ} {e : RunError} → Advances a b p
     → FailsWithin b after q e → FailsWithin a after (p ++ q) e
-FailsWithin-after a b after p q e t s = record {
-  done = p ++ s.done;
+FailsWithin-after t s = record {
+  done = _ ++ s.done;
   left = s.left;
-  split = ap (λ x. p ++ x) s.split ∙ sym (append_assoc p s.done s.left);
+  split = rw (s.split, append_assoc);
   line = s.line;
   accepted = s.accepted;
   output = t.output ++ s.output;
-  taken = CompletesLines-trans a.line p b.line s.done s.line a.accepted b.accepted s.accepted t.output
-      s.output t.taken s.taken;
-  breaks = FailsSending-after a.to b.to after t.output s.output e t.sends s.breaks;
+  taken = CompletesLines-trans t.taken s.taken;
+  breaks = FailsSending-after t.sends s.breaks;
 }
 
 -- an error after all of the bytes were taken
 pub FailsWithin-whole : (a b : RunState) (after : OutputState) (bytes : List ℕ) (e : RunError)
     → Advances a b bytes → FailsSending b.to after [] e → FailsWithin a after bytes e
 FailsWithin-whole a b after bytes e t k =
-    subst (λ x. FailsWithin a after x e) (append-nil bytes)
-    (FailsWithin-after a b after bytes [] e t (FailsWithin-first b after [] e k))
+    rw append-nil at (FailsWithin-after t (FailsWithin-first b after [] e k))
 
 -- ---- the parts of a read
 
@@ -406,13 +351,9 @@ pub AnswersUpTo-more : (a b : RunState) (bytes rest : List ℕ) (place : ℕ) (t
     (drop (place + 1) rest)
 AnswersUpTo-more a b bytes rest place to accepts t cut e = record {
   done = t.done ++ ended (take place rest);
-  split = t.split ∙ ap (λ x. t.done ++ x) cut.parts
-      ∙ sym (append_assoc t.done (ended (take place rest)) (drop (place + 1) rest));
-  advances = Advances-trans a b _ t.done (ended (take place rest)) t.advances
-      (subst (λ l. Advances b (record { line = l; accepted = b.accepted && accepts; to = to })
-      (ended (take place rest))) (sym t.none)
-      (Advances-line b (take place rest) to accepts cut.unbroken
-      (subst (λ l. SendsAnswer (l ++ take place rest) b.to to accepts) (sym t.none) e)));
+  split = t.split ∙ ap (λ x. t.done ++ x) cut.parts ∙ sym (append_assoc t.done _ _);
+  advances = Advances-trans t.advances
+      (Advances-line b (take place rest) b.line to accepts cut.unbroken (rw t.none e) t.none);
   none = t.none;
 }
 
@@ -421,14 +362,13 @@ pub FailsWithin-in_lines : (a b : RunState) (bytes rest : List ℕ) (after : Out
     → AnswersUpTo a b bytes rest → FailsSending b.to after [] e
     → FailsWithin a after bytes e
 FailsWithin-in_lines a b bytes rest after e t k =
-    subst (λ x. FailsWithin a after x e) (sym t.split)
-    (FailsWithin-after a b after t.done rest e t.advances (FailsWithin-first b after rest e k))
+    rw t.split (FailsWithin-after t.advances (FailsWithin-first b after rest e k))
 
 -- the bytes before the rest were taken, and the rest is gathered
 pub Advances-lines : (a b c : RunState) (bytes rest : List ℕ) → AnswersUpTo a b bytes rest → IsUnbroken rest
     → c ≡ with_more b rest → Advances a c bytes
-Advances-lines a b c bytes rest t unbroken gathered = subst (λ x. Advances a c x) (sym t.split)
-    (Advances-trans a b c t.done rest t.advances (Advances-begun b c rest unbroken gathered))
+Advances-lines a b c bytes rest t unbroken gathered =
+    rw t.split (Advances-trans t.advances (Advances-begun b c rest unbroken gathered))
 
 -- the line begun is gathered up to an LF, and answered
 pub Advances-completed : (a b : RunState) (front line : List ℕ) (to : OutputState) (accepts : Bool)
@@ -436,11 +376,7 @@ pub Advances-completed : (a b : RunState) (front line : List ℕ) (to : OutputSt
     → SendsAnswer b.line b.to to accepts → line ≡ []
     → Advances a (record { line = line; accepted = b.accepted && accepts; to = to }) (ended front)
 Advances-completed a b front line to accepts unbroken gathered e none =
-    subst (λ l. Advances a (record { line = l; accepted = b.accepted && accepts; to = to }) (ended front))
-    (sym none)
-    (subst (λ x. Advances a (record { line = []; accepted = x.accepted && accepts; to = to }) (ended front))
-    (sym gathered)
-    (Advances-line a front to accepts unbroken (subst (λ x. SendsAnswer x.line x.to to accepts) gathered e)))
+    rw gathered (Advances-line a front line to accepts unbroken (rw gathered at e) none)
 
 -- ---- a call that may fail
 
@@ -450,55 +386,12 @@ pub passed_on : {T : Type 0} (r : Result T RunError) (e : RunError) (P : RunErro
 passed_on (Ok x) e P is p = tt
 passed_on (Err x) e P is p = subst P (sym is) p
 
--- if the call succeeds, bytes without LF are gathered
-pub begun_on : (r : Result (Unit {0}) RunError) (a b : RunState) (bytes : List ℕ) → IsUnbroken bytes
-    → OnOk r (b ≡ with_more a bytes)
-    → OnOk r (Advances a b bytes)
-begun_on (Ok x) a b bytes unbroken gathered = Advances-begun a b bytes unbroken gathered
-begun_on (Err e) a b bytes unbroken gathered = tt
-
-pub stopped_first : (r : Result (Unit {0}) RunError) (a : RunState) (after : OutputState) (bytes : List ℕ)
-    → IfErr r (FailsSending a.to after [])
-    → IfErr r (FailsWithin a after bytes)
-stopped_first (Ok x) a after bytes k = tt
-stopped_first (Err e) a after bytes k = FailsWithin-first a after bytes e k
-
-module _ (r : Result (Unit {0}) RunError) (a b : RunState) (bytes rest : List ℕ)
-    (t : AnswersUpTo a b bytes rest) where
-  -- if the call succeeds, the rest is gathered after the bytes before it
-  pub lines_on : (c : RunState) → IsUnbroken rest → OnOk r (c ≡ with_more b rest)
-      → OnOk r (Advances a c bytes)
-  lines_on c unbroken = on r where
-    on : (r : Result (Unit {0}) RunError) → OnOk r (c ≡ with_more b rest) → OnOk r (Advances a c bytes)
-    on (Ok x) gathered = Advances-lines a b c bytes rest t unbroken gathered
-    on (Err e) gathered = tt
-
-  pub stopped_in_lines : (after : OutputState) → IfErr r (FailsSending b.to after [])
-      → IfErr r (FailsWithin a after bytes)
-  stopped_in_lines after = on r where
-    on : (r : Result (Unit {0}) RunError) → IfErr r (FailsSending b.to after [])
-        → IfErr r (FailsWithin a after bytes)
-    on (Ok x) k = tt
-    on (Err e) k = FailsWithin-in_lines a b bytes rest after e t k
-
-module _ (r : Result (Unit {0}) RunError) (a b : RunState) (bytes : List ℕ) (place : ℕ)
-    (cut : CutsLine bytes place)
+module _ (a b : RunState) (bytes : List ℕ) (place : ℕ) (cut : CutsLine bytes place)
     (t : Advances a b (ended (take place bytes))) where
-  -- the line begun ends at the first LF, and if the call succeeds, the bytes after it are taken
-  pub taken_after : (c : RunState) → OnOk r (Advances b c (drop (place + 1) bytes))
-      → OnOk r (Advances a c bytes)
-  taken_after c = on r where
-    on : (r : Result (Unit {0}) RunError) → OnOk r (Advances b c (drop (place + 1) bytes))
-        → OnOk r (Advances a c bytes)
-    on (Ok x) u = subst (Advances a c) (sym cut.parts)
-        (Advances-trans a b c (ended (take place bytes)) (drop (place + 1) bytes) t u)
-    on (Err e) u = tt
+  -- the line begun ends at the first LF, and the bytes after it are taken
+  pub taken_after : (c : RunState) → Advances b c (drop (place + 1) bytes) → Advances a c bytes
+  taken_after c u = rw cut.parts (Advances-trans t u)
 
-  pub stopped_after : (after : OutputState) → IfErr r (FailsWithin b after (drop (place + 1) bytes))
-      → IfErr r (FailsWithin a after bytes)
-  stopped_after after = on r where
-    on : (r : Result (Unit {0}) RunError) → IfErr r (FailsWithin b after (drop (place + 1) bytes))
-        → IfErr r (FailsWithin a after bytes)
-    on (Ok x) s = tt
-    on (Err e) s = subst (λ l. FailsWithin a after l e) (sym cut.parts)
-        (FailsWithin-after a b after (ended (take place bytes)) (drop (place + 1) bytes) e t s)
+  pub stopped_after : (after : OutputState) (e : RunError) → FailsWithin b after (drop (place + 1) bytes) e
+      → FailsWithin a after bytes e
+  stopped_after after e s = rw cut.parts (FailsWithin-after t s)

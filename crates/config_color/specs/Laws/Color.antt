@@ -1,11 +1,11 @@
 -- The laws of color texts: how joined and split words are read, how names are placed, and that a text has at
 -- most one color.
-use Rattle.std.proofs.Common.{◌≡◌, ◌≢◌, take, drop, slice_range, ℕ, ◌+◌, ◌<◌, ◌≤◌, ◌⊎◌, inl, inr, List, []}
-use Rattle.std.proofs.Common.{◌∷◌, ◌++◌, length, Option, Some, None, refl, sym, ap, subst, ◌∙◌, append_assoc}
+use Rattle.std.proofs.Common.{◌≡◌, ◌≢◌, take, drop, ℕ, ◌+◌, ◌≤◌, ◌⊎◌, inl, inr, List, []}
+use Rattle.std.proofs.Common.{◌∷◌, ◌++◌, length, Option, Some, None, refl, sym, ap, ◌∙◌, append_assoc}
 use Rattle.std.proofs.Common.{arith, zero, suc, ◌-◌, length-take-le}
 use Rattle.std.specs.Int.RustNames.{bit_or}
 use Rattle.std.specs.Int.Bits.{or_zero_l, or_zero_r}
-use Rattle.std.proofs.lemmas.Bool.Decides.{nat_tests}
+use Rattle.std.proofs.lemmas.Bool.Decides.{eqb_tells}
 use Rattle.std.proofs.lemmas.List.{append-nil, drop_all, take_all}
 use Rattle.std.proofs.lemmas.Nat.Bits.{bit_at_or, same_from_bits}
 use Rattle.config_color.specs.declared.color.Color.{Color}
@@ -15,7 +15,7 @@ use Rattle.config_word.specs.declared.item.Item.{Item}
 use Rattle.config_word.specs.declared.item.Item.TheVariants as items
 use Rattle.config_word.specs.Attribute.{AttributeText}
 use Rattle.config_color.specs.Color.{WordsRead, TextRead, Placed, ColorText, no_color}
-use Rattle.config_color.specs.Reading.Color.{IsTooLong, word_item, next_name, with_item}
+use Rattle.config_color.specs.Reading.Color.{FirstWordEnds, IsTooLong, word_item, next_name, with_item}
 use Rattle.config_color.specs.Reading.Color.{read_from, color_of}
 use Rattle.std.specs.Option.{option_and_then, option_to_list}
 use Rattle.config_word.specs.Name.{NameText}
@@ -25,10 +25,9 @@ use Rattle.config_text.specs.Laws.Value.{decided_by, one_value_by, read_by, read
 use Rattle.config_word.specs.Item.{ItemText}
 use Rattle.config_word.specs.Laws.Item.{item-law, item_one_value, long_refused, not_both}
 use Rattle.config_color.specs.Words.{piece}
-use Rattle.config_color.specs.Reading.Split.{IsWithoutSpace, words}
-use Rattle.config_color.specs.Laws.Split.{words_are, words_only, words_step, words_last, eqb_told}
+use Rattle.config_color.specs.Reading.Split.{words}
+use Rattle.config_color.specs.Laws.Split.{words_are, words_only, words_step, words_last, option_told}
 use Rattle.config_color.specs.Laws.Split.{first_end}
-use Rattle.config_color.specs.Space.{Space}
 
 word_item-value : IsValueOf ItemText word_item
 unfolding word_item
@@ -40,8 +39,7 @@ or_assoc a b c = same_from_bits _ _ (λ i. simp bit_at_or (omega arith))
 -- the words that are read are those that the function `words` gives
 pub read_words : {t : List ℕ} {names : List Name} {bits : ℕ} → TextRead t names bits
     → WordsRead (words t) names bits
-read_words {names = names} {bits = bits} h =
-    subst (λ (ws : List (List ℕ)). WordsRead ws names bits) (words_only h.cut) h.read
+read_words h = rw (← (words_only h.cut)) h.read
 
 pub text_read : (t : List ℕ) {names : List Name} {bits : ℕ} → WordsRead (words t) names bits
     → TextRead t names bits
@@ -50,63 +48,23 @@ text_read t r = record { words = words t; cut = words_are t; read = r }
 pub WordsRead-join : {xs ys : List (List ℕ)} {ns ms : List Name} {i j : ℕ} → WordsRead xs ns i
     → WordsRead ys ms j
     → WordsRead (xs ++ ys) (ns ++ ms) (bit_or i j)
-WordsRead-join {ys = ys} {ms = ms} {j = j} WordsRead.nothing s =
-    subst (λ (i : ℕ). WordsRead ys ms i) (sym (or_zero_l j)) s
+WordsRead-join WordsRead.nothing s = rw or_zero_l s
 WordsRead-join (WordsRead.name t r) s = WordsRead.name t (WordsRead-join r s)
-WordsRead-join {ys = ys} {ms = ms} {j = j}
-    (WordsRead.attribute {w = w} {ws = ws} {a = a} {names = names} {bits = bits} t r) s =
-    subst (λ (i : ℕ). WordsRead (w ∷ ws ++ ys) (names ++ ms) i) (sym (or_assoc a.0 bits j))
-    (WordsRead.attribute t (WordsRead-join r s))
+WordsRead-join (WordsRead.attribute t r) s = rw or_assoc (WordsRead.attribute t (WordsRead-join r s))
 
--- the names and bits of two lists of words, which together are those of the joined list
-pub record PartsRead (xs ys : List (List ℕ)) (names : List Name) (bits : ℕ) : Type 0 where
-  pub front_names : List Name
-  pub back_names : List Name
-  pub front_bits : ℕ
-  pub back_bits : ℕ
-  pub front : WordsRead xs front_names front_bits
-  pub back : WordsRead ys back_names back_bits
-  pub all_names : names ≡ front_names ++ back_names
-  pub all_bits : bits ≡ bit_or front_bits back_bits
-
+-- words that are read are read in two parts, which together have their names and bits
 pub WordsRead-split : (xs ys : List (List ℕ)) {names : List Name} {bits : ℕ} → WordsRead (xs ++ ys) names bits
-    → PartsRead xs ys names bits
+    → (ns ms : List Name) × (i j : ℕ) × WordsRead xs ns i × WordsRead ys ms j × (names ≡ ns ++ ms)
+    × (bits ≡ bit_or i j)
 WordsRead-split [] ys {names = names} {bits = bits} r =
-    record {
-      front_names = [];
-      back_names = names;
-      front_bits = 0;
-      back_bits = bits;
-      front = WordsRead.nothing;
-      back = r;
-      all_names = refl;
-      all_bits = sym (or_zero_l bits);
-    }
+    ([], names, 0, bits, WordsRead.nothing, r, refl, sym (or_zero_l bits))
 WordsRead-split (w ∷ xs) ys (WordsRead.name {n = n} t r) =
-    let p = WordsRead-split xs ys r in
-    record {
-      front_names = n ∷ p.front_names;
-      back_names = p.back_names;
-      front_bits = p.front_bits;
-      back_bits = p.back_bits;
-      front = WordsRead.name t p.front;
-      back = p.back;
-      all_names = ap (λ ns. n ∷ ns) p.all_names;
-      all_bits = p.all_bits;
-    }
+    let (ns, ms, i, j, front, back, names, bits) = WordsRead-split xs ys r in
+    (n ∷ ns, ms, i, j, WordsRead.name t front, back, ap (λ ns. n ∷ ns) names, bits)
 WordsRead-split (w ∷ xs) ys (WordsRead.attribute {a = a} t r) =
-    let p = WordsRead-split xs ys r in
-    record {
-      front_names = p.front_names;
-      back_names = p.back_names;
-      front_bits = bit_or a.0 p.front_bits;
-      back_bits = p.back_bits;
-      front = WordsRead.attribute t p.front;
-      back = p.back;
-      all_names = p.all_names;
-      all_bits = ap (λ i. bit_or a.0 i) p.all_bits
-          ∙ sym (or_assoc a.0 p.front_bits p.back_bits);
-    }
+    let (ns, ms, i, j, front, back, names, bits) = WordsRead-split xs ys r in
+    let all_bits = ap (bit_or a.0) bits ∙ sym (or_assoc a.0 i j) in
+    (ns, ms, bit_or a.0 i, j, WordsRead.attribute t front, back, names, all_bits)
 
 one_name : (w : List ℕ) (n m : Name) → NameText w n → NameText w m → n ≡ m
 one_name w n m p q = let e = item_one_value w (items.Name n) (items.Name m) p q in cc
@@ -118,35 +76,27 @@ one_attribute w a b p q = let e = item_one_value w (items.Attribute a) (items.At
 pub WordsRead-one : {ws : List (List ℕ)} {ns ms : List Name} {i j : ℕ} → WordsRead ws ns i → WordsRead ws ms j
     → (ns ≡ ms) × (i ≡ j)
 WordsRead-one WordsRead.nothing WordsRead.nothing = (refl, refl)
-WordsRead-one (WordsRead.name {w = w} {n = n} {names = more} t r) (WordsRead.name {n = m} u s) =
-    let o = WordsRead-one r s in
-    (ap (λ n. n ∷ more) (one_name w n m t u) ∙ ap (λ ns. m ∷ ns) o.0, o.1)
+WordsRead-one (WordsRead.name {w = w} {n = n} t r) (WordsRead.name {n = m} u s) =
+    let o = WordsRead-one r s in (cc (one_name w n m t u, o.0), o.1)
 WordsRead-one (WordsRead.name {w = w} {n = n} t r) (WordsRead.attribute {a = b} u s) =
     absurd (not_both w n b t u)
 WordsRead-one (WordsRead.attribute {w = w} {a = a} t r) (WordsRead.name {n = m} u s) =
     absurd (not_both w m a u t)
-WordsRead-one (WordsRead.attribute {w = w} {a = a} {bits = more} t r) (WordsRead.attribute {a = b} u s) =
-    let o = WordsRead-one r s in
-    (o.0, ap (λ a. bit_or a.0 more) (one_attribute w a b t u) ∙ ap (λ m. bit_or b.0 m) o.1)
+WordsRead-one (WordsRead.attribute {w = w} {a = a} t r) (WordsRead.attribute {a = b} u s) =
+    let o = WordsRead-one r s in (o.0, cc (one_attribute w a b t u, o.1))
 
 pub Placed-words : (ns : List Name) (f b : Option Name) → Placed ns f b
     → option_to_list f ++ option_to_list b ≡ ns
-Placed-words [] f b p = rw (p.0, p.1) refl
-Placed-words (n ∷ []) f b p = rw (p.0, p.1) refl
-Placed-words (n ∷ m ∷ []) f b p = rw (p.0, p.1) refl
 Placed-words (n ∷ m ∷ o ∷ ns) f b p = absurd p
+Placed-words ns f b p = rw (p.0, p.1) refl
 
 pub Placed-short : (ns : List Name) (f b : Option Name) → Placed ns f b → length ns ≤ 2
-Placed-short [] f b p = omega arith
-Placed-short (n ∷ []) f b p = omega arith
-Placed-short (n ∷ m ∷ []) f b p = omega arith
 Placed-short (n ∷ m ∷ o ∷ ns) f b p = absurd p
+Placed-short ns f b p = omega arith
 
 pub Placed-one : (ns : List Name) (f b g d : Option Name) → Placed ns f b → Placed ns g d → (f ≡ g) × (b ≡ d)
-Placed-one [] f b g d p q = (cc, cc)
-Placed-one (n ∷ []) f b g d p q = (cc, cc)
-Placed-one (n ∷ m ∷ []) f b g d p q = (cc, cc)
 Placed-one (n ∷ m ∷ o ∷ ns) f b g d p q = absurd p
+Placed-one ns f b g d p q = (cc, cc)
 
 -- the foreground and background of at most two names
 pub placing : (ns : List Name) → length ns ≤ 2 → (f : Option Name) × (b : Option Name) × Placed ns f b
@@ -160,44 +110,29 @@ pub same_color : (c d : Color) → c.foreground ≡ d.foreground → c.backgroun
     → c.attributes.0 ≡ d.attributes.0 → c ≡ d
 same_color c d e f g = λ i. record { foreground = e i; background = f i; attributes = record { 0 = g i } }
 
+abbrev pub color_with : Option Name → Option Name → ℕ → Color
+color_with f b bits = record { foreground = f; background = b; attributes = record { 0 = bits } }
+
 -- one more name is placed after those that are already placed
 next_placed : (ns : List Name) (f b : Option Name) (bits : ℕ) (n : Name) (more : List Name)
     (g d : Option Name) → Placed ns f b
     → Placed (ns ++ n ∷ more) g d
     → (c : Color) × (next_name f b bits n ≡ Some c) × Placed (ns ++ n ∷ []) c.foreground c.background
     × (c.attributes.0 ≡ bits)
-next_placed [] f b bits n more g d p q = (
-  record { foreground = Some n; background = b; attributes = record { 0 = bits } },
-  rw p.0 refl,
-  (refl, p.1),
-  refl,
-)
-next_placed (m ∷ []) f b bits n more g d p q = (
-  record { foreground = Some m; background = Some n; attributes = record { 0 = bits } },
-  rw (p.0, p.1) refl,
-  (refl, refl),
-  refl,
-)
+next_placed [] f b bits n more g d p q = (color_with (Some n) b bits, rw p.0 refl, (refl, p.1), refl)
+next_placed (m ∷ []) f b bits n more g d p q =
+    (color_with (Some m) (Some n) bits, rw (p.0, p.1) refl, (refl, refl), refl)
 next_placed (m ∷ o ∷ []) f b bits n more g d p q = absurd q
 next_placed (m ∷ o ∷ k ∷ ns) f b bits n more g d p q = absurd p
-
-some_parts : (f b : Option Name) (bits : ℕ) (c : Color)
-    → Some (record { foreground = f; background = b; attributes = record { 0 = bits } }) ≡ Some c
-    → (c.foreground ≡ f) × (c.background ≡ b) × (c.attributes.0 ≡ bits)
-some_parts f b bits c e =
-    let k : record { foreground = f; background = b; attributes = record { 0 = bits } } ≡ c = cc in (
-      ap (λ (c : Color). c.foreground) (sym k),
-      ap (λ (c : Color). c.background) (sym k),
-      ap (λ (c : Color). c.attributes.0) (sym k),
-    )
 
 next_from : (ns : List Name) (f b : Option Name) (bits : ℕ) (n : Name) (c : Color) → Placed ns f b
     → next_name f b bits n ≡ Some c
     → Placed (ns ++ n ∷ []) c.foreground c.background × (c.attributes.0 ≡ bits)
 next_from [] f b bits n c p e =
-    let h = rw p.0 at e in let k = some_parts (Some n) b bits c h in ((k.0, k.1 ∙ p.1), k.2)
+    let h = rw p.0 at e in let k : color_with (Some n) b bits ≡ c = cc in rw (← k) ((refl, p.1), refl)
 next_from (m ∷ []) f b bits n c p e =
-    let h = rw (p.0, p.1) at e in let k = some_parts (Some m) (Some n) bits c h in ((k.0, k.1), k.2)
+    let h = rw (p.0, p.1) at e in
+    let k : color_with (Some m) (Some n) bits ≡ c = cc in rw (← k) ((refl, refl), refl)
 next_from (m ∷ o ∷ []) f b bits n c p e = let h = rw (p.0, p.1) at e in absurd (cc)
 next_from (m ∷ o ∷ k ∷ ns) f b bits n c p e = absurd p
 
@@ -218,11 +153,7 @@ reading_found p c ns (WordsRead.name {w = w} {n = n} {names = more} {bits = bits
     (united ∙ ap (λ a. bit_or a bits) (sym d.3)))
 reading_found p c ns (WordsRead.attribute {w = w} {a = a} {bits = more} t r) before after united =
     rw (word_item-value.found w (items.Attribute a) t)
-    (reading_found (record {
-      foreground = p.foreground;
-      background = p.background;
-      attributes = record { 0 = bit_or p.attributes.0 a.0 };
-    }) c ns r before after
+    (reading_found (record p { attributes = record { 0 = bit_or p.attributes.0 a.0 } }) c ns r before after
     (united ∙ sym (or_assoc p.attributes.0 a.0 more)))
 
 -- the names and bits of words that are read from the front, after a color with the names `ns`
@@ -245,42 +176,30 @@ reading_derived [] p c ns before h =
       united = ap (λ (c : Color). c.attributes.0) (sym e) ∙ sym (or_zero_r p.attributes.0);
     }
 reading_derived (w ∷ ws) p c ns before h =
-    at_item w ws p c ns before (word_item w) refl h (λ d ms q e. reading_derived ws d c ms q e) where
-      at_name : (w : List ℕ) (ws : List (List ℕ)) (p c : Color) (ns : List Name)
-          → Placed ns p.foreground p.background → (n : Name) → NameText w n
-          → (o : Option Color) → next_name p.foreground p.background p.attributes.0 n ≡ o
-          → option_and_then (λ d. read_from d ws) o ≡ Some c
+    elim (option_told (word_item w)) [
+      | inl e ↦ let k = rw e at h in absurd (cc)
+      | inr i ↦ at_item i.0 i.1 (rw i.1 at h) (λ d ms q e. reading_derived ws d c ms q e)
+    ] where
+      at_item : (i : Item) → word_item w ≡ Some i
+          → option_and_then (λ d. read_from d ws) (with_item p i) ≡ Some c
           → ((d : Color) (ms : List Name) → Placed ms d.foreground d.background → read_from d ws ≡ Some c
           → ReadOn ws d c ms) → ReadOn (w ∷ ws) p c ns
-      at_name w ws p c ns before n t None e h more = absurd (cc)
-      at_name w ws p c ns before n t (Some d) e h more =
-          let k = next_from ns p.foreground p.background p.attributes.0 n d before e in
-          let r = more d (ns ++ n ∷ []) k.0 h in
-          record {
-            names = n ∷ r.names;
-            bits = r.bits;
-            read = WordsRead.name t r.read;
-            placed = rw append_assoc at r.placed;
-            united = r.united ∙ ap (λ a. bit_or a r.bits) k.1;
-          }
-
-      at_item : (w : List ℕ) (ws : List (List ℕ)) (p c : Color) (ns : List Name)
-          → Placed ns p.foreground p.background
-          → (o : Option Item) → word_item w ≡ o
-          → option_and_then (λ d. read_from d ws) (option_and_then (λ i. with_item p i) o) ≡ Some c
-          → ((d : Color) (ms : List Name) → Placed ms d.foreground d.background → read_from d ws ≡ Some c
-          → ReadOn ws d c ms) → ReadOn (w ∷ ws) p c ns
-      at_item w ws p c ns before None e h more = absurd (cc)
-      at_item w ws p c ns before (Some (items.Name n)) e h more =
-          at_name w ws p c ns before n (word_item-value.derived w (items.Name n) e)
-          (next_name p.foreground p.background p.attributes.0 n) refl h more
-      at_item w ws p c ns before (Some (items.Attribute a)) e h more =
-          let r =
-          more (record {
-            foreground = p.foreground;
-            background = p.background;
-            attributes = record { 0 = bit_or p.attributes.0 a.0 };
-          }) ns before h in
+      at_item (items.Name n) e k more =
+          elim (option_told (next_name p.foreground p.background p.attributes.0 n)) [
+            | inl f ↦ let l = rw f at k in absurd (cc)
+            | inr d ↦
+                let at = next_from ns p.foreground p.background p.attributes.0 n d.0 before d.1 in
+                let r = more d.0 (ns ++ n ∷ []) at.0 (rw d.1 at k) in
+                record {
+                  names = n ∷ r.names;
+                  bits = r.bits;
+                  read = WordsRead.name (word_item-value.derived w (items.Name n) e) r.read;
+                  placed = rw append_assoc at r.placed;
+                  united = r.united ∙ ap (λ a. bit_or a r.bits) at.1;
+                }
+          ]
+      at_item (items.Attribute a) e k more =
+          let r = more (record p { attributes = record { 0 = bit_or p.attributes.0 a.0 } }) ns before k in
           record {
             names = r.names;
             bits = bit_or a.0 r.bits;
@@ -294,15 +213,12 @@ pub color_of-value : IsValueOf ColorText color_of
 color_of-value = record {
   found = λ t c h. reading_found no_color c [] (read_words h.read) (refl, refl) h.placed
       (sym (or_zero_l c.attributes.0));
-  derived = λ t c e. whole t c (reading_derived (words t) no_color c [] (refl, refl) e);
-} where
-  whole : (t : List ℕ) (c : Color) → ReadOn (words t) no_color c [] → ColorText t c
-  whole t c r = record {
+  derived = λ t c e. let r = reading_derived (words t) no_color c [] (refl, refl) e in record {
     names = r.names;
-    read = text_read t (subst (λ (b : ℕ). WordsRead (words t) r.names b) (sym (r.united ∙ or_zero_l r.bits))
-        r.read);
+    read = text_read t (rw (sym (r.united ∙ or_zero_l r.bits)) at r.read);
     placed = r.placed;
-  }
+  };
+}
 
 pub color_one_value : (t : List ℕ) (v w : Color) → ColorText t v → ColorText t w → v ≡ w
 color_one_value t v w p q = one_value_by color_of-value t v w p q
@@ -340,43 +256,34 @@ at_end None = refl
 at_end (Some d) = refl
 
 -- a text is read by its first word, of `n` bytes, then by what follows the `s` bytes of white space after it
-read_step : (c : Color) (text : List ℕ) (n s : ℕ) → IsWithoutSpace text n → n + s ≤ length text
-    → (0 < s → Space (slice_range text n (n + s))) → (s ≡ 0 → n ≡ length text)
-    → read_from c (words text) ≡ option_and_then (λ d. read_from d (words (drop (n + s) text)))
-    (read_from c (piece (take n text)))
-read_step c text n s clear within parted last =
-    elim (eqb_told s 0) [
+read_step : (c : Color) (text : List ℕ) (n s : ℕ) → FirstWordEnds text n s
+    → read_from c (words text)
+    ≡ option_and_then (λ d. read_from d (words (drop (n + s) text))) (read_from c (piece (take n text)))
+read_step c text n s ends =
+    elim (eqb_tells s 0) [
       | inl z ↦
-          let all : n ≡ length text = last z.1 in
-          let clear_all : IsWithoutSpace text (length text) =
-          subst (λ (n : ℕ). IsWithoutSpace text n) all clear in
+          let all : n ≡ length text = ends.last z.1 in
+          let clear_all = rw all at ends.clear in
           rw (take_all n text (omega arith), drop_all (n + s) text (omega arith))
           (ap (λ ws. read_from c ws) (words_last text clear_all) ∙ at_end (read_from c (piece text)))
       | inr z ↦
-          let some : 0 < s = grind (arith, nat_tests) in
-          ap (λ ws. read_from c ws) (words_step text n s clear within (parted some))
+          ap (λ ws. read_from c ws) (words_step text n s ends.clear (ends.parted (omega (arith, z.1))))
           ∙ read_piece c (take n text) (words (drop (n + s) text))
     ]
 
 -- the loop: reading the words of the input is the same as reading those of the rest after the color so far
-pub walk_refused : (input rest : List ℕ) (c : Color) (n s : ℕ)
-    → read_from no_color (words input) ≡ read_from c (words rest)
-    → IsWithoutSpace rest n → n + s ≤ length rest → (0 < s → Space (slice_range rest n (n + s)))
-    → (s ≡ 0 → n ≡ length rest)
-    → read_from c (piece (take n rest)) ≡ None → Reads ColorText input None
-walk_refused input rest c n s same clear within parted last e =
-    let more = ap (λ o. option_and_then (λ d. read_from d (words (drop (n + s) rest))) o) e in
-    reads_by color_of-value input None (sym (same ∙ (read_step c rest n s clear within parted last ∙ more)))
+pub walk : (input rest : List ℕ) (c : Color) (n s : ℕ) (o : Option Color)
+    → read_from no_color (words input) ≡ read_from c (words rest) → FirstWordEnds rest n s
+    → read_from c (piece (take n rest)) ≡ o
+    → read_from no_color (words input) ≡ option_and_then (λ d. read_from d (words (drop (n + s) rest))) o
+walk input rest c n s o same ends e =
+    same ∙ read_step c rest n s ends ∙ ap (option_and_then (λ d. read_from d (words (drop (n + s) rest)))) e
 
-pub walk_goes_on : (input rest : List ℕ) (c d : Color) (n s : ℕ)
-    → read_from no_color (words input) ≡ read_from c (words rest)
-    → IsWithoutSpace rest n → n + s ≤ length rest → (0 < s → Space (slice_range rest n (n + s)))
-    → (s ≡ 0 → n ≡ length rest)
-    → read_from c (piece (take n rest)) ≡ Some d
-    → read_from no_color (words input) ≡ read_from d (words (drop (n + s) rest))
-walk_goes_on input rest c d n s same clear within parted last e =
-    same ∙ (read_step c rest n s clear within parted last
-    ∙ ap (λ o. option_and_then (λ d. read_from d (words (drop (n + s) rest))) o) e)
+pub walk_refused : (input rest : List ℕ) (c : Color) (n s : ℕ)
+    → read_from no_color (words input) ≡ read_from c (words rest) → FirstWordEnds rest n s
+    → read_from c (piece (take n rest)) ≡ None → Reads ColorText input None
+walk_refused input rest c n s same ends e =
+    reads_by color_of-value input None (sym (walk input rest c n s None same ends e))
 
 pub walk_done : (input : List ℕ) (c : Color) → read_from no_color (words input) ≡ read_from c (words [])
     → ColorText input c
@@ -398,5 +305,5 @@ pub walk_too_long : (input rest : List ℕ) (c : Color)
     → Reads ColorText input None
 walk_too_long input rest c same long =
     let end = first_end (length rest - 16) 16 rest (omega (arith, long.0)) long.1 in
-    walk_refused input rest c end.before end.space same end.clear end.within end.parted end.last
-    (too_long c rest end.before long end.later (omega (arith, end.within)))
+    walk_refused input rest c end.0 end.1 same end.3
+    (too_long c rest end.0 long end.2 (omega (arith, end.3.within)))

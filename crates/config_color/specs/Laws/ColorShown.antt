@@ -1,8 +1,8 @@
 -- The laws of `Value` for colors: each canonical text has a color, a color has at most one canonical text,
 -- and it is the text that the color is shown as.
-use Rattle.std.proofs.Common.{◌≡◌, ◌≢◌, ℕ, zero, suc, ◌+◌, ◌^◌, ◌<◌, ◌≤◌, ◌↔◌, ◌⊎◌, inl, inr, ◌&&◌, nat_le}
+use Rattle.std.proofs.Common.{◌≡◌, ◌≢◌, ℕ, zero, suc, ◌+◌, ◌^◌, ◌<◌, ◌≤◌, ◌↔◌, ◌⊎◌, inl, inr, ◌&&◌}
 use Rattle.std.proofs.Common.{Bool, true, false, ◌==◌, List, [], ◌∷◌, ◌++◌, length, map, filter, Option, Some}
-use Rattle.std.proofs.Common.{None, bit_and, min, refl, sym, ap, subst, ◌∙◌, length-append, arith}
+use Rattle.std.proofs.Common.{None, bit_and, refl, sym, ap, ◌∙◌, length-append, arith}
 use Rattle.std.specs.Bool.{⊤, IsTrue}
 use Rattle.std.specs.Option.{option_eq, is_some}
 use Rattle.std.specs.Prelude.{not}
@@ -10,11 +10,12 @@ use Rattle.bitflags.specs.Sets.{known_bits as known_bits_of, known_from}
 use Rattle.std.specs.Int.{bit_at}
 use Rattle.std.specs.Int.RustNames.{bit_or}
 use Rattle.std.specs.Int.Bits.{or_zero_l}
-use Rattle.std.specs.List.{AllByRecursion, join_with_byte, list_all}
+use Rattle.std.specs.List.{AllByRecursion, join_with_byte}
 use Rattle.std.proofs.lemmas.List.{append-nil, length-map}
-use Rattle.std.proofs.lemmas.Bool.{and_parts, leb-true}
+use Rattle.std.proofs.lemmas.Bool.{and_from, and_parts}
+use Rattle.std.proofs.lemmas.List.Folds.{list_all-append}
 use Rattle.std.proofs.lemmas.Nat.{and_comm}
-use Rattle.std.proofs.lemmas.Bool.Decides.{Decides-eqb}
+use Rattle.std.proofs.lemmas.Bool.Decides.{Decides-eqb, eqb_tells}
 use Rattle.std.proofs.lemmas.Nat.Bits.{and_pow, bit_at_or, bit_at_and, bit_at-lt, bit_at-zero}
 use Rattle.std.proofs.lemmas.Nat.Bits.{bit_at-pow_same, bit_at-pow_other, same_from_bits}
 use Rattle.config_color.specs.declared.color.Color.{Color}
@@ -25,7 +26,7 @@ use Rattle.config_word.specs.Attribute.{attribute_words, rising_words}
 use Rattle.config_color.specs.Color.{WordsRead, Placed, ColorText, part_shown, set_shown, color_shown, Chosen}
 use Rattle.config_color.specs.Color.{CanonicalColor, PartFits, AreKnown}
 use Rattle.config_color.specs.Laws.Color.{text_read, WordsRead-join, Placed-short, placing, same_color}
-use Rattle.config_color.specs.Laws.Color.{color_one_value}
+use Rattle.config_color.specs.Laws.Color.{color_one_value, color_with}
 use Rattle.config_text.specs.Bytes.{space}
 use Rattle.config_text.specs.declared.value.TheConstants.{LONGEST_TEXT}
 use Rattle.config_word.specs.declared.attribute.TheConstants.{LONGEST_SET}
@@ -37,11 +38,11 @@ use Rattle.config_word.specs.Laws.Name.{name_canonical_reads, name_one_text, nam
 use Rattle.config_word.specs.Laws.Name.{name_shown_is_text, name_has_text}
 use Rattle.config_text.specs.OneOf.{OneOf}
 use Rattle.config_text.specs.Laws.OneOf.{all-one}
-use Rattle.config_color.specs.Laws.PlainWords.{is_plain_word, words_spaced, all_plain_append, chosen_plain}
+use Rattle.config_text.specs.Laws.Value.{IsShown, canonical_reads_by, one_text_by}
+use Rattle.config_color.specs.Laws.PlainWords.{is_plain_word, words_spaced, chosen_plain}
 use Rattle.config_color.specs.Laws.PlainWords.{names_plain}
 use Rattle.config_text.specs.Value.{IsAccepted, HasText, IsTextOf}
 use Rattle.config_color.specs.Reading.Split.{words}
-use Rattle.config_color.specs.Laws.Split.{eqb_told}
 
 -- the words of the rows whose bits are set
 abbrev pub set_words : ℕ → List AttributeRow → List (List ℕ)
@@ -69,35 +70,24 @@ or_and : (m a b : ℕ) → bit_and m (bit_or a b) ≡ bit_or (bit_and m a) (bit_
 or_and m a b = same_from_bits _ _ (λ i. simp (bit_at_or, bit_at_and) (omega arith))
 
 -- a bit is set or it is not
-bit_told : (n i : ℕ) → (bit_at n i ≡ 1) ⊎ (bit_at n i ≡ 0)
+pub bit_told : (n i : ℕ) → (bit_at n i ≡ 1) ⊎ (bit_at n i ≡ 0)
 bit_told n i = let l = bit_at-lt n i in grind arith
-
-and_pow_set : (n k : ℕ) → bit_at n k ≡ 1 → bit_and n (2 ^ k) ≡ 2 ^ k
-and_pow_set n k e = and_pow n k ∙ rw e (omega arith)
-
-and_pow_clear : (n k : ℕ) → bit_at n k ≡ 0 → bit_and n (2 ^ k) ≡ 0
-and_pow_clear n k e = and_pow n k ∙ rw e (omega arith)
 
 and_zero : (n : ℕ) → bit_and n 0 ≡ 0
 and_zero n = same_from_bits _ _ (λ i. simp (bit_at_and, bit_at-zero) (omega arith))
 
-zero_and : (n : ℕ) → bit_and 0 n ≡ 0
-zero_and n = same_from_bits _ _ (λ i. simp (bit_at_and, bit_at-zero) (omega arith))
-
 -- the words of the set bits are read as those bits
 set_words_read : (rows : List AttributeRow) (bits : ℕ) → AreRead rows
     → WordsRead (set_words bits rows) [] (bit_and bits (bits_of rows))
-set_words_read [] bits h = subst (λ (n : ℕ). WordsRead [] [] n) (sym (and_zero bits)) WordsRead.nothing
+set_words_read [] bits h = rw and_zero WordsRead.nothing
 set_words_read (row ∷ rows) bits h =
     elim (bit_told bits row.1) [
-      | inl e ↦ rw e (subst (λ (n : ℕ). WordsRead (row.2 ∷ set_words bits rows) [] n)
-          (sym (or_and bits (2 ^ row.1) (bits_of rows)
-          ∙ ap (λ n. bit_or n (bit_and bits (bits_of rows))) (and_pow_set bits row.1 e)))
-          (WordsRead.attribute h.0 (set_words_read rows bits h.1)))
-      | inr e ↦ rw e (subst (λ (n : ℕ). WordsRead (set_words bits rows) [] n)
-          (sym (or_and bits (2 ^ row.1) (bits_of rows)
-          ∙ (ap (λ n. bit_or n (bit_and bits (bits_of rows))) (and_pow_clear bits row.1 e)
-          ∙ or_zero_l (bit_and bits (bits_of rows))))) (set_words_read rows bits h.1))
+      | inl e ↦
+          let one : bit_and bits (2 ^ row.1) ≡ 2 ^ row.1 = and_pow bits row.1 ∙ rw e (omega arith) in
+          rw (e, or_and, one) (WordsRead.attribute h.0 (set_words_read rows bits h.1))
+      | inr e ↦
+          let none : bit_and bits (2 ^ row.1) ≡ 0 = and_pow bits row.1 ∙ rw e (omega arith) in
+          rw (e, or_and, none, or_zero_l (bit_and bits (bits_of rows))) (set_words_read rows bits h.1)
     ]
 
 chosen_more : (row : List ℕ) (rows ws : List (List ℕ)) → Chosen rows ws → Chosen (row ∷ rows) ws
@@ -141,43 +131,36 @@ pub record ChosenRead (low : ℕ) (rows : List AttributeRow) (ws : List (List �
 chosen_read : (rows : List AttributeRow) (low : ℕ) (ws : List (List ℕ)) → Rise low rows → AreRead rows
     → Chosen (map (λ row. row.2) rows) ws
     → ChosenRead low rows ws
-chosen_read [] low [] r h c =
-    record { bits = 0; read = WordsRead.nothing; shown = refl; above = λ i l. bit_at-zero i }
-chosen_read [] low (w ∷ ws) r h c = absurd c
-chosen_read (row ∷ rows) low [] r h c =
+chosen_read rows low [] r h c =
     record {
       bits = 0;
       read = WordsRead.nothing;
-      shown = sym (set_words_zero (row ∷ rows));
+      shown = sym (set_words_zero rows);
       above = λ i l. bit_at-zero i;
     }
+chosen_read [] low (w ∷ ws) r h c = absurd c
 chosen_read (row ∷ rows) low (w ∷ ws) r h (inl c) =
-    with_row (chosen_read rows (row.1 + 1) ws r.1 h.1 c.1) where
-      with_row : ChosenRead (row.1 + 1) rows ws → ChosenRead low (row ∷ rows) (w ∷ ws)
-      with_row more =
-          let set : bit_at (bit_or (2 ^ row.1) more.bits) row.1 ≡ 1 =
-          bit_at_or (2 ^ row.1) more.bits row.1
-          ∙ rw (bit_at-pow_same row.1) (omega (arith, bit_at-lt more.bits row.1)) in
-          let rest = set_words_same (row.1 + 1) rows (bit_or (2 ^ row.1) more.bits) more.bits r.1
-          (λ i l. let ne : i ≢ row.1 = omega arith in
-          bit_at_or (2 ^ row.1) more.bits i ∙ rw bit_at-pow_other (omega arith)) in
-          record {
-            bits = bit_or (2 ^ row.1) more.bits;
-            read = WordsRead.attribute (subst (λ (w : List ℕ). AttributeText w (record { 0 = 2 ^ row.1 }))
-                (sym c.0) h.0) more.read;
-            shown = rw set (ap (λ w. w ∷ ws) c.0 ∙ ap (λ ws. row.2 ∷ ws) (more.shown ∙ sym rest));
-            above = λ i l. let ne : i ≢ row.1 = omega arith in
-                bit_at_or (2 ^ row.1) more.bits i ∙ rw bit_at-pow_other (rw (more.above i (omega arith)) refl);
-          }
+    let more = chosen_read rows (row.1 + 1) ws r.1 h.1 c.1 in
+    let bits = bit_or (2 ^ row.1) more.bits in
+    let others : (i : ℕ) → i ≢ row.1 → bit_at bits i ≡ bit_at more.bits i =
+    λ i other. bit_at_or (2 ^ row.1) more.bits i ∙ rw bit_at-pow_other (omega arith) in
+    let set : bit_at bits row.1 ≡ 1 = bit_at_or (2 ^ row.1) more.bits row.1
+    ∙ rw (bit_at-pow_same row.1) (omega (arith, bit_at-lt more.bits row.1)) in
+    let same = set_words_same (row.1 + 1) rows bits more.bits r.1 (λ i l. others i (omega arith)) in
+    record {
+      bits = bits;
+      read = WordsRead.attribute (rw c.0 h.0) more.read;
+      shown = rw (set, same) (cc (c.0, more.shown));
+      above = λ i l. others i (omega arith) ∙ more.above i (omega arith);
+    }
 chosen_read (row ∷ rows) low (w ∷ ws) r h (inr c) =
-    without_row (chosen_read rows (row.1 + 1) (w ∷ ws) r.1 h.1 c) where
-      without_row : ChosenRead (row.1 + 1) rows (w ∷ ws) → ChosenRead low (row ∷ rows) (w ∷ ws)
-      without_row more = record {
-        bits = more.bits;
-        read = more.read;
-        shown = rw (more.above row.1 (omega arith)) more.shown;
-        above = λ i l. more.above i (omega arith);
-      }
+    let more = chosen_read rows (row.1 + 1) (w ∷ ws) r.1 h.1 c in
+    record {
+      bits = more.bits;
+      read = more.read;
+      shown = rw (more.above row.1 (omega arith)) more.shown;
+      above = λ i l. more.above i (omega arith);
+    }
 
 are_read : (rows : List AttributeRow) → ((row : AttributeRow) → OneOf rows row → OneOf attributes row)
     → AreRead rows
@@ -188,19 +171,9 @@ are_read (row ∷ rows) f =
 attributes_read : AreRead attributes
 attributes_read = are_read attributes (λ row o. o)
 
-rises : ℕ → List AttributeRow → Bool
-rises low [] = true
-rises low (row ∷ rows) = nat_le low row.1 && rises (row.1 + 1) rows
-
-rise : (low : ℕ) (rows : List AttributeRow) → rises low rows ≡ true → Rise low rows
-unfolding rises
-rise low [] h = tt
-rise low (row ∷ rows) h = let k = and_parts (nat_le low row.1) (rises (row.1 + 1) rows) h in
-    (leb-true low row.1 k.0, rise (row.1 + 1) rows k.1)
-
 attributes_rise : Rise 0 attributes
-unfolding attributes rises
-attributes_rise = rise 0 attributes refl
+unfolding attributes
+attributes_rise = omega arith
 
 rising_is : rising_words ≡ map (λ row. row.2) attributes
 unfolding rising_words attributes
@@ -218,12 +191,10 @@ row_bit (row ∷ rows) i (inr o) =
 bit_row : (rows : List AttributeRow) (i : ℕ) → bit_at (bits_of rows) i ≡ 1 → OneOf (map (λ row. row.1) rows) i
 bit_row [] i h = absurd (omega (arith, bit_at-zero i))
 bit_row (row ∷ rows) i h =
-    elim (eqb_told i row.1) [
+    elim (eqb_tells i row.1) [
       | inl e ↦ inl e.1
-      | inr n ↦
-          let other : i ≢ row.1 = λ e. cc (n, (Decides-eqb i row.1).1 e) in
-          inr (bit_row rows i
-          (omega (arith, h, bit_at_or (2 ^ row.1) (bits_of rows) i, bit_at-pow_other row.1 i other)))
+      | inr n ↦ inr (bit_row rows i
+          (omega (arith, h, bit_at_or (2 ^ row.1) (bits_of rows) i, bit_at-pow_other row.1 i n.1)))
     ]
 
 -- the set has no bits except those of the constants
@@ -232,12 +203,11 @@ IsMasked bits = bit_and bits (bits_of attributes) ≡ bits
 
 -- a set whose bits are all known has no bits except those of the constants
 known_mask : (bits : ℕ) → AreKnown bits → IsMasked bits
-known_mask bits known = same_from_bits _ _
-    (λ i. bit_at_and bits (bits_of attributes) i ∙ at_bit i (bit_told bits i)) where
-      at_bit : (i : ℕ) → (bit_at bits i ≡ 1) ⊎ (bit_at bits i ≡ 0)
-          → min (bit_at bits i) (bit_at (bits_of attributes) i) ≡ bit_at bits i
-      at_bit i (inl e) = rw (e, row_bit attributes i (known i e)) refl
-      at_bit i (inr e) = rw e (omega arith)
+known_mask bits known = same_from_bits _ _ (λ i. bit_at_and bits (bits_of attributes) i
+    ∙ elim (bit_told bits i) [
+      | inl e ↦ rw (e, row_bit attributes i (known i e)) refl
+      | inr e ↦ rw e (omega arith)
+    ])
 
 mask_known : (bits : ℕ) → IsMasked bits → AreKnown bits
 mask_known bits h = λ i e.
@@ -247,19 +217,13 @@ mask_known bits h = λ i e.
 
 -- words that are chosen from the canonical ones are read
 rising_read : (ws : List (List ℕ)) → Chosen rising_words ws → ChosenRead 0 attributes ws
-rising_read ws c =
-    chosen_read attributes 0 ws attributes_rise attributes_read
-    (subst (λ (rows : List (List ℕ)). Chosen rows ws) rising_is c)
+rising_read ws c = chosen_read attributes 0 ws attributes_rise attributes_read (rw rising_is at c)
 
 attribute_words_chosen : (bits : ℕ) → Chosen rising_words (attribute_words bits)
-attribute_words_chosen bits =
-    subst (λ (rows : List (List ℕ)). Chosen rows (attribute_words bits)) (sym rising_is)
-    (set_words_chosen attributes bits)
+attribute_words_chosen bits = rw rising_is (set_words_chosen attributes bits)
 
 attribute_words_read : (bits : ℕ) → IsMasked bits → WordsRead (attribute_words bits) [] bits
-attribute_words_read bits e =
-    subst (λ (n : ℕ). WordsRead (attribute_words bits) [] n) e
-    (set_words_read attributes bits attributes_read)
+attribute_words_read bits e = rw e at (set_words_read attributes bits attributes_read)
 
 attribute_known : (w : List ℕ) (a : Attribute) → AttributeText w a → IsMasked a.0
 unfolding attributes
@@ -271,12 +235,10 @@ attribute_known w a (AttributeText.reset p e) = rw e refl
 
 -- words are read as bits that are all known
 WordsRead-known : {ws : List (List ℕ)} {ns : List Name} {bits : ℕ} → WordsRead ws ns bits → IsMasked bits
-WordsRead-known WordsRead.nothing = zero_and (bits_of attributes)
+WordsRead-known WordsRead.nothing = refl
 WordsRead-known (WordsRead.name t r) = WordsRead-known r
-WordsRead-known (WordsRead.attribute {w = w} {a = a} {bits = more} t r) =
-    let front = attribute_known w a t in
-    let back = WordsRead-known r in
-    and_or a.0 more (bits_of attributes) ∙ cc
+WordsRead-known (WordsRead.attribute {w = w} {a = a} t r) =
+    rw (and_or, attribute_known w a t, WordsRead-known r)
 
 -- each of the names has a text
 abbrev HaveTexts : List Name → Type 0
@@ -306,26 +268,29 @@ pub record NamesRead (ts : List (List ℕ)) : Type 0 where
 
 canonical_names_read : (ts : List (List ℕ)) → AllByRecursion CanonicalName ts → NamesRead ts
 canonical_names_read [] h = record { names = []; read = WordsRead.nothing; shown = refl; as_many = refl }
-canonical_names_read (t ∷ ts) h = with_name (name_canonical_reads t h.0) (canonical_names_read ts h.1) where
-  with_name : IsAccepted NameText t → NamesRead ts → NamesRead (t ∷ ts)
-  with_name (n, p) more =
-      let text = name_shown_is_text n (t, p) in
-      let same : t ≡ name_shown n =
-      name_one_text t (name_shown n) n h.0 text.canonical_text p text.reads_to in
-      record {
-        names = n ∷ more.names;
-        read = WordsRead.name p more.read;
-        shown = ap (λ w. w ∷ ts) same ∙ ap (λ ts. name_shown n ∷ ts) more.shown;
-        as_many = ap suc more.as_many;
-      }
+canonical_names_read (t ∷ ts) h =
+    let (n, p) = name_canonical_reads t h.0 in
+    let more = canonical_names_read ts h.1 in
+    let text = name_shown_is_text n (t, p) in
+    record {
+      names = n ∷ more.names;
+      read = WordsRead.name p more.read;
+      shown = cc (name_one_text t (name_shown n) n h.0 text.canonical_text p text.reads_to, more.shown);
+      as_many = ap suc more.as_many;
+    }
 
 -- texts of names and then words of attributes are read as the names and the bits of the attributes
 names_and_words : (ts ws : List (List ℕ)) (ns : List Name) (bits : ℕ) → WordsRead ts ns 0
     → WordsRead ws [] bits
     → WordsRead (ts ++ ws) ns bits
-names_and_words ts ws ns bits r s =
-    subst (λ (ns : List Name). WordsRead (ts ++ ws) ns bits) (append-nil ns)
-    (subst (λ (b : ℕ). WordsRead (ts ++ ws) (ns ++ []) b) (or_zero_l bits) (WordsRead-join r s))
+names_and_words ts ws ns bits r s = rw (append-nil, or_zero_l) at (WordsRead-join r s)
+
+-- canonical names and then words of attributes are the words of the text that joins them by spaces
+words_of_parts : (ts ws : List (List ℕ)) → AllByRecursion CanonicalName ts → Chosen rising_words ws
+    → words (join_with_byte space (ts ++ ws)) ≡ ts ++ ws
+words_of_parts ts ws named chosen =
+    words_spaced (ts ++ ws)
+    (list_all-append is_plain_word ts ws ∙ and_from _ _ (names_plain ts named) (chosen_plain ws chosen))
 
 -- ---- the text that a color is shown as
 
@@ -339,10 +304,8 @@ join_last (x ∷ z ∷ xs) y ys = ap (λ t. x ++ space ∷ t) (join_last (z ∷ 
 -- the shown foreground and background are what the names are shown as
 parts_named : (ns : List Name) (f b : Option Name) → Placed ns f b
     → part_shown f ++ part_shown b ≡ map name_shown ns
-parts_named [] f b p = rw (p.0, p.1) refl
-parts_named (n ∷ []) f b p = rw (p.0, p.1) refl
-parts_named (n ∷ m ∷ []) f b p = rw (p.0, p.1) refl
 parts_named (n ∷ m ∷ o ∷ ns) f b p = absurd p
+parts_named ns f b p = rw (p.0, p.1) refl
 
 no_words_no_bits : {ns : List Name} {bits : ℕ} → WordsRead [] ns bits → bits ≡ 0
 no_words_no_bits WordsRead.nothing = refl
@@ -354,9 +317,7 @@ join_set xs (suc n) e = some (attribute_words (suc n)) refl where
   some : (ws : List (List ℕ)) → attribute_words (suc n) ≡ ws
       → join_with_byte space (xs ++ join_with_byte space (attribute_words (suc n)) ∷ [])
       ≡ join_with_byte space (xs ++ attribute_words (suc n))
-  some [] k =
-      let r = subst (λ (ws : List (List ℕ)). WordsRead ws [] (suc n)) k (attribute_words_read (suc n) e) in
-      absurd (omega (arith, no_words_no_bits r))
+  some [] k = absurd (omega (arith, no_words_no_bits (rw k at (attribute_words_read (suc n) e))))
   some (y ∷ ys) k = rw k (join_last xs y ys)
 
 -- a color is shown as its names and the words of its attributes, with a space between
@@ -368,43 +329,26 @@ shown_spaced c ns placed e =
     (parts_named ns c.foreground c.background placed)
 
 -- a canonical text has a color, and is what this color is shown as
-canonical_shown : (t : List ℕ) → CanonicalColor t → (c : Color) × ColorText t c × (t ≡ color_shown c)
-canonical_shown t h = whole (canonical_names_read h.names h.named) (rising_read h.words h.chosen) where
-  plain : list_all is_plain_word (h.names ++ h.words) ≡ true
-  plain = all_plain_append h.names h.words (names_plain h.names h.named) (chosen_plain h.words h.chosen)
-
-  spelled_words : words t ≡ h.names ++ h.words
-  spelled_words = ap words h.spelled ∙ words_spaced (h.names ++ h.words) plain
-
-  whole : NamesRead h.names → ChosenRead 0 attributes h.words
-      → (c : Color) × ColorText t c × (t ≡ color_shown c)
-  whole n w = as_placed (placing n.names (omega (arith, n.as_many, h.at_most_two))) where
-    joined : WordsRead (h.names ++ h.words) n.names w.bits
-    joined = names_and_words h.names h.words n.names w.bits n.read w.read
-
-    as_placed : (f : Option Name) × (b : Option Name) × Placed n.names f b
-        → (c : Color) × ColorText t c × (t ≡ color_shown c)
-    as_placed (f, b, p) =
-        let c : Color = record { foreground = f; background = b; attributes = record { 0 = w.bits } } in
-        let read = subst (λ (ws : List (List ℕ)). WordsRead ws n.names w.bits) (sym spelled_words) joined in
-        let shown = shown_spaced c n.names p (WordsRead-known joined) in
-        let parts : h.names ++ h.words ≡ map name_shown n.names ++ attribute_words w.bits =
-        ap (λ ts. ts ++ h.words) n.shown ∙ ap (λ ws. map name_shown n.names ++ ws) w.shown in (
-          c,
-          record { names = n.names; read = text_read t read; placed = p },
-          h.spelled ∙ (ap (join_with_byte space) parts ∙ sym shown),
-        )
+canonical_shown : (t : List ℕ) → CanonicalColor t → IsShown ColorText color_shown t
+canonical_shown t h =
+    let n = canonical_names_read h.names h.named in
+    let w = rising_read h.words h.chosen in
+    let (f, b, p) = placing n.names (omega (arith, n.as_many, h.at_most_two)) in
+    let joined = names_and_words h.names h.words n.names w.bits n.read w.read in
+    let shown = shown_spaced (color_with f b w.bits) n.names p (WordsRead-known joined) in
+    let spelled = ap words h.spelled ∙ words_of_parts h.names h.words h.named h.chosen in
+    record {
+      value = color_with f b w.bits;
+      reads_to = record { names = n.names; read = text_read t (rw spelled joined); placed = p };
+      same = cc (h.spelled, n.shown, w.shown, shown);
+    }
 
 pub color_canonical_reads : (t : List ℕ) → CanonicalColor t → IsAccepted ColorText t
-color_canonical_reads t h = let k = canonical_shown t h in (k.0, k.1)
+color_canonical_reads = canonical_reads_by canonical_shown
 
 pub color_one_text : (s t : List ℕ) (v : Color) → CanonicalColor s → CanonicalColor t → ColorText s v
     → ColorText t v → s ≡ t
-color_one_text s t v p q r u =
-    let k = canonical_shown s p in
-    let l = canonical_shown t q in
-    let same : k.0 ≡ l.0 = color_one_value s k.0 v k.1 r ∙ sym (color_one_value t l.0 v l.1 u) in
-    k.2 ∙ (ap color_shown same ∙ sym l.2)
+color_one_text = one_text_by color_one_value canonical_shown
 
 -- ---- its length
 
@@ -462,35 +406,27 @@ texts_fit (n ∷ m ∷ o ∷ ns) f b h p = absurd p
 shown_is_text : (c : Color) (ns : List Name) → Placed ns c.foreground c.background → HaveTexts ns
     → IsMasked c.attributes.0
     → IsTextOf ColorText CanonicalColor c (color_shown c)
-shown_is_text c ns placed texts e = record {
-  canonical_text = record {
-    names = map name_shown ns;
-    words = attribute_words c.attributes.0;
-    at_most_two = omega (arith, length-map ns name_shown, Placed-short ns c.foreground c.background placed);
-    named = names_canonical ns texts;
-    chosen = attribute_words_chosen c.attributes.0;
-    spelled = spelled;
-  };
-  reads_to = record {
-    names = ns;
-    read = text_read (color_shown c)
-        (subst (λ (ws : List (List ℕ)). WordsRead ws ns c.attributes.0) (sym shown_words)
-        (names_and_words (map name_shown ns) (attribute_words c.attributes.0) ns c.attributes.0
-        (names_read ns texts) (attribute_words_read c.attributes.0 e)));
-    placed = placed;
-  };
-  short = let fit = texts_fit ns c.foreground c.background texts placed in color_short c fit.0 fit.1;
-} where
-  spelled : color_shown c ≡ join_with_byte space (map name_shown ns ++ attribute_words c.attributes.0)
-  spelled = shown_spaced c ns placed e
-
-  plain : list_all is_plain_word (map name_shown ns ++ attribute_words c.attributes.0) ≡ true
-  plain = all_plain_append (map name_shown ns) (attribute_words c.attributes.0)
-      (names_plain (map name_shown ns) (names_canonical ns texts))
-      (chosen_plain (attribute_words c.attributes.0) (attribute_words_chosen c.attributes.0))
-
-  shown_words : words (color_shown c) ≡ map name_shown ns ++ attribute_words c.attributes.0
-  shown_words = ap words spelled ∙ words_spaced (map name_shown ns ++ attribute_words c.attributes.0) plain
+shown_is_text c ns placed texts e =
+    let spelled = shown_spaced c ns placed e in
+    let named = names_canonical ns texts in
+    let chosen = attribute_words_chosen c.attributes.0 in
+    let shown_words = ap words spelled ∙ words_of_parts _ _ named chosen in
+    let fit = texts_fit ns c.foreground c.background texts placed in
+    let read = names_and_words _ _ ns c.attributes.0 (names_read ns texts)
+    (attribute_words_read c.attributes.0 e) in
+    record {
+      canonical_text = record {
+        names = map name_shown ns;
+        words = attribute_words c.attributes.0;
+        at_most_two =
+            omega (arith, length-map ns name_shown, Placed-short ns c.foreground c.background placed);
+        named = named;
+        chosen = chosen;
+        spelled = spelled;
+      };
+      reads_to = record { names = ns; read = text_read _ (rw shown_words read); placed = placed };
+      short = color_short c fit.0 fit.1;
+    }
 
 pub color_shown_is_text : (c : Color) → HasText ColorText c
     → IsTextOf ColorText CanonicalColor c (color_shown c)
@@ -529,19 +465,14 @@ same_parts E v w =
     option_eq E v.foreground w.foreground
     && (option_eq E v.background w.background && (v.attributes.0 == w.attributes.0))
 
--- three tests that are all true
-all_pass : (a b c : Bool) → (a && (b && c)) ≡ true → (a ≡ true) × (b ≡ true) × (c ≡ true)
-all_pass a b c h = let k = and_parts a (b && c) h in let l = and_parts b c k.1 in (k.0, l.0, l.1)
-
 -- the test of the parts is true exactly if the colors are the same
 pub color_equal : (E : Name → Name → Bool) → ((n m : Name) → (IsTrue (E n m)) ↔ (n ≡ m))
     → (v w : Color) → (IsTrue (same_parts E v w)) ↔ (v ≡ w)
 color_equal E law v w = (to, from) where
   part_same : (f g : Option Name) → option_eq E f g ≡ true → f ≡ g
   part_same None None h = refl
-  part_same None (Some m) h = absurd (cc)
-  part_same (Some n) None h = absurd (cc)
   part_same (Some n) (Some m) h = ap Some ((law n m).0 h)
+  part_same f g h = absurd (cc)
 
   part_equal : (f : Option Name) → option_eq E f f ≡ true
   part_equal None = refl
@@ -549,11 +480,9 @@ color_equal E law v w = (to, from) where
 
   to : IsTrue (same_parts E v w) → v ≡ w
   to h =
-      let front = option_eq E v.foreground w.foreground in
-      let back = option_eq E v.background w.background in
-      let k = all_pass front back (v.attributes.0 == w.attributes.0) h in
-      same_color v w (part_same v.foreground w.foreground k.0) (part_same v.background w.background k.1)
-      ((Decides-eqb v.attributes.0 w.attributes.0).0 k.2)
+      let (front, rest) = and_parts _ _ h in
+      let (back, bits) = and_parts _ _ rest in
+      same_color v w (part_same _ _ front) (part_same _ _ back) ((Decides-eqb _ _).0 bits)
 
   from : v ≡ w → IsTrue (same_parts E v w)
   from e =

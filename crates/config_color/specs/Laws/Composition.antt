@@ -1,18 +1,18 @@
 -- The laws of composition: the color of a joined text is the composition of its parts' colors, and what this
 -- means for `same`.
 use Rattle.std.proofs.Common.{◌≡◌, ℕ, ◌+◌, ◌<◌, ◌≤◌, ◌↔◌, ◌⊎◌, inl, inr, List, [], ◌∷◌, ◌++◌, length, codes}
-use Rattle.std.proofs.Common.{Option, Some, None, IfSome, Bool, IsTrue, refl, sym, ap, subst, ◌∙◌}
-use Rattle.std.proofs.Common.{append_assoc, length-append, arith}
+use Rattle.std.proofs.Common.{Option, Some, None, IfSome, Bool, IsTrue, refl, sym, ap, ◌∙◌}
+use Rattle.std.proofs.Common.{length-append, arith}
 use Rattle.std.proofs.lemmas.Option.{some_pair_parts}
 use Rattle.std.proofs.lemmas.Bool.Decides.{leb_tells}
 use Rattle.std.specs.Int.RustNames.{bit_or}
 use Rattle.std.specs.Option.{option_to_list}
 use Rattle.config_color.specs.declared.color.Color.{Color}
 use Rattle.config_word.specs.declared.name.Name.{Name}
-use Rattle.config_color.specs.Color.{WordsRead, TextRead, Placed, ColorText}
-use Rattle.config_color.specs.Laws.Color.{read_words, text_read, WordsRead-join, PartsRead, WordsRead-split}
+use Rattle.config_color.specs.Color.{Placed, ColorText}
+use Rattle.config_color.specs.Laws.Color.{read_words, text_read, WordsRead-join, WordsRead-split}
 use Rattle.config_color.specs.Laws.Color.{WordsRead-one, Placed-words, Placed-short, Placed-one, placing}
-use Rattle.config_color.specs.Laws.Color.{same_color, color_one_value, color_decided}
+use Rattle.config_color.specs.Laws.Color.{color_with, same_color, color_one_value, color_decided}
 use Rattle.config_color.specs.Reading.Color.{places_of}
 use Rattle.config_color.specs.Composition.{color_names, Composition, Composes, Joined, HaveTooManyNames}
 use Rattle.config_color.specs.Composition.{HasTooManyNames, SameWords}
@@ -33,60 +33,41 @@ background_beside t c h e = beside h.names c.foreground c.background h.placed e 
 -- if white space joins two texts, the composition of their colors is the color of the joined text
 pub joined_reads : (front space back : List ℕ) (c : Color) → Space space → Joined front back c
     → ColorText (front ++ space ++ back) c
-joined_reads front space back c s (a, b, p, q, k) =
-    let w = sym (words_joined front space back s) ∙ ap words (sym (append_assoc front space back)) in
-    let r = WordsRead-join (read_words p.read) (read_words q.read) in
-    record {
-      names = p.names ++ q.names;
-      read = text_read (front ++ space ++ back)
-          (subst (λ (ws : List (List ℕ)). WordsRead ws (p.names ++ q.names) c.attributes.0) w
-          (subst (λ (i : ℕ). WordsRead (words front ++ words back) (p.names ++ q.names) i) (sym k.united) r));
-      placed = subst (λ (ns : List Name). Placed ns c.foreground c.background)
-          (ap (λ ns. ns ++ color_names b) (Placed-words p.names a.foreground a.background p.placed)
-          ∙ ap (λ ms. p.names ++ ms) (Placed-words q.names b.foreground b.background q.placed)) k.placed;
-    }
+joined_reads front space back c s (a, b, p, q, k) = record {
+  names = p.names ++ q.names;
+  read = text_read (front ++ space ++ back)
+      (rw (words_joined front space back s, k.united)
+      (WordsRead-join (read_words p.read) (read_words q.read)));
+  placed = rw (
+    ← (Placed-words p.names a.foreground a.background p.placed),
+    ← (Placed-words q.names b.foreground b.background q.placed),
+  )
+      k.placed;
+}
 
 -- the color of a joined text is the composition of the colors of its parts
 pub reads_joined : (front space back : List ℕ) (c : Color) → Space space
     → ColorText (front ++ space ++ back) c → Joined front back c
-reads_joined front space back c s h = parted (WordsRead-split (words front) (words back) read) where
-  read : WordsRead (words front ++ words back) h.names c.attributes.0
-  read = subst (λ (ws : List (List ℕ)). WordsRead ws h.names c.attributes.0)
-      (ap words (append_assoc front space back) ∙ words_joined front space back s) (read_words h.read)
-
-  parted : PartsRead (words front) (words back) h.names c.attributes.0 → Joined front back c
-  parted r =
-      let short : length r.front_names + length r.back_names ≤ 2 =
-      omega (
-        arith,
-        Placed-short h.names c.foreground c.background h.placed,
-        ap length r.all_names,
-        length-append r.front_names r.back_names,
-      ) in
-      let a = placing r.front_names (omega arith) in
-      let b = placing r.back_names (omega arith) in
-      let front_color : Color = record {
-        foreground = a.0;
-        background = a.1;
-        attributes = record { 0 = r.front_bits };
-      } in
-      let back_color : Color = record {
-        foreground = b.0;
-        background = b.1;
-        attributes = record { 0 = r.back_bits };
-      } in
-      let names : h.names ≡ color_names front_color ++ color_names back_color =
-      r.all_names ∙ (ap (λ ns. ns ++ r.back_names) (sym (Placed-words r.front_names a.0 a.1 a.2))
-      ∙ ap (λ ms. color_names front_color ++ ms) (sym (Placed-words r.back_names b.0 b.1 b.2))) in (
-        front_color,
-        back_color,
-        record { names = r.front_names; read = text_read front r.front; placed = a.2 },
-        record { names = r.back_names; read = text_read back r.back; placed = b.2 },
-        record {
-          placed = subst (λ (ns : List Name). Placed ns c.foreground c.background) names h.placed;
-          united = r.all_bits;
-        },
-      )
+reads_joined front space back c s h =
+    let read = rw (words_joined front space back s) at (read_words h.read) in
+    let r = WordsRead-split (words front) (words back) read in
+    let short : length r.0 + length r.1 ≤ 2 =
+    omega (
+      arith,
+      Placed-short h.names c.foreground c.background h.placed,
+      ap length r.6,
+      length-append r.0 r.1,
+    ) in
+    let (f, g, p) = placing r.0 (omega arith) in
+    let (d, e, q) = placing r.1 (omega arith) in
+    let names : h.names ≡ color_names (color_with f g r.2) ++ color_names (color_with d e r.3) =
+    rw (Placed-words r.0 f g p, Placed-words r.1 d e q) r.6 in (
+      color_with f g r.2,
+      color_with d e r.3,
+      record { names = r.0; read = text_read front r.4; placed = p },
+      record { names = r.1; read = text_read back r.5; placed = q },
+      record { placed = rw names at h.placed; united = r.7 },
+    )
 
 -- a joined text is refused exactly if a part is refused or there are too many names
 pub joined_refused : (front space back : List ℕ) → Space space
@@ -104,11 +85,7 @@ joined_refused front space back s = (λ r. told r (color_decided front) (color_d
       elim (leb_tells (length names) 2) [
         | inl l ↦
             let k = placing names l.1 in
-            let c : Color = record {
-              foreground = k.0;
-              background = k.1;
-              attributes = record { 0 = bit_or a.attributes.0 b.attributes.0 };
-            } in
+            let c = color_with k.0 k.1 (bit_or a.attributes.0 b.attributes.0) in
             absurd
             (r c (joined_reads front space back c s (a, b, p, q, record { placed = k.2; united = refl })))
         | inr l ↦ inr (inr (a, b, p, q, l.1))
@@ -139,15 +116,13 @@ same_words a b v w p q = (agree, meet) where
   agree : v ≡ w → SameWords a b
   agree e =
       let names : q.names ≡ p.names = sym (Placed-words q.names w.foreground w.background q.placed)
-      ∙ (ap (λ (c : Color). color_names c) (sym e)
-      ∙ Placed-words p.names v.foreground v.background p.placed) in
-      let bits : w.attributes.0 ≡ v.attributes.0 = ap (λ (c : Color). c.attributes.0) (sym e) in
+      ∙ (ap color_names (sym e) ∙ Placed-words p.names v.foreground v.background p.placed) in
+      let bits : w.attributes.0 ≡ v.attributes.0 = cc in
       record {
         names = p.names;
         bits = v.attributes.0;
         first = p.read;
-        second = subst (λ (ns : List Name). TextRead b ns v.attributes.0) names
-            (subst (λ (i : ℕ). TextRead b q.names i) bits q.read);
+        second = rw (names, bits) at q.read;
       }
 
   meet : SameWords a b → v ≡ w
@@ -155,7 +130,7 @@ same_words a b v w p q = (agree, meet) where
       let m = WordsRead-one (read_words p.read) (read_words s.first) in
       let o = WordsRead-one (read_words q.read) (read_words s.second) in
       let placed = Placed-one p.names v.foreground v.background w.foreground w.background p.placed
-      (subst (λ (ns : List Name). Placed ns w.foreground w.background) (o.0 ∙ sym m.0) q.placed) in
+      (rw (m.0 ∙ sym o.0) q.placed) in
       same_color v w placed.0 placed.1 (m.1 ∙ sym o.1)
 
 -- `same` returns true for two color texts exactly if their words have the same names and bits
@@ -180,33 +155,22 @@ places_some : (f b g d : Option Name) (h i : Option Name) → (f ≡ None → b 
     → places_of f b g d ≡ Some (h, i)
     → Placed ((option_to_list f ++ option_to_list b) ++ (option_to_list g ++ option_to_list d)) h i
 places_some None (Some o) g d h i p q e = absurd (some_none o (p refl))
-places_some None None None None h i p q e = let k = some_pair_parts None h None i e in (sym k.0, sym k.1)
-places_some None None None (Some m) h i p q e = absurd (some_none m (q refl))
-places_some None None (Some n) None h i p q e =
-    let k = some_pair_parts (Some n) h None i e in (sym k.0, sym k.1)
-places_some None None (Some n) (Some m) h i p q e =
-    let k = some_pair_parts (Some n) h (Some m) i e in (sym k.0, sym k.1)
-places_some (Some n) None None None h i p q e =
-    let k = some_pair_parts (Some n) h None i e in (sym k.0, sym k.1)
-places_some (Some n) None (Some o) None h i p q e =
-    let k = some_pair_parts (Some n) h (Some o) i e in (sym k.0, sym k.1)
-places_some (Some n) None g (Some m) h i p q e = absurd (cc)
-places_some (Some n) (Some o) None None h i p q e =
-    let k = some_pair_parts (Some n) h (Some o) i e in (sym k.0, sym k.1)
-places_some (Some n) (Some o) None (Some m) h i p q e = absurd (some_none m (q refl))
+places_some f b None (Some m) h i p q e = absurd (some_none m (q refl))
+places_some (Some n) None (Some o) (Some m) h i p q e = absurd (cc)
 places_some (Some n) (Some o) (Some m) d h i p q e = absurd (cc)
+places_some None b (Some n) (Some m) h i p q e = some_pair_parts _ _ _ _ (sym e)
+places_some (Some n) (Some o) None None h i p q e = some_pair_parts _ _ _ _ (sym e)
+places_some f b g d h i p q e = some_pair_parts _ _ _ _ (sym e)
 
 -- if `places_of` gives `None`, there are more than two names
 places_none : (f b g d : Option Name) → (f ≡ None → b ≡ None) → (g ≡ None → d ≡ None)
     → places_of f b g d ≡ None
     → 2 < length ((option_to_list f ++ option_to_list b) ++ (option_to_list g ++ option_to_list d))
+places_none f b None (Some m) p q e = absurd (some_none m (q refl))
 places_none None b g d p q e = absurd (cc)
 places_none (Some n) None g None p q e = absurd (cc)
-places_none (Some n) None None (Some m) p q e = absurd (some_none m (q refl))
-places_none (Some n) None (Some o) (Some m) p q e = omega arith
 places_none (Some n) (Some o) None d p q e = absurd (cc)
-places_none (Some n) (Some o) (Some m) None p q e = omega arith
-places_none (Some n) (Some o) (Some m) (Some k) p q e = omega arith
+places_none (Some n) b g d p q e = omega arith
 
 pub places_compose : (a b : Color) (f g : Option Name) → HasText ColorText a → HasText ColorText b
     → places_of a.foreground a.background b.foreground b.background ≡ Some (f, g)

@@ -1,5 +1,5 @@
 -- An attribute word adds its bits wherever it is, and adds nothing if it is repeated.
-use Rattle.std.proofs.Common.{◌≡◌, ℕ, List, [], ◌∷◌, ◌++◌, ◌↔◌, sym, ap, subst, ◌∙◌, arith}
+use Rattle.std.proofs.Common.{◌≡◌, ℕ, List, [], ◌∷◌, ◌++◌, ◌↔◌, sym, ap, ◌∙◌, arith}
 use Rattle.std.specs.Int.RustNames.{bit_or}
 use Rattle.std.proofs.lemmas.Nat.Bits.{bit_at_or, same_from_bits}
 use Rattle.config_word.specs.declared.attribute.Attribute.{Attribute}
@@ -7,7 +7,7 @@ use Rattle.config_word.specs.declared.name.Name.{Name}
 use Rattle.config_word.specs.Attribute.{AttributeText}
 use Rattle.config_word.specs.Laws.Item.{not_both}
 use Rattle.config_color.specs.declared.color.Color.{Color}
-use Rattle.config_color.specs.Color.{WordsRead, TextRead, ColorText}
+use Rattle.config_color.specs.Color.{WordsRead, ColorText}
 use Rattle.config_color.specs.Composition.{Moves}
 use Rattle.config_color.specs.Laws.Color.{one_attribute}
 use Rattle.config_color.specs.Words.{Words}
@@ -25,9 +25,8 @@ put_in : {w : List ℕ} {a : Attribute} (front back : List (List ℕ)) {names : 
     → WordsRead (front ++ back) names bits → WordsRead (front ++ w ∷ back) names (bit_or a.0 bits)
 put_in [] back t r = WordsRead.attribute t r
 put_in (x ∷ front) back t (WordsRead.name u r) = WordsRead.name u (put_in front back t r)
-put_in {w = w} {a = a} (x ∷ front) back {names = names} t (WordsRead.attribute {a = b} {bits = more} u r) =
-    subst (λ (i : ℕ). WordsRead (x ∷ front ++ w ∷ back) names i) (or_swap b.0 a.0 more)
-    (WordsRead.attribute u (put_in front back t r))
+put_in (x ∷ front) back t (WordsRead.attribute u r) =
+    rw or_swap (WordsRead.attribute u (put_in front back t r))
 
 -- without an attribute word the other words are read; its bits and theirs are all bits
 taken_out : (w : List ℕ) (a : Attribute) (front back : List (List ℕ)) {names : List Name} {bits : ℕ}
@@ -49,9 +48,7 @@ moved_reads : (w : List ℕ) (a : Attribute) (front back ahead behind : List (Li
     → front ++ back ≡ ahead ++ behind → WordsRead (front ++ w ∷ back) names bits
     → WordsRead (ahead ++ w ∷ behind) names bits
 moved_reads w a front back ahead behind names bits t e r =
-    let o = taken_out w a front back t r in
-    subst (λ (i : ℕ). WordsRead (ahead ++ w ∷ behind) names i) (sym o.2)
-    (put_in ahead behind t (subst (λ (ws : List (List ℕ)). WordsRead ws names o.0) e o.1))
+    let o = taken_out w a front back t r in rw o.2 (put_in ahead behind t (rw e at o.1))
 
 -- words with one of their attribute words once more are read the same
 again_reads : (w : List ℕ) (a : Attribute) (ws front back ahead behind : List (List ℕ)) (names : List Name)
@@ -59,10 +56,8 @@ again_reads : (w : List ℕ) (a : Attribute) (ws front back ahead behind : List 
     → ws ≡ front ++ w ∷ back → ws ≡ ahead ++ behind → WordsRead ws names bits
     → WordsRead (ahead ++ w ∷ behind) names bits
 again_reads w a ws front back ahead behind names bits t e f r =
-    let o = taken_out w a front back t (subst (λ (ws : List (List ℕ)). WordsRead ws names bits) e r) in
-    subst (λ (i : ℕ). WordsRead (ahead ++ w ∷ behind) names i)
-    (ap (λ i. bit_or a.0 i) o.2 ∙ (or_again a.0 o.0 ∙ sym o.2))
-    (put_in ahead behind t (subst (λ (ws : List (List ℕ)). WordsRead ws names bits) f r))
+    let o = taken_out w a front back t (rw e at r) in
+    let same : bits ≡ bit_or a.0 bits = rw (o.2, or_again) in rw same (put_in ahead behind t (rw f at r))
 
 -- words are read the same without an attribute word that they have once more
 once_reads : (w : List ℕ) (a : Attribute) (ws front back ahead behind : List (List ℕ)) (names : List Name)
@@ -71,54 +66,36 @@ once_reads : (w : List ℕ) (a : Attribute) (ws front back ahead behind : List (
     → WordsRead ws names bits
 once_reads w a ws front back ahead behind names bits t e f r =
     let o = taken_out w a ahead behind t r in
-    let read : WordsRead ws names o.0 = subst (λ (ws : List (List ℕ)). WordsRead ws names o.0) (sym f) o.1 in
-    let p = taken_out w a front back t (subst (λ (ws : List (List ℕ)). WordsRead ws names o.0) e read) in
-    subst (λ (i : ℕ). WordsRead ws names i)
-    (p.2 ∙ (sym (or_again a.0 p.0) ∙ (ap (λ i. bit_or a.0 i) (sym p.2) ∙ sym o.2))) read
+    let read : WordsRead ws names o.0 = rw f o.1 in
+    let p = taken_out w a front back t (rw e at read) in
+    let same : bit_or a.0 o.0 ≡ o.0 = rw (p.2, or_again) in rw (o.2 ∙ same) read
 
 -- words are read the same if an attribute word is moved or repeated
 moves_read : (ws vs : List (List ℕ)) (names : List Name) (bits : ℕ) → Moves ws vs
     → (WordsRead ws names bits) ↔ (WordsRead vs names bits)
 moves_read ws vs names bits (Moves.moved w front back ahead behind (a, p) e f same) = (
-  λ r. subst (λ (ws : List (List ℕ)). WordsRead ws names bits) (sym f)
-      (moved_reads w a front back ahead behind names bits p same
-      (subst (λ (ws : List (List ℕ)). WordsRead ws names bits) e r)),
-  λ r. subst (λ (ws : List (List ℕ)). WordsRead ws names bits) (sym e)
-      (moved_reads w a ahead behind front back names bits p (sym same)
-      (subst (λ (ws : List (List ℕ)). WordsRead ws names bits) f r)),
+  λ r. rw f (moved_reads w a front back ahead behind names bits p same (rw e at r)),
+  λ r. rw e (moved_reads w a ahead behind front back names bits p (sym same) (rw f at r)),
 )
 moves_read ws vs names bits (Moves.repeated w front back ahead behind (a, p) e f same) = (
-  λ r. subst (λ (ws : List (List ℕ)). WordsRead ws names bits) (sym f)
-      (again_reads w a ws front back ahead behind names bits p e same r),
-  λ r. once_reads w a ws front back ahead behind names bits p e same
-      (subst (λ (ws : List (List ℕ)). WordsRead ws names bits) f r),
+  λ r. rw f (again_reads w a ws front back ahead behind names bits p e same r),
+  λ r. once_reads w a ws front back ahead behind names bits p e same (rw f at r),
 )
 
 -- texts with such words have the same color
 pub moved_words : (t u : List ℕ) (ws vs : List (List ℕ)) (c : Color) → Words t ws → Words u vs → Moves ws vs
     → (ColorText t c) ↔ (ColorText u c)
 moved_words t u ws vs c w v m = (
-  λ h. record {
-    names = h.names;
-    read = text_of u vs h.names v
-        ((moves_read ws vs h.names c.attributes.0 m).0 (read_of t ws h.names w h.read));
-    placed = h.placed;
-  },
-  λ h. record {
-    names = h.names;
-    read = text_of t ws h.names w
-        ((moves_read ws vs h.names c.attributes.0 m).1 (read_of u vs h.names v h.read));
-    placed = h.placed;
-  },
+  carried t u ws vs w v (λ names. (moves_read ws vs names c.attributes.0 m).0),
+  carried u t vs ws v w (λ names. (moves_read ws vs names c.attributes.0 m).1),
 ) where
-  read_of : (t : List ℕ) (ws : List (List ℕ)) (names : List Name) → Words t ws
-      → TextRead t names c.attributes.0
-      → WordsRead ws names c.attributes.0
-  read_of t ws names w r =
-      subst (λ (ws : List (List ℕ)). WordsRead ws names c.attributes.0)
-      (words_only r.cut ∙ sym (words_only w)) r.read
-
-  text_of : (t : List ℕ) (ws : List (List ℕ)) (names : List Name) → Words t ws
-      → WordsRead ws names c.attributes.0
-      → TextRead t names c.attributes.0
-  text_of t ws names w r = record { words = ws; cut = w; read = r }
+  carried : (t u : List ℕ) (ws vs : List (List ℕ)) → Words t ws → Words u vs
+      → ((names : List Name) → WordsRead ws names c.attributes.0 → WordsRead vs names c.attributes.0)
+      → ColorText t c → ColorText u c
+  carried t u ws vs w v reads h =
+      let read = rw (words_only h.read.cut ∙ sym (words_only w)) at h.read.read in
+      record {
+        names = h.names;
+        read = record { words = vs; cut = v; read = reads h.names read };
+        placed = h.placed;
+      }

@@ -1,7 +1,7 @@
 -- Words of printing ASCII bytes. They contain no white space, so a text that joins them by spaces has these
 -- words.
 use Rattle.std.proofs.Common.{◌≡◌, ℕ, ◌≤◌, inl, inr, Bool, true, false, ◌&&◌, codes, nat_le, List, [], ◌∷◌}
-use Rattle.std.proofs.Common.{◌++◌, Option, Some, None, refl, ◌∙◌, arith}
+use Rattle.std.proofs.Common.{None, refl, append_assoc, arith}
 use Rattle.std.specs.List.{AllByRecursion, join_with_byte, list_all}
 use Rattle.std.specs.Str.Parse.{AllDigits}
 use Rattle.std.proofs.lemmas.Bool.{and_from, and_parts}
@@ -15,7 +15,7 @@ use Rattle.config_text.specs.OneOf.{OneOf}
 use Rattle.config_text.specs.Laws.OneOf.{all-one}
 use Rattle.config_color.specs.Laws.Space.{start_not}
 use Rattle.config_color.specs.Reading.Split.{after_space, last_cut, words}
-use Rattle.config_color.specs.Laws.Split.{after_space_is, words_none, words_joined, space_byte}
+use Rattle.config_color.specs.Laws.Split.{after_space_is, option_told, words_none, words_joined, space_byte}
 
 -- a plain byte: a printing ASCII byte other than the space
 abbrev pub is_plain : ℕ → Bool
@@ -36,13 +36,14 @@ range_plain b l h =
 
 -- no white space begins at a plain byte
 not_before : (x : ℕ) (text : List ℕ) → is_plain x ≡ true → after_space (x ∷ text) ≡ None
-not_before x text h = told (after_space (x ∷ text)) refl where
-  told : (o : Option (List ℕ)) → after_space (x ∷ text) ≡ o → after_space (x ∷ text) ≡ None
-  told None e = e
-  told (Some r) e =
-      let k = after_space_is (x ∷ text) r e in
-      let range = plain_range x h in
-      absurd (start_not (x ∷ text) (omega (arith, range.0)) (omega (arith, range.1)) k.0 r k.1 k.2)
+not_before x text h =
+    elim (option_told (after_space (x ∷ text))) [
+      | inl e ↦ e
+      | inr (rest, e) ↦
+          let k = after_space_is (x ∷ text) rest e in
+          let range = plain_range x h in
+          absurd (start_not (x ∷ text) (omega (arith, range.0)) (omega (arith, range.1)) k.0 rest k.1 k.2)
+    ]
 
 plain_uncut : (text : List ℕ) → list_all is_plain text ≡ true → last_cut text ≡ None
 plain_uncut [] h = refl
@@ -61,22 +62,18 @@ words_spaced [] h = words_none [] refl
 words_spaced (w ∷ []) h = plain_word w (and_parts (is_plain_word w) true h).0
 words_spaced (w ∷ v ∷ ws) h =
     let k = and_parts (is_plain_word w) (list_all is_plain_word (v ∷ ws)) h in
-    words_joined w (codes " ") (join_with_byte space (v ∷ ws)) space_byte
-    ∙ rw (plain_word w k.0, words_spaced (v ∷ ws) k.1) refl
-
-pub all_plain_append : (xs ys : List (List ℕ)) → list_all is_plain_word xs ≡ true
-    → list_all is_plain_word ys ≡ true
-    → list_all is_plain_word (xs ++ ys) ≡ true
-all_plain_append [] ys p q = q
-all_plain_append (x ∷ xs) ys p q =
-    let k = and_parts (is_plain_word x) (list_all is_plain_word xs) p in
-    and_from (is_plain_word x) (list_all is_plain_word (xs ++ ys)) k.0 (all_plain_append xs ys k.1 q)
+    rw (
+      ← (append_assoc w (codes " ") (join_with_byte space (v ∷ ws))),
+      words_joined,
+      plain_word w k.0,
+      words_spaced (v ∷ ws) k.1,
+      space_byte,
+    )
 
 chosen_all_plain : (rows ws : List (List ℕ)) → list_all is_plain_word rows ≡ true → Chosen rows ws
     → list_all is_plain_word ws ≡ true
-chosen_all_plain [] [] h c = refl
+chosen_all_plain rows [] h c = refl
 chosen_all_plain [] (w ∷ ws) h c = absurd c
-chosen_all_plain (row ∷ rows) [] h c = refl
 chosen_all_plain (row ∷ rows) (w ∷ ws) h (inl c) =
     let k = and_parts (is_plain_word row) (list_all is_plain_word rows) h in
     and_from (is_plain_word w) (list_all is_plain_word ws) (rw (c.0) k.0) (chosen_all_plain rows ws k.1 c.1)

@@ -2,6 +2,7 @@
 use Rattle.std.proofs.Common.{◌≡◌, refl, sym, ap, ◌∙◌, subst, arith, ℕ, ℤ, ◌<◌, ◌≤◌, ◌⊎◌, inl, inr}
 use Rattle.std.proofs.Common.{Bool, true, false, cond, List, [], ◌∷◌, ◌++◌, append_assoc, get_or, drop}
 use Rattle.std.proofs.Common.{Option, Some, None}
+use Rattle.std.proofs.lemmas.Bool.{eqb-true}
 use Rattle.std.proofs.lemmas.Bool.Decides.{nat_tests}
 use Rattle.std.proofs.lemmas.Int.{ints}
 use Rattle.std.proofs.lemmas.Option.{none-some, same_Some}
@@ -70,9 +71,6 @@ first_byte : (t : List ℕ) (c : ℕ) → get_or t 0 0 ≡ c → 0 < c → t ≡
 first_byte [] c e p = absurd (omega arith)
 first_byte (d ∷ ds) c e p = ap (λ x. x ∷ ds) e
 
-is_byte : (c d : ℕ) → (c == d) ≡ true → c ≡ d
-is_byte c d e = grind (arith, nat_tests)
-
 integer_derived : (t : List ℕ) (v : Integer) → integer_of t ≡ Some v → IntegerText t v
 integer_derived t v e = signed (get_or t 0 0 == 45) (get_or t 0 0 == 43) refl refl e where
   derived : (b : Bool) (m front : List ℕ) → t ≡ front ++ m
@@ -85,7 +83,7 @@ integer_derived t v e = signed (get_or t 0 0 == 45) (get_or t 0 0 == 43) refl re
         front = front ++ u.front;
         back = u.back;
         parts = parts ∙ ap (λ l. front ++ l) u.parts ∙ sym (append_assoc front u.front u.back);
-        number = record { signed = is u.front k.0.0 u.magnitude; in_range = in_range_of b k.0.0 u.small };
+        number = record { signed = is u.front k.0.0 u.writes; in_range = in_range_of b k.0.0 u.small };
         unit = u.unit;
       }
 
@@ -93,10 +91,10 @@ integer_derived t v e = signed (get_or t 0 0 == 45) (get_or t 0 0 == 43) refl re
       → integer_after (cond b (true, drop 1 t) (cond d (false, drop 1 t) (false, t))) ≡ Some v
       → IntegerText t v
   signed true d p q e =
-      derived true (drop 1 t) (45 ∷ []) (first_byte t 45 (is_byte _ 45 p) (omega arith))
+      derived true (drop 1 t) (45 ∷ []) (first_byte t 45 (eqb-true _ 45 p) (omega arith))
       (λ l n m. minus l n refl m refl) e
   signed false true p q e =
-      derived false (drop 1 t) (43 ∷ []) (first_byte t 43 (is_byte _ 43 q) (omega arith))
+      derived false (drop 1 t) (43 ∷ []) (first_byte t 43 (eqb-true _ 43 q) (omega arith))
       (λ l n m. plus l n refl m refl) e
   signed false false p q e = derived false t [] refl (λ l n m. plain n m refl) e
 

@@ -2,6 +2,8 @@
 use Rattle.std.proofs.Common.{◌≡◌, ◌≢◌, refl, sym, ap, ◌∙◌, subst, arith, ℕ, ◌+◌, ◌*◌, ◌<◌, ◌≤◌, ◌⊎◌, inl}
 use Rattle.std.proofs.Common.{inr}
 use Rattle.std.proofs.Common.{Bool, true, false, cond, List, [], ◌∷◌, ◌++◌, get_or, drop, Option, Some, None}
+use Rattle.std.proofs.Common.{append_assoc}
+use Rattle.std.proofs.lemmas.Bool.{cases_Bool, eq-eqb, eqb-true, leb-true, ltb-true}
 use Rattle.std.proofs.lemmas.Bool.Decides.{nat_tests}
 use Rattle.std.proofs.lemmas.Option.{none-some, some_pair_parts}
 use Rattle.std.proofs.lemmas.Str.Parse.{digit_from_value}
@@ -68,59 +70,59 @@ number_from_found base limit l h (c ∷ cs) n back o digits small unit =
           → number_from base limit n ((c ∷ cs) ++ back) ≡ Some (digits_value_after base m cs, o)
       step m is ge e = grind (arith, nat_tests, digits.0)
 
--- the text has digits that continue `n` to `m`, which is at most `limit`, and then nothing or a suffix
-record DigitsText (base limit n : ℕ) (t : List ℕ) (m : ℕ) (o : Option Suffix) : Type 0 where
-  front : List ℕ
-  back : List ℕ
-  parts : t ≡ front ++ back
-  digits : AllDigits base front
-  number : m ≡ digits_value_after base n front
-  small : m ≤ limit
-  unit : SuffixIfAny back o
+-- the text begins with what writes the number `m`, which is at most `limit`, and then has nothing or a suffix
+pub record NumberRead (Writes : List ℕ → Type 0) (limit : ℕ) (t : List ℕ) (m : ℕ)
+    (o : Option Suffix) : Type 0 where
+  pub front : List ℕ
+  pub back : List ℕ
+  pub parts : t ≡ front ++ back
+  pub writes : Writes front
+  pub small : m ≤ limit
+  pub unit : SuffixIfAny back o
 
-longer : (base limit n c m : ℕ) (cs : List ℕ) (o : Option Suffix) → digit_value c < base
-    → DigitsText base limit (n * base + digit_value c) cs m o → DigitsText base limit n (c ∷ cs) m o
-longer base limit n c m cs o d k = record {
-  front = c ∷ k.front;
+-- such a text after further bytes
+after : {P Q : List ℕ → Type 0} {limit m : ℕ} {t : List ℕ} {o : Option Suffix} (bytes : List ℕ)
+    (k : NumberRead P limit t m o) → Q (bytes ++ k.front) → NumberRead Q limit (bytes ++ t) m o
+after bytes k writes = record {
+  front = bytes ++ k.front;
   back = k.back;
-  parts = ap (λ l. c ∷ l) k.parts;
-  digits = (d, k.digits);
-  number = k.number;
+  parts = ap (λ l. bytes ++ l) k.parts ∙ sym (append_assoc bytes k.front k.back);
+  writes = writes;
   small = k.small;
   unit = k.unit;
 }
 
+-- the text has digits that continue `n` to `m`
+abbrev DigitsText : ℕ → ℕ → ℕ → List ℕ → ℕ → Option Suffix → Type 0
+DigitsText base limit n t m o =
+    NumberRead (λ ds. AllDigits base ds × (m ≡ digits_value_after base n ds)) limit t m o
+
 no_more_digits : (base limit n m : ℕ) (t : List ℕ) (u o : Option Suffix) → n ≤ limit → (n ≡ m) × (u ≡ o)
     → SuffixIfAny t u
     → DigitsText base limit n t m o
-no_more_digits base limit n m t u o small same unit = record {
-  front = [];
-  back = t;
-  parts = refl;
-  digits = tt;
-  number = sym same.0;
-  small = subst (λ x. x ≤ limit) same.0 small;
-  unit = subst (SuffixIfAny t) same.1 unit;
-}
+no_more_digits base limit n m t u o small same unit = rw (← same.0, ← same.1)
+    record { front = []; back = t; parts = refl; writes = (tt, refl); small = small; unit = unit }
 
 number_from_derived : (base limit : ℕ) (t : List ℕ) (n m : ℕ) (o : Option Suffix) → n ≤ limit
     → number_from base limit n t ≡ Some (m, o) → DigitsText base limit n t m o
 number_from_derived base limit [] n m o small e =
     no_more_digits base limit n m [] None o small (some_pair_parts n m None o e) refl
 number_from_derived base limit (c ∷ cs) n m o small e =
-    turn (n * base + digit_value c) refl _ _ _ refl refl refl e
-    (λ k l h. number_from_derived base limit cs k m o l h) where
-      turn : (k : ℕ) → k ≡ n * base + digit_value c → (b d : Bool) (r : Option Suffix)
-          → nat_lt (digit_value c) base ≡ b → nat_le k limit ≡ d → suffix_of (c ∷ cs) ≡ r
-          → cond b (cond d (number_from base limit k cs) None) (option_map (λ s. (n, Some s)) r) ≡ Some (m, o)
-          → ((k : ℕ) → k ≤ limit → number_from base limit k cs ≡ Some (m, o) → DigitsText base limit k cs m o)
+    elim (cases_Bool (nat_lt (digit_value c) base)) [
+      | inl p ↦ elim (cases_Bool (nat_le (n * base + digit_value c) limit)) [
+        | inl q ↦
+            let k = number_from_derived base limit cs (n * base + digit_value c) m o (leb-true _ limit q)
+            (rw (p, q) at e) in
+            after (c ∷ []) k ((ltb-true _ base p, k.writes.0), k.writes.1)
+        | inr q ↦ absurd (none-some _ (rw (p, q) at e))
+      ]
+      | inr p ↦ at_suffix (suffix_of (c ∷ cs)) refl (rw p at e)
+    ] where
+      at_suffix : (r : Option Suffix) → suffix_of (c ∷ cs) ≡ r
+          → option_map {U = ℕ × Option Suffix} (λ s. (n, Some s)) r ≡ Some (m, o)
           → DigitsText base limit n (c ∷ cs) m o
-      turn k is true true r p q u e more =
-          longer base limit n c m cs o (grind (arith, nat_tests))
-          (subst (λ x. DigitsText base limit x cs m o) is (more k (grind (arith, nat_tests)) e))
-      turn k is true false r p q u e more = absurd (none-some _ e)
-      turn k is false d None p q u e more = absurd (none-some _ e)
-      turn k is false d (Some s) p q u e more =
+      at_suffix None u e = absurd (none-some _ e)
+      at_suffix (Some s) u e =
           no_more_digits base limit n m (c ∷ cs) (Some s) o small (some_pair_parts n m (Some s) o e)
           (suffix_of_is.derived (c ∷ cs) s u)
 
@@ -137,35 +139,21 @@ number_found base limit l h (c ∷ cs) back o digits small unit =
       first : {r : Option (ℕ × Option Suffix)} (b : Bool) → b ≡ true → cond b r None ≡ r
       first b e = rw e refl
 
--- the text is a numeral of at most `limit`, and then nothing or a suffix
-record NumeralText (base limit : ℕ) (t : List ℕ) (m : ℕ) (o : Option Suffix) : Type 0 where
-  front : List ℕ
-  back : List ℕ
-  parts : t ≡ front ++ back
-  digits : IsNumeral base front
-  number : m ≡ place_sum front base
-  small : m ≤ limit
-  unit : SuffixIfAny back o
+-- the text begins with a numeral
+abbrev NumeralText : ℕ → ℕ → List ℕ → ℕ → Option Suffix → Type 0
+NumeralText base limit t m o = NumberRead (λ ds. IsNumeral base ds × (m ≡ place_sum ds base)) limit t m o
 
 number_derived : (base limit : ℕ) → base ≤ 16 → (t : List ℕ) (m : ℕ) (o : Option Suffix)
     → number_and_suffix base limit t ≡ Some (m, o) → NumeralText base limit t m o
 number_derived base limit h [] m o e = absurd (none-some _ e)
 number_derived base limit h (c ∷ cs) m o e = first (nat_lt (digit_value c) base) refl e where
   whole : digit_value c < base → DigitsText base limit 0 (c ∷ cs) m o → NumeralText base limit (c ∷ cs) m o
-  whole d k = from k.front k.parts k.digits k.number where
+  whole d k = after [] k (from k.front k.parts k.writes.0 k.writes.1) where
     from : (front : List ℕ) → c ∷ cs ≡ front ++ k.back → AllDigits base front
         → m ≡ digits_value_after base 0 front
-        → NumeralText base limit (c ∷ cs) m o
-    from [] p ds n = absurd (no_digit c cs o (subst (λ l. SuffixIfAny l o) (sym p) k.unit) (omega arith))
-    from (f ∷ fs) p ds n = record {
-      front = f ∷ fs;
-      back = k.back;
-      parts = p;
-      digits = (omega arith, ds);
-      number = n ∙ sym (place_sum_is base (f ∷ fs));
-      small = k.small;
-      unit = k.unit;
-    }
+        → IsNumeral base front × (m ≡ place_sum front base)
+    from [] p ds n = absurd (no_digit c cs o (rw p k.unit) (omega arith))
+    from (f ∷ fs) p ds n = ((omega arith, ds), n ∙ sym (place_sum_is base (f ∷ fs)))
 
   first : (b : Bool) → nat_lt (digit_value c) base ≡ b
       → cond b (number_from base limit 0 (c ∷ cs)) None ≡ Some (m, o)
@@ -263,38 +251,15 @@ magnitude_found limit front back n o (binary ds m a s) small unit =
     rw k.1 (numeral_found limit (48 ∷ k.0 ∷ (ds ++ back)) ds back 2 n o (omega arith) (omega arith)
     (binary_base (48 ∷ k.0 ∷ (ds ++ back)) refl k.2) a s small unit)
 
--- the text is a magnitude of at most `limit`, and then nothing or a suffix
-pub record MagnitudeText (limit : ℕ) (t : List ℕ) (n : ℕ) (o : Option Suffix) : Type 0 where
-  pub front : List ℕ
-  pub back : List ℕ
-  pub parts : t ≡ front ++ back
-  pub magnitude : Magnitude front n
-  pub small : n ≤ limit
-  pub unit : SuffixIfAny back o
-
--- a numeral after the two bytes that mark its base
-marked_read : (base limit z : ℕ) (ds : List ℕ) (n : ℕ) (o : Option Suffix) (k : NumeralText base limit ds n o)
-    → Magnitude (48 ∷ z ∷ k.front) n → MagnitudeText limit (48 ∷ z ∷ ds) n o
-marked_read base limit z ds n o k is = record {
-  front = 48 ∷ z ∷ k.front;
-  back = k.back;
-  parts = ap (λ l. 48 ∷ z ∷ l) k.parts;
-  magnitude = is;
-  small = k.small;
-  unit = k.unit;
-}
-
--- a numeral that is a whole magnitude
-plain_read : (base limit : ℕ) (t : List ℕ) (n : ℕ) (o : Option Suffix) (k : NumeralText base limit t n o)
-    → Magnitude k.front n → MagnitudeText limit t n o
-plain_read base limit t n o k is =
-    record { front = k.front; back = k.back; parts = k.parts; magnitude = is; small = k.small; unit = k.unit }
+-- the text begins with a magnitude
+abbrev pub MagnitudeText : ℕ → List ℕ → ℕ → Option Suffix → Type 0
+MagnitudeText limit t n o = NumberRead (λ front. Magnitude front n) limit t n o
 
 octal_read : (limit : ℕ) (t : List ℕ) (n : ℕ) (o : Option Suffix) → get_or t 0 0 ≡ 48
     → NumeralText 8 limit t n o
     → MagnitudeText limit t n o
 octal_read limit t n o z k =
-    plain_read 8 limit t n o k (from k.front k.digits k.number (rw k.parts at z)) where
+    after [] k (from k.front k.writes.0 k.writes.1 (rw k.parts at z)) where
       from : (front : List ℕ) → IsNumeral 8 front → n ≡ place_sum front 8 → get_or (front ++ k.back) 0 0 ≡ 48
           → Magnitude front n
       from [] a s z = absurd (omega (arith, a.0))
@@ -307,7 +272,7 @@ decimal_read : (limit : ℕ) (t : List ℕ) (n : ℕ) (o : Option Suffix) → ge
     → NumeralText 10 limit t n o
     → MagnitudeText limit t n o
 decimal_read limit t n o z k =
-    plain_read 10 limit t n o k (from k.front k.digits k.number (λ e. z (rw k.parts e))) where
+    after [] k (from k.front k.writes.0 k.writes.1 (λ e. z (rw k.parts e))) where
       from : (front : List ℕ) → IsNumeral 10 front → n ≡ place_sum front 10
           → get_or (front ++ k.back) 0 0 ≢ 48
           → Magnitude front n
@@ -317,15 +282,8 @@ decimal_read limit t n o z k =
         range c d z = grind (arith, nat_tests, digit_from_value c d)
 
 two_bytes : (t : List ℕ) (c : ℕ) → get_or t 1 0 ≡ c → get_or t 0 0 ≡ 48 → 0 < c → t ≡ 48 ∷ c ∷ drop 2 t
-two_bytes [] c e z p = absurd (omega arith)
-two_bytes (b ∷ []) c e z p = absurd (omega arith)
 two_bytes (b ∷ d ∷ ds) c e z p = rw (z, e) refl
-
-is_zero : (c : ℕ) → (c == 48) ≡ true → c ≡ 48
-is_zero c e = grind (arith, nat_tests)
-
-no_zero : (c : ℕ) → (c == 48) ≡ false → c ≢ 48
-no_zero c e = grind (arith, nat_tests)
+two_bytes t c e z p = absurd (omega arith)
 
 one_of : (x y z : ℕ) → (x == y || x == z) ≡ true → (x ≡ y) ⊎ (x ≡ z)
 one_of x y z e = grind (arith, nat_tests)
@@ -339,10 +297,9 @@ pub magnitude_derived : (limit : ℕ) (t : List ℕ) (n : ℕ) (o : Option Suffi
     → MagnitudeText limit t n o
 magnitude_derived limit t n o e =
     turn (get_or t 1 0) refl (get_or t 0 0 == 48) _ _ refl refl refl e where
-      after : (c x y : ℕ) → get_or t 1 0 ≡ c → get_or t 0 0 ≡ 48 → (c ≡ x) ⊎ (c ≡ y) → 0 < x → 0 < y
+      behind : (c x y : ℕ) → get_or t 1 0 ≡ c → get_or t 0 0 ≡ 48 → (c ≡ x) ⊎ (c ≡ y) → 0 < x → 0 < y
           → MagnitudeText limit (48 ∷ c ∷ drop 2 t) n o → MagnitudeText limit t n o
-      after c x y is z m p q k =
-          subst (λ l. MagnitudeText limit l n o) (sym (two_bytes t c is z (positive c x y m p q))) k
+      behind c x y is z m p q k = rw (two_bytes t c is z (positive c x y m p q)) k
 
       turn : (c : ℕ) → get_or t 1 0 ≡ c → (z x b : Bool)
           → (get_or t 0 0 == 48) ≡ z → (c == 120 || c == 88) ≡ x → (c == 98 || c == 66) ≡ b
@@ -352,19 +309,18 @@ magnitude_derived limit t n o e =
       turn c is true true b p q r e =
           let m = one_of c 120 88 q in
           let k = number_derived 16 limit (omega arith) (drop 2 t) n o e in
-          after c 120 88 is (is_zero _ p) m (omega arith) (omega arith)
-          (marked_read 16 limit c (drop 2 t) n o k
-          (hexadecimal k.front (unmarked k.front c 120 88 m) k.digits k.number))
+          behind c 120 88 is (eqb-true _ 48 p) m (omega arith) (omega arith)
+          (after (48 ∷ c ∷ []) k (hexadecimal k.front (unmarked k.front c 120 88 m) k.writes.0 k.writes.1))
       turn c is true false true p q r e =
           let m = one_of c 98 66 r in
           let k = number_derived 2 limit (omega arith) (drop 2 t) n o e in
-          after c 98 66 is (is_zero _ p) m (omega arith) (omega arith)
-          (marked_read 2 limit c (drop 2 t) n o k
-          (binary k.front (unmarked k.front c 98 66 m) k.digits k.number))
+          behind c 98 66 is (eqb-true _ 48 p) m (omega arith) (omega arith)
+          (after (48 ∷ c ∷ []) k (binary k.front (unmarked k.front c 98 66 m) k.writes.0 k.writes.1))
       turn c is true false false p q r e =
-          octal_read limit t n o (is_zero _ p) (number_derived 8 limit (omega arith) t n o e)
+          octal_read limit t n o (eqb-true _ 48 p) (number_derived 8 limit (omega arith) t n o e)
       turn c is false x b p q r e =
-          decimal_read limit t n o (no_zero _ p) (number_derived 10 limit (omega arith) t n o e)
+          decimal_read limit t n o (λ z. cc (p, eq-eqb _ 48 z))
+          (number_derived 10 limit (omega arith) t n o e)
 
 -- a magnitude begins with a digit
 pub magnitude_first : (t : List ℕ) (n : ℕ) (back : List ℕ) → Magnitude t n

@@ -18,12 +18,7 @@ pub suffix_one_value : (t : List ℕ) (v w : Suffix) → SuffixText t v → Suff
 suffix_one_value t Kibi Kibi p q = refl
 suffix_one_value t Mebi Mebi p q = refl
 suffix_one_value t Gibi Gibi p q = refl
-suffix_one_value t Kibi Mebi p q = grind arith
-suffix_one_value t Kibi Gibi p q = grind arith
-suffix_one_value t Mebi Kibi p q = grind arith
-suffix_one_value t Mebi Gibi p q = grind arith
-suffix_one_value t Gibi Kibi p q = grind arith
-suffix_one_value t Gibi Mebi p q = grind arith
+suffix_one_value t v w p q = grind arith
 
 pub suffix_one_text : (s t : List ℕ) (v : Suffix) → CanonicalSuffix s → CanonicalSuffix t → SuffixText s v
     → SuffixText t v → s ≡ t

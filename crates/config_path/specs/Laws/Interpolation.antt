@@ -1,6 +1,6 @@
 -- Each value has exactly one form, and one result in the path table.
 use Rattle.std.proofs.Common.{◌≡◌, ◌≢◌, inl, inr, ◌⊎◌, ℕ, List, [], ◌∷◌, ◌++◌, codes, Option, None, Some}
-use Rattle.std.proofs.Common.{Result, Bool, true, false, refl, sym, ap, ◌∙◌, subst, arith, drop, IsUtf8, Ok}
+use Rattle.std.proofs.Common.{Result, Bool, true, false, refl, sym, ap, ◌∙◌, subst, arith, drop, IsUtf8}
 use Rattle.std.proofs.Common.{Err, ◌↔◌}
 use Rattle.std.specs.declared.string.String.{String}
 use Rattle.std.specs.declared.alloc.Global.{Global}
@@ -10,9 +10,7 @@ use Rattle.std.specs.declared.alloc.AllocError.{AllocError}
 use Rattle.config_path.specs.declared.interpolate.Place.{Place}
 use Rattle.config_path.specs.declared.interpolate.Place.TheVariants.{Username, Whole}
 use Rattle.config_path.specs.declared.interpolate.Error.{Error}
-use Rattle.config_path.specs.declared.interpolate.Error.TheVariants.{PathMissing, InstallDirMissing}
-use Rattle.config_path.specs.declared.interpolate.Error.TheVariants.{HomeMissing, LookupMissing, UserNotFound}
-use Rattle.config_path.specs.declared.interpolate.Error.TheVariants.{IllFormed, Memory}
+use Rattle.config_path.specs.declared.interpolate.Error.TheVariants.{Memory}
 use Rattle.config_path.specs.Interpolation.{Form, HasForm, below, join, IsOneName, Users, Known, PathResult}
 use Rattle.config_path.specs.Interpolation.{WhereUtf8, Row, home_row, IsBelow, IsBelowUser, Gives, PathTable}
 use Rattle.config_path.specs.Interpolation.{refusal, returned, IsAllocated, Interpolated, HaveOneHome}
@@ -31,15 +29,9 @@ pub record SameBelow (m n : List ℕ) (r s : Option (List ℕ)) : Type 0 where
 same_below : (m n : List ℕ) (r s : Option (List ℕ)) → below m r ≡ below n s → IsOneName m → IsOneName n
     → SameBelow m n r s
 same_below [] [] None None e h k = record { name = refl; rest = refl }
-same_below [] [] None (Some s) e h k = absurd (grind arith)
-same_below [] [] (Some r) None e h k = absurd (grind arith)
 same_below [] [] (Some r) (Some s) e h k = record { name = refl; rest = cc }
-same_below [] (y ∷ n) None None e h k = absurd (grind arith)
-same_below [] (y ∷ n) None (Some s) e h k = absurd (grind arith)
 same_below [] (y ∷ n) (Some r) None e h k = absurd (k.0 (cc))
 same_below [] (y ∷ n) (Some r) (Some s) e h k = absurd (k.0 (cc))
-same_below (x ∷ m) [] None None e h k = absurd (grind arith)
-same_below (x ∷ m) [] (Some r) None e h k = absurd (grind arith)
 same_below (x ∷ m) [] None (Some s) e h k = absurd (h.0 (cc))
 same_below (x ∷ m) [] (Some r) (Some s) e h k = absurd (h.0 (cc))
 same_below (x ∷ m) (y ∷ n) r s e h k =
@@ -56,6 +48,7 @@ same_below (x ∷ m) (y ∷ n) r s e h k =
       heads None (Some s) e = cc
       heads (Some r) None e = cc
       heads (Some r) (Some s) e = cc
+same_below m n r s e h k = absurd (grind arith)
 
 same_rest : (r s : Option (List ℕ)) → below [] r ≡ below [] s → r ≡ s
 same_rest r s e = (same_below [] [] r s e tt tt).rest
@@ -66,23 +59,13 @@ one_tail value t u p q = cc
 -- a value has at most one form
 pub one_form : (value : List ℕ) (f g : Form) → HasForm value f → HasForm value g → f ≡ g
 one_form value empty empty p q = refl
-one_form value empty (below_prefix s) p q = absurd (grind arith)
-one_form value empty (below_home s) p q = absurd (grind arith)
-one_form value empty (below_user n s) p q = let e = q.0 in absurd (grind arith)
 one_form value empty (other w) p q = absurd (q.1 p)
-one_form value (below_prefix r) empty p q = absurd (grind arith)
 one_form value (below_prefix r) (below_prefix s) p q = ap below_prefix (cc)
-one_form value (below_prefix r) (below_home s) p q = absurd (grind arith)
-one_form value (below_prefix r) (below_user n s) p q = let e = q.0 in absurd (grind arith)
 one_form value (below_prefix r) (other w) p q = absurd (q.2 r p)
-one_form value (below_home r) empty p q = absurd (grind arith)
-one_form value (below_home r) (below_prefix s) p q = absurd (grind arith)
 one_form value (below_home r) (below_home s) p q = ap below_home (same_rest r s (one_tail _ _ _ p q))
 one_form value (below_home r) (below_user n s) p q =
     absurd (q.1 (sym (same_below [] n r s (one_tail _ _ _ p q.0) tt q.2).name))
 one_form value (below_home r) (other w) p q = absurd (q.3 _ p)
-one_form value (below_user m r) empty p q = let e = p.0 in absurd (grind arith)
-one_form value (below_user m r) (below_prefix s) p q = let e = p.0 in absurd (grind arith)
 one_form value (below_user m r) (below_home s) p q =
     absurd (p.1 (same_below m [] r s (one_tail _ _ _ p.0 q) p.2 tt).name)
 one_form value (below_user m r) (below_user n s) p q =
@@ -93,6 +76,7 @@ one_form value (other w) (below_prefix s) p q = absurd (p.2 s q)
 one_form value (other w) (below_home s) p q = absurd (p.3 _ q)
 one_form value (other w) (below_user n s) p q = absurd (p.3 _ q.0)
 one_form value (other w) (other v) p q = ap other (p.0 ∙ sym q.0)
+one_form value f g p q = absurd (grind arith)
 
 -- a text is a name, or a name, a `/` and a rest
 some_below : (t : List ℕ)
@@ -181,10 +165,9 @@ pub one_row : (known : Known) → HaveOneHome known.users → (form : Form) (r s
     → Gives known form r
     → Gives known form s → r ≡ s
 one_row known one empty r s p q = p ∙ sym q
-one_row known one (below_prefix rest) r s p q = one_below _ r s p q
-one_row known one (below_home rest) r s p q = one_below _ r s p q
 one_row known one (below_user name rest) r s p q = one_user known.users one name rest r s p q
 one_row known one (other value) r s p q = one_where Whole value _ _ r s (λ e f. e ∙ sym f) p q
+one_row known one form r s p q = one_below _ r s p q
 
 -- a value has at most one result
 pub one_result_of : (known : Known) → HaveOneHome known.users → (value : List ℕ) (r s : PathResult)
@@ -214,10 +197,9 @@ user_memory (looked_up may_give) name rest e w =
 
 row_memory : (known : Known) (form : Form) (e : AllocError) → ¬ (Gives known form (fault (Memory e)))
 row_memory known empty e h = cc (h)
-row_memory known (below_prefix rest) e h = below_memory _ e (λ k. cc (k)) h
-row_memory known (below_home rest) e h = below_memory _ e (λ k. cc (k)) h
 row_memory known (below_user name rest) e h = user_memory known.users name rest e h
 row_memory known (other value) e h = where_memory Whole value _ e (λ k. cc (k)) h
+row_memory known form e h = below_memory _ e (λ k. cc (k)) h
 
 pub never_memory : (known : Known) (value : List ℕ) (e : AllocError)
     → ¬ (PathTable known value (fault (Memory e)))
@@ -228,36 +210,19 @@ never_memory known value e p = row_memory known p.form e p.gives
 -- an error of the table is returned as it is
 pub returned_error : (known : Known) (value : List ℕ) (e : Error) → PathTable known value (refusal e)
     → Interpolated known value (Err e)
-returned_error known value PathMissing p = record { result = _; table = p; allocated = refl }
-returned_error known value InstallDirMissing p = record { result = _; table = p; allocated = refl }
-returned_error known value HomeMissing p = record { result = _; table = p; allocated = refl }
-returned_error known value LookupMissing p = record { result = _; table = p; allocated = refl }
-returned_error known value UserNotFound p = record { result = _; table = p; allocated = refl }
-returned_error known value (IllFormed place input) p = record { result = _; table = p; allocated = refl }
 returned_error known value (Memory e) p = absurd (never_memory known value e p)
+returned_error known value e p = record { result = _; table = p; allocated = refl }
 
 is_returned : (result : PathResult) (r : Result (String Global) Error) → IsAllocated result r
     → ¬ (IsOutOfMemory r) → result ≡ returned r
-is_returned result (Ok s) p n = p
-is_returned result (Err PathMissing) p n = p
-is_returned result (Err InstallDirMissing) p n = p
-is_returned result (Err HomeMissing) p n = p
-is_returned result (Err LookupMissing) p n = p
-is_returned result (Err UserNotFound) p n = p
-is_returned result (Err (IllFormed place input)) p n = p
 is_returned result (Err (Memory e)) p n = absurd (n tt)
+is_returned result r p n = p
 
 -- the result is `Memory` or it is not
 by_memory : (r : Result (String Global) Error) → ((e : AllocError) × (r ≡ Err (Memory e)))
     ⊎ (¬ (IsOutOfMemory r))
-by_memory (Ok s) = inr (λ h. h)
-by_memory (Err PathMissing) = inr (λ h. h)
-by_memory (Err InstallDirMissing) = inr (λ h. h)
-by_memory (Err HomeMissing) = inr (λ h. h)
-by_memory (Err LookupMissing) = inr (λ h. h)
-by_memory (Err UserNotFound) = inr (λ h. h)
-by_memory (Err (IllFormed place input)) = inr (λ h. h)
 by_memory (Err (Memory e)) = inl (e, refl)
+by_memory r = inr (λ h. h)
 
 pub one_returned : (known : Known) → HaveOneHome known.users
     → (value : List ℕ) (r s : Result (String Global) Error)
@@ -290,8 +255,5 @@ by_lookup install_dir home_dir P Q more value r p =
       row : (form : Form) → Gives (record { install_dir = install_dir; home_dir = home_dir; users = looked_up P })
           form r
           → Gives (record { install_dir = install_dir; home_dir = home_dir; users = looked_up Q }) form r
-      row empty g = g
-      row (below_prefix rest) g = g
-      row (below_home rest) g = g
       row (below_user name rest) g = where_more Username name _ _ r (λ u h. (h.0, more name h.0 u h.1, h.2)) g
-      row (other whole) g = g
+      row form g = g

@@ -1,11 +1,11 @@
 -- The laws of `Value` for attributes, and how several attributes are shown.
 use Rattle.std.proofs.Common.{◌≡◌, ℕ, zero, suc, ◌+◌, ◌*◌, ◌^◌, ◌<◌, ◌≤◌, ◌⊎◌, ◌↔◌, inl, inr, Bool, true}
-use Rattle.std.proofs.Common.{false, cond, ◌||◌, List, [], ◌∷◌, ◌++◌, map, filter, flat_map, length, take}
+use Rattle.std.proofs.Common.{false, List, [], ◌∷◌, ◌++◌, map, filter, flat_map, length, take}
 use Rattle.std.proofs.Common.{drop, codes, refl, sym, ap, ◌∙◌, arith, lit≤, ◌==◌, nat_le, bit_and}
 use Rattle.std.proofs.Common.{bytes_eq, IsTrue, slice_index_or}
 use Rattle.std.proofs.Math.Bool.{or-true}
-use Rattle.std.proofs.lemmas.Bool.{and_parts, leb-true}
-use Rattle.std.proofs.lemmas.Bool.Decides.{Decides-eqb, nat_tests}
+use Rattle.std.proofs.lemmas.Bool.{and_parts, cases_Bool, leb-true}
+use Rattle.std.proofs.lemmas.Bool.Decides.{Decides-eqb, eqb_tells, nat_tests}
 use Rattle.std.proofs.lemmas.Grind.{flat_map-append}
 use Rattle.std.proofs.lemmas.List.{append-nil, length-append, map-append, take-append-drop}
 use Rattle.std.proofs.lemmas.List.Elements.{filter-append}
@@ -137,19 +137,8 @@ bit_test-of k (suc zero) h = let e : 1 * 2 ^ k ≡ 2 ^ k = omega arith in grind 
 bit_test-of k (suc (suc b)) h = absurd (omega arith)
 
 -- the test that the code makes is true exactly if the bit is set
-bit_test : (bits k : ℕ) → (bit_and bits (2 ^ k) == 2 ^ k) ≡ (bit_at bits k == 1)
+pub bit_test : (bits k : ℕ) → (bit_and bits (2 ^ k) == 2 ^ k) ≡ (bit_at bits k == 1)
 bit_test bits k = ap (λ n. n == 2 ^ k) (and_pow bits k) ∙ bit_test-of k (bit_at bits k) (bit_at-lt bits k)
-
--- one more row, whose bit is in the set or not
-words_in-step : (x y : Bool) (p : ℕ × List ℕ) (row : AttributeRow) (ps : List (ℕ × List ℕ))
-    (rows : List AttributeRow) → x ≡ y → p.1 ≡ row.2
-    → map (λ (q : ℕ × List ℕ). q.1) ps ≡ map (λ (r : AttributeRow). r.2) rows
-    → map (λ (q : ℕ × List ℕ). q.1) (cond x (p ∷ ps) ps)
-    ≡ map (λ (r : AttributeRow). r.2) (cond y (row ∷ rows) rows)
-words_in-step true true p row ps rows e f rest = λ i. f i ∷ rest i
-words_in-step false false p row ps rows e f rest = rest
-words_in-step true false p row ps rows e f rest = cc
-words_in-step false true p row ps rows e f rest = cc
 
 -- the words that the code writes are those of the bits that are set
 words_in-rows : (bits : ℕ) (rows : List AttributeRow)
@@ -157,8 +146,11 @@ words_in-rows : (bits : ℕ) (rows : List AttributeRow)
     ≡ map (λ row. row.2) (filter (λ row. bit_at bits row.1 == 1) rows)
 words_in-rows bits [] = refl
 words_in-rows bits (row ∷ rows) =
-    words_in-step (bit_and bits (2 ^ row.1) == 2 ^ row.1) (bit_at bits row.1 == 1) (2 ^ row.1, row.2) row _ _
-    (bit_test bits row.1) refl (words_in-rows bits rows)
+    let rest = words_in-rows bits rows in
+    rw (bit_test bits row.1) (elim (cases_Bool (bit_at bits row.1 == 1)) [
+      | inl e ↦ rw e (ap (λ ws. row.2 ∷ ws) rest)
+      | inr e ↦ rw e rest
+    ])
 
 -- the words that the code writes are those that are shown
 pub words_in-shown : (bits : ℕ) → words_in bits shown_rows ≡ attribute_words bits
@@ -171,10 +163,7 @@ shown-remaining bits = join-remaining (attribute_words bits) ∙ ap (remaining t
 -- the words of two lists of rows are those of the first, then those of the second
 words_in-append : (bits : ℕ) (xs ys : List (ℕ × List ℕ))
     → words_in bits (xs ++ ys) ≡ words_in bits xs ++ words_in bits ys
-words_in-append bits xs ys =
-    let p : ℕ × List ℕ → Bool = λ row. bit_and bits row.0 == row.0 in
-    ap (map (λ (row : ℕ × List ℕ). row.1)) (filter-append p xs ys)
-    ∙ map-append (λ (row : ℕ × List ℕ). row.1) (filter p xs) (filter p ys)
+words_in-append bits xs ys = rw (filter-append, map-append)
 
 -- the words of the first rows and of the others are those that are shown
 pub both_parts : (bits n : ℕ) (rows front back : List Shown) → map shown_row rows ≡ shown_rows
@@ -182,12 +171,14 @@ pub both_parts : (bits n : ℕ) (rows front back : List Shown) → map shown_row
     → remaining true (words_in bits (map shown_row front) ++ words_in bits (map shown_row back))
     ≡ attribute_shown bits
 both_parts bits n rows front back h f b =
-    let whole : front ++ back ≡ rows = ap (λ part. part ++ back) f ∙ ap (λ part. take n rows ++ part) b
-    ∙ take-append-drop n rows in
-    ap (remaining true) (sym (words_in-append bits (map shown_row front) (map shown_row back)))
-    ∙ ap (λ all. remaining true (words_in bits all))
-    (sym (map-append shown_row front back) ∙ ap (map shown_row) whole ∙ h)
-    ∙ sym (shown-remaining bits)
+    rw (
+      ← (words_in-append bits (map shown_row front) (map shown_row back)),
+      ← (map-append shown_row front back),
+      f,
+      b,
+      take-append-drop,
+      h,
+    ) (sym (shown-remaining bits))
 
 -- words have no more bytes than the same words with further ones
 pub remaining-prefix : (begins : Bool) (xs ys : List (List ℕ))
@@ -205,21 +196,17 @@ pub remaining-none : (begins : Bool) → remaining begins [] ≡ []
 remaining-none true = refl
 remaining-none false = refl
 
--- one more row, which is left out or not
-spaced-step : (x : Bool) (w : List ℕ) (row : AttributeRow) (rows all : List AttributeRow)
-    → length (spaced (map (λ (r : AttributeRow). r.2) rows))
-    ≤ length (spaced (map (λ (r : AttributeRow). r.2) all))
-    → length (spaced (map (λ (r : AttributeRow). r.2) (cond x (row ∷ rows) rows)))
-    ≤ length (spaced (map (λ (r : AttributeRow). r.2) (row ∷ all)))
-spaced-step true w row rows all h = simp length-append (omega arith)
-spaced-step false w row rows all h = simp length-append (omega arith)
-
 -- some of the words have no more bytes than all of them
 spaced-filter : (p : AttributeRow → Bool) (rows : List AttributeRow)
     → length (spaced (map (λ (r : AttributeRow). r.2) (filter p rows)))
     ≤ length (spaced (map (λ (r : AttributeRow). r.2) rows))
 spaced-filter p [] = lit≤ tt
-spaced-filter p (row ∷ rows) = spaced-step (p row) [] row (filter p rows) rows (spaced-filter p rows)
+spaced-filter p (row ∷ rows) =
+    let rest = spaced-filter p rows in
+    elim (cases_Bool (p row)) [
+      | inl e ↦ rw e (simp length-append (omega arith))
+      | inr e ↦ rw e (simp length-append (omega arith))
+    ]
 
 -- the number of bytes of all words, with a space before each
 spaced-all : length (spaced (map (λ row. row.2) attributes)) ≡ LONGEST_SET + 1
@@ -250,16 +237,11 @@ any-one : (bits : ℕ) (rows : List AttributeRow)
     ≡ true
     → (row : AttributeRow) × OneOf rows row × (bits ≡ 2 ^ row.1)
 any-one bits [] h = cc
-any-one bits (row ∷ rows) h = told (2 ^ row.1 == bits) refl h (any-one bits rows) where
-  told : (x : Bool) → (2 ^ row.1 == bits) ≡ x
-      → (x || list_any (λ (row : ℕ × List ℕ). row.0 == bits)
-      (map (λ (row : AttributeRow). (2 ^ row.1, row.2)) rows)) ≡ true
-      → (list_any (λ (row : ℕ × List ℕ). row.0 == bits)
-      (map (λ (row : AttributeRow). (2 ^ row.1, row.2)) rows) ≡ true
-      → (row : AttributeRow) × OneOf rows row × (bits ≡ 2 ^ row.1))
-      → (r : AttributeRow) × OneOf (row ∷ rows) r × (bits ≡ 2 ^ r.1)
-  told true e f rest = (row, inl refl, sym ((Decides-eqb (2 ^ row.1) bits).0 e))
-  told false e f rest = let r = rest f in (r.0, inr r.1, r.2)
+any-one bits (row ∷ rows) h =
+    elim (eqb_tells (2 ^ row.1) bits) [
+      | inl e ↦ (row, inl refl, sym e.1)
+      | inr n ↦ let r = any-one bits rows (rw n.0 at h) in (r.0, inr r.1, r.2)
+    ]
 
 -- a constant passes the test of its row
 one-any : (bits : ℕ) (rows : List AttributeRow) (row : AttributeRow) → OneOf rows row → bits ≡ 2 ^ row.1

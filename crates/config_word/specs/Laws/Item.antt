@@ -3,10 +3,10 @@ use Rattle.std.proofs.Common.{◌≡◌, ℕ, ◌+◌, ◌-◌, ◌*◌, ◌^◌
 use Rattle.std.proofs.Common.{not, ◌&&◌, ◌||◌, List, [], ◌∷◌, map, flat_map, length, codes, Option, Some}
 use Rattle.std.proofs.Common.{None, nat_le, nat_lt, ◌==◌, option_map, refl, sym, ap, ◌∙◌, arith, suc}
 use Rattle.std.proofs.Common.{bytes_eq, lit<, lit≤}
-use Rattle.std.proofs.lemmas.Bool.Decides.{Decides-eqb, nat_tests}
+use Rattle.std.proofs.lemmas.Bool.Decides.{Decides-eqb, eqb_tells, nat_tests}
 use Rattle.std.proofs.lemmas.Slice.Eq.{bytes_eq-Decides}
 use Rattle.std.proofs.Math.Nat.{le-mul_of_pos_right, one-le-pow, pow-suc}
-use Rattle.std.proofs.lemmas.Bool.{and_parts, le-leb, leb-true, lt-ltb, ltb-true}
+use Rattle.std.proofs.lemmas.Bool.{and_parts, cases_Bool, le-leb, leb-true, lt-ltb, ltb-true}
 use Rattle.std.proofs.lemmas.List.{length-map}
 use Rattle.std.proofs.lemmas.Str.Parse.{digit_from_value}
 use Rattle.std.specs.Char.{digit_value, is_ascii_digit, to_ascii_lowercase}
@@ -71,13 +71,6 @@ is_new-apart row other (first ∷ rows) h (inr o) =
     is_new-apart row other rows (and_parts (not (bytes_eq (lowered first.0) (lowered row.0)))
     (is_new row rows) h).1 o
 
--- if the first row does not fit, the item of a later row is found
-found-told : (first row : WordRow) (rows : List WordRow) (t : List ℕ) → ¬ (fits first t ≡ true)
-    → found rows t ≡ Some row.2
-    → (x : Bool) → fits first t ≡ x → cond x (Some first.2) (found rows t) ≡ Some row.2
-found-told first row rows t no_fit rest true h = absurd (no_fit h)
-found-told first row rows t no_fit rest false h = rest
-
 -- the item of a row that fits is found
 row-found : (rows : List WordRow) (row : WordRow) (t : List ℕ) → are_apart rows ≡ true → OneOf rows row
     → fits row t ≡ true → found rows t ≡ Some row.2
@@ -86,28 +79,24 @@ row-found (first ∷ rows) row t apart (inl e) f =
     let g : fits first t ≡ true = rw (← e) f in rw (g, e) refl
 row-found (first ∷ rows) row t apart (inr o) f =
     let b = and_parts (is_new first rows) (are_apart rows) apart in
-    found-told first row rows t
-    (λ h. is_new-apart first row rows b.0 o (sym (fits-lowered row t f) ∙ fits-lowered first t h))
-    (row-found rows row t b.1 o f)
-    (fits first t) refl
+    elim (cases_Bool (fits first t)) [
+      | inl g ↦ absurd
+          (is_new-apart first row rows b.0 o (sym (fits-lowered row t f) ∙ fits-lowered first t g))
+      | inr g ↦ rw g (row-found rows row t b.1 o f)
+    ]
 
 -- a row of the list that fits the text and has the item
 abbrev FoundRow : List WordRow → List ℕ → Item → Type 0
 FoundRow rows t i = (row : WordRow) × OneOf rows row × (fits row t ≡ true) × (row.2 ≡ i)
 
--- an item is found at the first row or after it
-found-row-told : (first : WordRow) (rows : List WordRow) (t : List ℕ) (i : Item)
-    → (found rows t ≡ Some i → FoundRow rows t i)
-    → (x : Bool) → fits first t ≡ x → cond x (Some first.2) (found rows t) ≡ Some i
-    → FoundRow (first ∷ rows) t i
-found-row-told first rows t i rest true f e = (first, inl refl, f, cc)
-found-row-told first rows t i rest false f e = let r = rest e in (r.0, inr r.1, r.2, r.3)
-
 -- an item that is found is the item of a row that fits
 found-row : (rows : List WordRow) (t : List ℕ) (i : Item) → found rows t ≡ Some i → FoundRow rows t i
 found-row [] t i h = cc
 found-row (first ∷ rows) t i h =
-    found-row-told first rows t i (λ e. found-row rows t i e) (fits first t) refl h
+    elim (cases_Bool (fits first t)) [
+      | inl f ↦ let e = rw f at h in (first, inl refl, f, cc)
+      | inr f ↦ let r = found-row rows t i (rw f at h) in (r.0, inr r.1, r.2, r.3)
+    ]
 
 -- no two words are the same, ignoring ASCII case
 word_table-apart : are_apart word_table ≡ true
@@ -149,35 +138,23 @@ starts-fits row t o f =
       told (c ∷ cs) h = lowered_byte c h
 
 -- a word that fits a text has the length of the text
-length-fits : (row : WordRow) (t : List ℕ) → fits row t ≡ true → (length row.0 == length t) ≡ true
+length-fits : (row : WordRow) (t : List ℕ) → fits row t ≡ true → length row.0 ≡ length t
 length-fits row t f =
     let e : length (lowered t) ≡ length (lowered row.0) = ap length (fits-lowered row t f) in
-    let p = length-map t to_ascii_lowercase in
-    let q = length-map row.0 to_ascii_lowercase in
-    let same : length row.0 ≡ length t = omega arith in
-    grind (arith, nat_tests)
-
--- a row of another length may be left out
-skipped : (row : WordRow) (t : List ℕ) (rest : Option Item) (x : Bool) → fits row t ≡ x
-    → (length row.0 == length t) ≡ false
-    → rest ≡ cond x (Some row.2) rest
-skipped row t rest true f no_fit = cc (length-fits row t f)
-skipped row t rest false f no_fit = refl
-
--- one more row, with a word of this length or of another
-found_of_length-told : (first : WordRow) (rows : List WordRow) (t : List ℕ)
-    → found (of_length (length t) rows) t ≡ found rows t
-    → (x : Bool) → (length first.0 == length t) ≡ x
-    → found (cond x (first ∷ of_length (length t) rows) (of_length (length t) rows)) t
-    ≡ found (first ∷ rows) t
-found_of_length-told first rows t rest true e = ap (cond (fits first t) (Some first.2)) rest
-found_of_length-told first rows t rest false e = rest ∙ skipped first t (found rows t) (fits first t) refl e
+    omega (arith, e, length-map t to_ascii_lowercase, length-map row.0 to_ascii_lowercase)
 
 -- looking only among the words of the text's length finds the same item
 found_of_length : (rows : List WordRow) (t : List ℕ) → found (of_length (length t) rows) t ≡ found rows t
 found_of_length [] t = refl
 found_of_length (first ∷ rows) t =
-    found_of_length-told first rows t (found_of_length rows t) (length first.0 == length t) refl
+    let rest = found_of_length rows t in
+    elim (eqb_tells (length first.0) (length t)) [
+      | inl e ↦ rw e.0 (ap (cond (fits first t) (Some first.2)) rest)
+      | inr n ↦ elim (cases_Bool (fits first t)) [
+        | inl f ↦ absurd (n.1 (length-fits first t f))
+        | inr f ↦ rw (n.0, f) rest
+      ]
+    ]
 
 -- a text that begins with a word byte has the item that the table has for it
 item_of-word : (t : List ℕ) → starts_word t ≡ true → item_of t ≡ found word_table t
@@ -235,27 +212,20 @@ decimal-found (d ∷ ds) n all h =
 abbrev DecimalRead : List ℕ → ℕ → ℕ → Type 0
 DecimalRead ds n k = AllDigits 10 ds × (k ≡ n * 10 ^ length ds + place_sum ds 10) × (k ≤ 255)
 
--- one digit, and what is read after it
-decimal-derived-told : (d : ℕ) (ds : List ℕ) (n k : ℕ)
-    → (n * 10 + (d - 48) ≤ 255 → decimal_from ds (n * 10 + (d - 48)) ≡ Some k
-    → DecimalRead ds (n * 10 + (d - 48)) k)
-    → (x y : Bool) → is_ascii_digit d ≡ x → nat_le (n * 10 + (d - 48)) 255 ≡ y
-    → cond (x && y) (decimal_from ds (n * 10 + (d - 48))) None ≡ Some k → DecimalRead (d ∷ ds) n k
-decimal-derived-told d ds n k rest true true digit fit h =
-    let v = digit-from d digit in
-    let r = rest (leb-true (n * 10 + (d - 48)) 255 fit) h in
-    let sum = place_sum-more d ds v.0 in
-    let e = shifted n (d - 48) (length ds) (place_sum ds 10) in
-    ((v.0, r.0), omega arith, r.2)
-decimal-derived-told d ds n k rest true false digit fit h = cc
-decimal-derived-told d ds n k rest false y digit fit h = cc
-
 -- if a number is read, it is at most 255 and written by digits
 decimal-derived : (ds : List ℕ) (n k : ℕ) → n ≤ 255 → decimal_from ds n ≡ Some k → DecimalRead ds n k
 decimal-derived [] n k small h = let e : n ≡ k = cc in (tt, omega arith, omega arith)
 decimal-derived (d ∷ ds) n k small h =
-    decimal-derived-told d ds n k (λ small_more e. decimal-derived ds (n * 10 + (d - 48)) k small_more e)
-    (is_ascii_digit d) (nat_le (n * 10 + (d - 48)) 255) refl refl h
+    elim (cases_Bool (is_ascii_digit d && nat_le (n * 10 + (d - 48)) 255)) [
+      | inl both ↦
+          let (digit, fit) = and_parts (is_ascii_digit d) (nat_le (n * 10 + (d - 48)) 255) both in
+          let v = digit-from d digit in
+          let r = decimal-derived ds (n * 10 + (d - 48)) k (leb-true _ 255 fit) (rw both at h) in
+          let sum = place_sum-more d ds v.0 in
+          let e = shifted n (d - 48) (length ds) (place_sum ds 10) in
+          ((v.0, r.0), omega (arith, r.1, sum, e), r.2)
+      | inr other ↦ let e = rw other at h in absurd (cc)
+    ]
 
 -- digits that write a number of at most 255 are read as this palette number
 pub palette-found : (ds : List ℕ) → IsNumeral 10 ds → place_sum ds 10 ≤ 255
@@ -280,12 +250,14 @@ pair-found a b n h = rw (lt-ltb (digit_value a) 16 h.high_digit, lt-ltb (digit_v
 
 -- if a number is read, the two bytes are hexadecimal digits that write it
 pair-derived : (a b n : ℕ) → hex_pair_of a b ≡ Some n → HexPair a b n
-pair-derived a b n h = told (nat_lt (digit_value a) 16) (nat_lt (digit_value b) 16) refl refl h where
-  told : (x y : Bool) → nat_lt (digit_value a) 16 ≡ x → nat_lt (digit_value b) 16 ≡ y
-      → cond (x && y) (Some (16 * digit_value a + digit_value b)) None ≡ Some n → HexPair a b n
-  told true true p q e = record { high_digit = ltb-true _ _ p; low_digit = ltb-true _ _ q; number = cc }
-  told true false p q e = cc
-  told false y p q e = cc
+pair-derived a b n h =
+    elim (cases_Bool (nat_lt (digit_value a) 16 && nat_lt (digit_value b) 16)) [
+      | inl both ↦
+          let (high, low) = and_parts (nat_lt (digit_value a) 16) (nat_lt (digit_value b) 16) both in
+          let e = rw both at h in
+          record { high_digit = ltb-true _ _ high; low_digit = ltb-true _ _ low; number = cc }
+      | inr other ↦ let e = rw other at h in absurd (cc)
+    ]
 
 -- ---- names and attributes are found
 
@@ -426,9 +398,7 @@ row-text row t o f =
 rgb_from-parts : (x y z : Option ℕ) (n : Name) → rgb_from x y z ≡ Some n
     → (r g b : ℕ) × (x ≡ Some r) × (y ≡ Some g) × (z ≡ Some b) × (n ≡ names.Rgb r g b)
 rgb_from-parts (Some r) (Some g) (Some b) n h = (r, g, b, refl, refl, refl, cc)
-rgb_from-parts (Some r) (Some g) None n h = cc
-rgb_from-parts (Some r) None z n h = cc
-rgb_from-parts None y z n h = cc
+rgb_from-parts x y z n h = cc
 
 -- if digits are read as a color, `#` and the digits are a name text of the color
 rgb-derived : (ds : List ℕ) (n : Name) → rgb_of ds ≡ Some n → NameText (35 ∷ ds) n
@@ -442,24 +412,23 @@ rgb-derived (a ∷ c ∷ e ∷ []) n h =
     (pair-derived e e p.2 p.5) p.6
 rgb-derived _ n h = cc
 
+-- what is mapped was there before
+mapped : {A B : Type 0} (f : A → B) (x : Option A) (v : B) → option_map f x ≡ Some v
+    → (y : A) × (x ≡ Some y) × (f y ≡ v)
+mapped f (Some y) v e = (y, refl, cc)
+mapped f None v e = cc
+
 -- if digits are read as a color, `#` and the digits are an item text of the color
 rgb_item-derived : (ds : List ℕ) (v : Item) → rgb_item ds ≡ Some v → ItemText (35 ∷ ds) v
-rgb_item-derived ds v h = told (rgb_of ds) refl h where
-  told : (x : Option Name) → rgb_of ds ≡ x → option_map items.Name x ≡ Some v → ItemText (35 ∷ ds) v
-  told (Some n) e f = let same : items.Name n ≡ v = cc in rw (← same) (rgb-derived ds n e)
-  told None e f = cc
+rgb_item-derived ds v h =
+    let (n, e, same) = mapped items.Name (rgb_of ds) v h in rw (← same) (rgb-derived ds n e)
 
 -- if digits are read as a palette number, they are an item text of it, alone or after `+`
 palette_item-derived : (t ds : List ℕ) (v : Item) → (t ≡ ds) ⊎ (t ≡ 43 ∷ ds) → palette_item ds ≡ Some v
     → ItemText t v
-palette_item-derived t ds v spelled h = told (palette_of ds) refl h where
-  told : (x : Option ℕ) → palette_of ds ≡ x → option_map (λ n. items.Name (names.Ansi n)) x ≡ Some v
-      → ItemText t v
-  told (Some k) e f =
-      let same : items.Name (names.Ansi k) ≡ v = cc in
-      let r = palette-derived ds k e in
-      rw (← same) (NameText.palette ds k spelled r.0 r.1 r.2 refl)
-  told None e f = cc
+palette_item-derived t ds v spelled h =
+    let (k, e, same) = mapped (λ n. items.Name (names.Ansi n)) (palette_of ds) v h in
+    let r = palette-derived ds k e in rw (← same) (NameText.palette ds k spelled r.0 r.1 r.2 refl)
 
 -- an item that the table has for a text is an item of the text in the grammar
 known-derived : (t : List ℕ) (v : Item) → known t ≡ Some v → ItemText t v
@@ -519,8 +488,7 @@ name-law = record {
 } where
   told : (t : List ℕ) (n : Name) (x : Option Item) → item_of t ≡ x → item_name x ≡ Some n → NameText t n
   told t n (Some (items.Name m)) e f = let same : m ≡ n = cc in rw (← same) (item-derived t (items.Name m) e)
-  told t n (Some (items.Attribute a)) e f = cc
-  told t n None e f = cc
+  told t n x e f = cc
 
 -- the attribute in the result of `item_of` computes the grammar of attributes
 pub attribute-law : IsValueOf AttributeText (λ t. item_attribute (item_of t))
@@ -532,8 +500,7 @@ attribute-law = record {
       → AttributeText t a
   told t a (Some (items.Attribute b)) e f =
       let same : b ≡ a = cc in rw (← same) (item-derived t (items.Attribute b) e)
-  told t a (Some (items.Name n)) e f = cc
-  told t a None e f = cc
+  told t a x e f = cc
 
 -- the name in the result of an exact reader of items is the result of an exact reader of names
 pub reads_name : (t : List ℕ) (r : Option Item) → Reads ItemText t r → Reads NameText t (item_name r)
@@ -544,8 +511,7 @@ reads_name t None h = λ n p. h (items.Name n) p
 -- the attribute that the words have for a text is the result of an exact reader of attributes
 pub known_reads : (t : List ℕ) (r : Option Item) → r ≡ known t → Reads AttributeText t (item_attribute r)
 known_reads t (Some (items.Attribute a)) e = known-derived t (items.Attribute a) (sym e)
-known_reads t (Some (items.Name n)) e = λ a p. let k = attribute-known t a p in cc
-known_reads t None e = λ a p. let k = attribute-known t a p in cc
+known_reads t r e = λ a p. let k = attribute-known t a p in cc
 
 -- ---- long words
 
@@ -567,14 +533,8 @@ found-longer n (row ∷ rows) t h l =
 
 -- more than six digits are no color
 rgb-longer : (ds : List ℕ) → 6 < length ds → rgb_of ds ≡ None
-rgb-longer [] h = absurd (omega arith)
-rgb-longer (a ∷ []) h = absurd (omega arith)
-rgb-longer (a ∷ b ∷ []) h = absurd (omega arith)
-rgb-longer (a ∷ b ∷ c ∷ []) h = absurd (omega arith)
-rgb-longer (a ∷ b ∷ c ∷ d ∷ []) h = absurd (omega arith)
-rgb-longer (a ∷ b ∷ c ∷ d ∷ e ∷ []) h = absurd (omega arith)
-rgb-longer (a ∷ b ∷ c ∷ d ∷ e ∷ f ∷ []) h = absurd (omega arith)
 rgb-longer (a ∷ b ∷ c ∷ d ∷ e ∷ f ∷ g ∷ ds) h = refl
+rgb-longer ds h = absurd (omega arith)
 
 -- a text that is longer than the longest word is no item, unless it begins as a palette number does
 pub long_refused : (c : ℕ) (cs : List ℕ) → 13 ≤ length cs → (c == 43) ≡ false → is_ascii_digit c ≡ false

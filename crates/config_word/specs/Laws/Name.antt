@@ -1,8 +1,8 @@
 -- The laws of `Value` for names.
 use Rattle.std.proofs.Common.{◌≡◌, ℕ, zero, suc, Some, ◌+◌, ◌-◌, ◌*◌, ◌/◌, ◌%◌, ◌^◌, ◌<◌, ◌≤◌, ◌⊎◌, inl, inr}
-use Rattle.std.proofs.Common.{Bool, true, false, ◌==◌, nat_le, List, [], ◌∷◌, ◌++◌, map, length, get_or}
+use Rattle.std.proofs.Common.{Bool, true, false, nat_le, List, [], ◌∷◌, ◌++◌, map, length, get_or}
 use Rattle.std.proofs.Common.{codes, decimal, refl, sym, ap, ◌∙◌, arith, lit<, lit≤}
-use Rattle.std.proofs.lemmas.Bool.Decides.{Decides-eqb, nat_tests}
+use Rattle.std.proofs.lemmas.Bool.Decides.{eqb_tells, nat_tests}
 use Rattle.std.proofs.lemmas.Bool.{leb-true}
 use Rattle.std.proofs.lemmas.Fmt.{decimal-digits_value, decimal_digit, decimal_is_IsNumeral, first_decimal}
 use Rattle.std.proofs.lemmas.Fmt.{length-decimal-le}
@@ -54,10 +54,11 @@ decimal_text n small =
 
 -- a number is 0, or its digits do not begin with `0`
 first_byte : (n : ℕ) → n ≤ 255 → (n ≡ 0) ⊎ (48 < get_or (decimal n) 0 0)
-first_byte n small = told (n == 0) refl where
-  told : (x : Bool) → (n == 0) ≡ x → (n ≡ 0) ⊎ (48 < get_or (decimal n) 0 0)
-  told true e = inl ((Decides-eqb n 0).0 e)
-  told false e = inr (first_decimal n (grind (arith, nat_tests)) (omega arith))
+first_byte n small =
+    elim (eqb_tells n 0) [
+      | inl e ↦ inl e.1
+      | inr e ↦ inr (first_decimal n (omega (arith, e.1)) (omega arith))
+    ]
 
 -- what a number up to 255 is shown as is a canonical name
 decimal-canonical : (n : ℕ) → n ≤ 255 → CanonicalName (decimal n)
@@ -228,29 +229,20 @@ ansi-shown n small =
       omega (arith, size),
     )
 
+-- the two digits of a byte are in lower case
+hex_lower : (n : ℕ) (ds : List ℕ) → n ≤ 255 → AllByRecursion IsLowerHex ds
+    → AllByRecursion IsLowerHex (hex_pair n ++ ds)
+hex_lower n ds small all =
+    ((shown_digit (n / 16) (omega arith)).0, ((shown_digit (n % 16) (omega arith)).0, all))
+
 -- `ShownWell` for red, green and blue
 rgb-shown_well : (r g b : ℕ) → r ≤ 255 → g ≤ 255 → b ≤ 255 → ShownWell (names.Rgb r g b)
-rgb-shown_well r g b p q u =
-    let x = pair_shown r p in
-    let y = pair_shown g q in
-    let z = pair_shown b u in
-    let hex : AllByRecursion IsLowerHex (hex_pair r ++ hex_pair g ++ hex_pair b) = (
-      (shown_digit (r / 16) (omega arith)).0,
-      (
-        (shown_digit (r % 16) (omega arith)).0,
-        (
-          (shown_digit (g / 16) (omega arith)).0,
-          (
-            (shown_digit (g % 16) (omega arith)).0,
-            ((shown_digit (b / 16) (omega arith)).0, ((shown_digit (b % 16) (omega arith)).0, tt)),
-          ),
-        ),
-      ),
-    ) in (
-      NameText.pairs _ _ _ _ _ _ r g b refl x y z refl,
-      CanonicalName.rgb (hex_pair r ++ hex_pair g ++ hex_pair b) refl refl hex,
-      lit≤ tt,
-    )
+rgb-shown_well r g b p q u = (
+  NameText.pairs _ _ _ _ _ _ r g b refl (pair_shown r p) (pair_shown g q) (pair_shown b u) refl,
+  CanonicalName.rgb (hex_pair r ++ hex_pair g ++ hex_pair b) refl refl
+      (hex_lower r (hex_pair g ++ hex_pair b) p (hex_lower g (hex_pair b) q (hex_lower b [] u tt))),
+  lit≤ tt,
+)
 
 -- `ShownWell` for each name whose numbers are bytes
 shown-well : (v : Name) → NameFits v → ShownWell v

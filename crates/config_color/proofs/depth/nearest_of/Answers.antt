@@ -1,7 +1,6 @@
 use Rattle.std.proofs.Common.{◌≡◌, ◌∙◌, ap, arith}
-use Rattle.config_color.proofs.Nearest.{best_next, best_stays, less_by, at_most_by}
+use Rattle.config_color.proofs.Nearest.{best_next, best_stays}
 use Rattle.config_color.specs.Depth.{distance}
-use Rattle.config_color.specs.Reading.Depth.{number_distance}
 use Rattle.config_color.proofs.depth.nearest_of.Goals as goal
 use Rattle.config_color.proofs.depth.nearest_of.Goals.{then-apart-least, else-apart-least}
 
@@ -12,13 +11,13 @@ loop-number-preserved c =
     let before = c.loop-number.invariant in
     elim c.if-apart-least.branch [
       | then-apart-least w ↦ record {
-        found = λ low h. rw w.found-is (best_next _ low c.loop-number.number c.loop-number.found
-            (before.found low h) (less_by apart before.least w.if-apart-least.true));
+        found = λ low h.
+            rw w.found-is (best_next (before.found low h) apart before.least w.if-apart-least.true);
         least = rw (w.found-is, w.least-is) apart;
       }
       | else-apart-least w ↦ record {
-        found = λ low h. rw w.found-is (best_stays _ low c.loop-number.number c.loop-number.found
-            (before.found low h) (at_most_by apart before.least w.if-apart-least.false));
+        found = λ low h.
+            rw w.found-is (best_stays (before.found low h) apart before.least w.if-apart-least.false);
         least = rw (w.found-is, w.least-is) before.least;
       }
     ]
@@ -31,9 +30,7 @@ returns-after-apart-least c =
     let at : c.args.last ≡ c.loop-number.number = omega arith in
     elim c.if-apart-least.branch [
       | then-apart-least w ↦ λ low h. rw (w.found-is, at)
-          (best_next _ low c.loop-number.number c.loop-number.found (before.found low h)
-          (less_by apart before.least w.if-apart-least.true))
+          (best_next (before.found low h) apart before.least w.if-apart-least.true)
       | else-apart-least w ↦ λ low h. rw (w.found-is, at)
-          (best_stays _ low c.loop-number.number c.loop-number.found (before.found low h)
-          (at_most_by apart before.least w.if-apart-least.false))
+          (best_stays (before.found low h) apart before.least w.if-apart-least.false)
     ]

@@ -1,5 +1,5 @@
 use Rattle.std.proofs.Common.{◌∙◌, ap}
-use Rattle.config_color.proofs.Nearest.{best_alone, best_next, best_stays, less_by, at_most_by}
+use Rattle.config_color.proofs.Nearest.{best_alone, best_next, best_stays}
 use Rattle.config_color.specs.Depth.{square}
 use Rattle.std.specs.Int.{abs_diff}
 use Rattle.config_color.specs.Reading.Depth.{step_distance}
@@ -20,13 +20,11 @@ loop-step-preserved c =
     let before = c.loop-step.invariant in
     elim c.if-apart-least.branch [
       | then-apart-least w ↦ record {
-        best = rw w.best-is (best_next _ 0 c.loop-step.step c.loop-step.best before.best
-            (less_by apart before.least w.if-apart-least.true));
+        best = rw w.best-is (best_next before.best apart before.least w.if-apart-least.true);
         least = rw (w.best-is, w.least-is) apart;
       }
       | else-apart-least w ↦ record {
-        best = rw w.best-is (best_stays _ 0 c.loop-step.step c.loop-step.best before.best
-            (at_most_by apart before.least w.if-apart-least.false));
+        best = rw w.best-is (best_stays before.best apart before.least w.if-apart-least.false);
         least = rw (w.best-is, w.least-is) before.least;
       }
     ]

@@ -1,7 +1,7 @@
-use Rattle.std.proofs.Common.{◌≡◌, ◌<◌, ◌∙◌, true, nat_lt, length, arith, sym}
+use Rattle.std.proofs.Common.{◌≡◌, true, nat_lt, arith}
 use Rattle.std.proofs.lemmas.Bool.Decides.{nat_tests}
 use Rattle.std.proofs.lemmas.List.{get_or_default}
-use Rattle.config_color.specs.Depth.{palette, xterm_colors, shade}
+use Rattle.config_color.specs.Depth.{xterm_colors, shade}
 use Rattle.config_color.proofs.depth.shade_of.Goals as goal
 
 pub returns-then-number-lt16 : goal.returns-then-number-lt16

@@ -1,11 +1,8 @@
-use Rattle.std.proofs.Common.{◌+◌, decimal, map, sym, subst, arith}
+use Rattle.std.proofs.Common.{◌+◌, arith}
 use Rattle.config_color.proofs.EscapeLemmas.{continues_within, of_two}
-use Rattle.config_color.specs.Escape.{name_codes}
-use Rattle.config_color.specs.Reading.Escape.{Continues}
 use Rattle.config_color.proofs.escape.push_name.Goals as goal
 
 pub returns-in-Default : goal.returns-in-Default
 returns-in-Default c =
-    let one = of_two (c.args.black + 9) _ _ (omega (arith, c.requires.black)) c.push_number.ensures in
-    subst (λ n. Continues (map decimal (name_codes c.args.black n)) 17 c.args.text.now.bytes
-    c.push_number.new.text.bytes) (sym c.in-Default.is) (continues_within _ 3 17 _ _ one (omega arith))
+    let one = of_two (c.args.black + 9) (omega (arith, c.requires.black)) c.push_number.ensures in
+    rw c.in-Default.is (continues_within _ 3 17 _ _ one (omega arith))

@@ -22,29 +22,13 @@ returns-in-227-eq128 c = (
 )
 
 pub returns-in_default : goal.returns-in_default
-returns-in_default c = (
-  λ h. cc,
-  λ h. let k = triple_bytes c.args.first c.args.second c.args.third h in
-      grind arith,
-)
+returns-in_default c = (λ h. cc, λ h. let k = triple_bytes _ _ _ h in grind arith)
 
 pub returns-in_default-2 : goal.returns-in_default-2
-returns-in_default-2 c = (
-  λ h. cc,
-  λ h. let k = triple_bytes c.args.first c.args.second c.args.third h in
-      grind arith,
-)
+returns-in_default-2 c = (λ h. cc, λ h. let k = triple_bytes _ _ _ h in grind arith)
 
 pub returns-in_default-3 : goal.returns-in_default-3
-returns-in_default-3 c = (
-  λ h. cc,
-  λ h. let k = triple_bytes c.args.first c.args.second c.args.third h in
-      grind arith,
-)
+returns-in_default-3 c = (λ h. cc, λ h. let k = triple_bytes _ _ _ h in grind arith)
 
 pub returns-in_default-4 : goal.returns-in_default-4
-returns-in_default-4 c = (
-  λ h. cc,
-  λ h. let k = triple_bytes c.args.first c.args.second c.args.third h in
-      grind arith,
-)
+returns-in_default-4 c = (λ h. cc, λ h. let k = triple_bytes _ _ _ h in grind arith)

@@ -22,22 +22,13 @@ fields_are ps rest last shells ss user home p f q r =
 eight : (name user home shell : List ℕ) (others more : List (List ℕ)) → length others ≡ 4 → 0 < length more
     → None ≡ home_of_fields name (user ∷ (others ++ home ∷ shell ∷ more))
 eight name user home shell (a ∷ b ∷ c ∷ d ∷ []) (x ∷ xs) h k = refl
-eight name user home shell (a ∷ b ∷ c ∷ d ∷ []) [] h k = absurd (omega arith)
-eight name user home shell [] more h k = absurd (omega arith)
-eight name user home shell (a ∷ []) more h k = absurd (omega arith)
-eight name user home shell (a ∷ b ∷ []) more h k = absurd (omega arith)
-eight name user home shell (a ∷ b ∷ c ∷ []) more h k = absurd (omega arith)
-eight name user home shell (a ∷ b ∷ c ∷ d ∷ e ∷ rest) more h k = absurd (omega arith)
+eight name user home shell others more h k = absurd (omega arith)
 
 seven : (name user home shell : List ℕ) (others : List (List ℕ)) → length others ≡ 4
     → true ≡ bytes_eq user name
     → Some home ≡ home_of_fields name (user ∷ (others ++ home ∷ shell ∷ []))
 seven name user home shell (a ∷ b ∷ c ∷ d ∷ []) h k = rw (← k) refl
-seven name user home shell [] h k = absurd (omega arith)
-seven name user home shell (a ∷ []) h k = absurd (omega arith)
-seven name user home shell (a ∷ b ∷ []) h k = absurd (omega arith)
-seven name user home shell (a ∷ b ∷ c ∷ []) h k = absurd (omega arith)
-seven name user home shell (a ∷ b ∷ c ∷ d ∷ e ∷ rest) h k = absurd (omega arith)
+seven name user home shell others h k = absurd (omega arith)
 
 pub returns-in-Some : goal.returns-in-Some
 returns-in-Some c =

@@ -1,7 +1,8 @@
 use Rattle.std.proofs.Common.{arith, ◌∙◌}
+use Rattle.std.proofs.lemmas.Result.{IfErr-weaker, IfOk-weaker}
 use Rattle.gix_config_value.proofs.StepLemmas.{passed_on}
 use Rattle.gix_config_value.proofs.RunLemmas.{HasAnswered-start, HasAnswered-on, Fails-read, Fails-limit}
-use Rattle.gix_config_value.proofs.RunLemmas.{Fails-on, Fails-unsent, Completes-at_end, Fails-at_end}
+use Rattle.gix_config_value.proofs.RunLemmas.{Fails-on, Fails-unsent, Completes-end, Fails-end}
 use Rattle.gix_config_value.proofs.RunLemmas.{at_the_end}
 use Rattle.gix_config_value.proofs.program.answer_input.Goals as goal
 
@@ -19,13 +20,15 @@ pub returns-in-Err-clause-same_writer : goal.returns-in-Err-clause-same_writer
 returns-in-Err-clause-same_writer g c = c.loop.invariant.advances.sends.same_writer
 
 pub returns-then-count-eq0-clause-completes : goal.returns-then-count-eq0-clause-completes
-returns-then-count-eq0-clause-completes g c = Completes-at_end _ _ _ _ _ c.loop.invariant _ _ _
-    (at_the_end _ _ _ _ c.if-count-eq0.true (omega (arith, c.read.auto.buf)) c.in-Ok.ensures.bytes)
+returns-then-count-eq0-clause-completes g c =
+    IfOk-weaker _ _ _ (λ ok. Completes-end _ _ _ _ _ c.loop.invariant _ _ ok
+    (at_the_end _ _ _ _ c.if-count-eq0.true (omega (arith, c.read.auto.buf)) c.in-Ok.ensures.bytes))
     c.finish.ensures.ok
 
 pub returns-then-count-eq0-clause-fails : goal.returns-then-count-eq0-clause-fails
-returns-then-count-eq0-clause-fails g c = Fails-at_end _ _ _ _ _ c.loop.invariant _ _ _
-    (at_the_end _ _ _ _ c.if-count-eq0.true (omega (arith, c.read.auto.buf)) c.in-Ok.ensures.bytes)
+returns-then-count-eq0-clause-fails g c =
+    IfErr-weaker _ _ _ (λ e. Fails-end _ _ _ _ _ c.loop.invariant _ _ e
+    (at_the_end _ _ _ _ c.if-count-eq0.true (omega (arith, c.read.auto.buf)) c.in-Ok.ensures.bytes))
     c.finish.ensures.err
 
 pub returns-in_err-take_bytes-clause-fails : goal.returns-in_err-take_bytes-clause-fails

@@ -1,15 +1,16 @@
 use Rattle.std.proofs.lemmas.List.{take_rest}
 use Rattle.gix_config_value.proofs.LineLemmas.{unbroken_nowhere, cuts_first}
-use Rattle.gix_config_value.proofs.StepLemmas.{FailsWithin-first, passed_on, begun_on, stopped_first}
+use Rattle.std.proofs.lemmas.Result.{on_ok_weaker, IfErr-weaker}
+use Rattle.gix_config_value.proofs.StepLemmas.{Advances-begun, FailsWithin-first, passed_on}
 use Rattle.gix_config_value.proofs.StepLemmas.{taken_after, stopped_after}
 use Rattle.gix_config_value.proofs.program.Progress.take_bytes.Goals as goal
 
 pub returns-in_default-clause-ok : goal.returns-in_default-clause-ok
 returns-in_default-clause-ok g c =
-    begun_on _ _ _ _ (unbroken_nowhere _ c.in_default.ensures) c.gather.ensures.ok
+    on_ok_weaker _ (Advances-begun _ _ _ (unbroken_nowhere _ c.in_default.ensures)) c.gather.ensures.ok
 
 pub returns-in_default-clause-err : goal.returns-in_default-clause-err
-returns-in_default-clause-err g c = stopped_first _ _ _ _ c.gather.ensures.err
+returns-in_default-clause-err g c = IfErr-weaker _ _ _ (FailsWithin-first _ _ _) c.gather.ensures.err
 
 pub returns-in_err-end_line-clause-err : goal.returns-in_err-end_line-clause-err
 returns-in_err-end_line-clause-err g c =
@@ -17,13 +18,13 @@ returns-in_err-end_line-clause-err g c =
 
 pub returns-clause-ok : goal.returns-clause-ok
 returns-clause-ok g c =
-    taken_after _ _ _ _ _ (cuts_first _ _ c.in-Some.ensures.0 c.in-Some.ensures.1) c.in_ok-end_line.ensures.ok
-    _ (rw (take_rest _ _) at c.take_lines-2.ensures.ok)
+    on_ok_weaker _ (taken_after _ _ _ _ (cuts_first _ _ c.in-Some.ensures.0 c.in-Some.ensures.1)
+    c.in_ok-end_line.ensures.ok _) (rw (take_rest _ _) at c.take_lines-2.ensures.ok)
 
 pub returns-clause-err : goal.returns-clause-err
 returns-clause-err g c =
-    stopped_after _ _ _ _ _ (cuts_first _ _ c.in-Some.ensures.0 c.in-Some.ensures.1)
-    c.in_ok-end_line.ensures.ok _ (rw (take_rest _ _) at c.take_lines-2.ensures.err)
+    IfErr-weaker _ _ _ (stopped_after _ _ _ _ (cuts_first _ _ c.in-Some.ensures.0 c.in-Some.ensures.1)
+    c.in_ok-end_line.ensures.ok _) (rw (take_rest _ _) at c.take_lines-2.ensures.err)
 
 pub returns-then-is_empty-clause-ok : goal.returns-then-is_empty-clause-ok
 returns-then-is_empty-clause-ok g c = c.take_lines.ensures.ok
