@@ -154,7 +154,7 @@ pub record CanHold (key raw at front : List ℕ) : Type 0 where
   pub holds : (put value other : List ℕ) → SpellsValue put value outside → EndsValue other
       → TakesEntry ((start ++ put) ++ other) key (Some put) (line_feeds put) other × BeginsWithLetter ((start ++ put) ++ other)
 
-value_ends : {after raw rest : List ℕ} {lines : ℕ} → TakesValue after raw lines rest
+pub value_ends : {after raw rest : List ℕ} {lines : ℕ} → TakesValue after raw lines rest
     → (after ≡ raw ++ rest) × EndsValue rest
 value_ends (closed joined spells ends) = (joined, ends)
 value_ends (open_end {raw = raw} spells) = (sym (append-nil raw), tt)
