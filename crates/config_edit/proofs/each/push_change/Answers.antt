@@ -22,11 +22,7 @@ push_commented-requires-clause-shaped c =
     let (line, pushed, named) = c.in_ok-push_named-2.ensures in
     let line_is : c.as_slice.result.now ≡ line =
     c.as_slice.ensures.value ∙ pushed ∙ ap (λ l. l ++ line) c.new-line.ensures.items in
-    let name = name_after (option_copied c.args.change.now.name) c.args.parts.now.key.now in
-    let value = c.in-Some-Some.value.now in (
-      name,
-      subst (λ l. IsShaped name (Some value) c.args.parts.now c.args.piece.now l) (sym line_is) named.shaped,
-    )
+    (name_after (option_copied c.args.change.now.name) c.args.parts.now.key.now, rw line_is named.shaped)
 
 pub returns : goal.returns
 returns c =
@@ -40,6 +36,5 @@ returns c =
     let value_is : option_copied change.value ≡ Some value = ap (λ o. option_copied o) c.in-Some-Some.is-0 in
     let comment_is : option_copied change.comment ≡ Some comment = ap (λ o. option_copied o) c.in-Some-Some.is-1 in
     let all = writable_comment (option_copied change.value) (option_copied change.comment) value comment value_is comment_is c.requires.writable.2 in
-    let there : IsNamed (option_copied change.name) (Some value) c.args.parts.now c.args.piece.now c.as_slice.result.now =
-    subst (λ l. IsNamed (option_copied change.name) (Some value) c.args.parts.now c.args.piece.now l) (sym line_is) named in
+    let there = rw (← line_is) at named in
     (put, pushed, changed_commented value comment value_is comment_is all c.requires.writable.0 c.requires.entry there commented)

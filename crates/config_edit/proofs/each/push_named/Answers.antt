@@ -31,10 +31,7 @@ returns c =
     let line_is : c.as_slice.result.now ≡ line =
     c.as_slice.ensures.value ∙ pushed ∙ ap (λ l. l ++ line) c.new-line.ensures.items in
     let whole : c.extend_from_slice-3.new.self.items ≡ new ++ (blanks ++ (name ++ more)) =
-    c.in_ok-extend_from_slice-3.ensures.items
-    ∙ ap (λ x. x ++ more) (c.in_ok-extend_from_slice-2.ensures.items
-    ∙ ap (λ x. x ++ name) c.in_ok-extend_from_slice.ensures.items)
-    ∙ append_assoc (new ++ blanks) name more ∙ append_assoc new blanks (name ++ more) in (
+    simp (c.in_ok-extend_from_slice-3.ensures.items, c.in_ok-extend_from_slice-2.ensures.items, c.in_ok-extend_from_slice.ensures.items, append_assoc) in (
       blanks ++ (name ++ more),
       whole,
       rw name_is (named_new name more is valued (sym line_is ∙ c.behind.ensures)),

@@ -20,61 +20,40 @@ use Rattle.config_edit.proofs.removal.without.Goals.{in-Nothing+in_ok-keep-in-No
 
 pub pieces-init : goal.pieces-init
 pieces-init c =
-    let empty : c.in_ok-new.new.items ≡ [] = search rules in
     let g = c.new-group in
-    let key = key_of c.args.key.now in
-    let text = c.args.text.now in
-    let places = option_copied c.args.places in (
-      subst (λ n. Losing key places text text n None g.result count.None 0) (sym empty)
-          (losing_begins key places text g.result g.ensures.head g.ensures.body g.ensures.in_head g.ensures.has_lost g.ensures.is_kept),
-      all_left places 0,
-      omega arith,
-    )
+    let places = option_copied c.args.places in
+    let begins = losing_begins (key_of c.args.key.now) places c.args.text.now g.result g.ensures.head g.ensures.body g.ensures.in_head g.ensures.has_lost g.ensures.is_kept in
+    (rw c.in_ok-new.ensures.items begins, all_left places 0, omega arith)
 
 pub pieces-preserved : goal.pieces-preserved
 pieces-preserved c =
     let key = key_of c.args.key.now in
     let places = option_copied c.args.places in
-    let text = c.args.text.now in
     let p = c.pieces in
     let piece = c.in-Some.piece in
-    let rest = piece.rest.now in
     let section = option_map section_of p.section in
     let is = c.in-Some.ensures.piece in
     let shorter = c.in-Some.ensures.shorter in
     let (losing, left, room) = p.invariant in
     let m = c.match-piece in
-    let whole : Losing key places text rest m.new.items (option_map section_of m.section) m.group m.count m.index
-    × AreLeft places (option_copied m.left) m.index × (m.index + length rest ≤ length text) =
     elim c.match-piece.branch [
       | in-Header+in_ok-finish-in-Header+in_ok-begin-in-Header w ↦
           let (put, pushed, done) = w.in_ok-finish-in-Header.ensures in
           let (head, body, in_head, has_lost, kept) = w.in_ok-begin-in-Header.ensures in
           let step =
           losing_header w.begin.new.self piece losing is shorter w.in-Header.header w.in-Header.is done head body in_head has_lost in
-          let after : section_after piece.held section ≡ option_map section_of m.section =
-          ap (λ h. section_after h section) w.in-Header.is ∙ ap (λ s. option_map section_of s)
-          (sym w.section-is) in
           let new_is : m.new.items ≡ p.new.items ++ put = ap (λ n. n.items) w.new-is ∙ pushed in
-          rw (new_is, w.group-is, w.count-is, w.left-is, w.index-is) (
-            subst (λ s. Losing key places text rest (p.new.items ++ put) s w.begin.new.self p.count p.index) after step,
-            left,
-            omega arith,
-          )
+          rw (new_is, w.group-is, w.count-is, w.left-is, w.index-is, w.section-is)
+          (rw w.in-Header.is at step, left, omega arith)
       | in-Entry+then-is_place+then-is_of+in_ok-lose-in-Entry w ↦
           let (end, is_end, pushed, off_before, off, lost, kept) = w.in_ok-lose-in-Entry.ensures in
-          let of : IsOf key (content_of section w.in-Entry.parts) =
-          (w.is_of.ensures losing.past.listable).0 w.if-is_of.true in
-          let at : IsPlaceOf places p.index =
-          (left p.index (omega arith)).1 (w.at_place-is_place.ensures.here.0 w.if-is_place.true) in
+          let at = (left p.index (omega arith)).1 (w.at_place-is_place.ensures.here.0 w.if-is_place.true) in
           let step =
-          losing_loses w.lose.new.self piece w.in-Entry.parts end losing is shorter w.in-Entry.is of at is_end pushed off lost kept in
-          let after : section_after piece.held section ≡ option_map section_of m.section =
-          ap (λ h. section_after h section) w.in-Entry.is ∙ ap (λ s. option_map section_of s)
-          (sym w.section-is) in
+          losing_loses w.lose.new.self piece w.in-Entry.parts end losing is shorter w.in-Entry.is
+          ((w.is_of.ensures losing.past.listable).0 w.if-is_of.true) at is_end pushed off lost kept in
           let count_is : m.count ≡ one_more p.count = w.count-is ∙ w.more-count.ensures in
-          rw (w.new-is, w.group-is, count_is, w.left-is, w.index-is) (
-            subst (λ s. Losing key places text rest p.new.items s w.lose.new.self (one_more p.count) (p.index + 1)) after step,
+          rw (w.new-is, w.group-is, count_is, w.left-is, w.index-is, w.section-is) (
+            rw w.in-Entry.is at step,
             left_after places (option_copied p.left) (option_copied w.at_place-is_place.result.1) p.index left w.at_place-is_place.ensures.left,
             omega arith,
           )
@@ -83,21 +62,16 @@ pieces-preserved c =
           let other : ¬ (IsEntryHeld key section piece.held × IsPlaceOf places p.index) = λ (held, at).
           elim w.else-is_place.branch [
             | else-is_place-via-then-is_place+else-is_of w' ↦ true≢false
-                (sym ((w'.is_of.ensures losing.past.listable).1 (subst (IsEntryHeld key section) w.in-Entry.is held))
-                ∙ w'.if-is_of.false)
+                (sym ((w'.is_of.ensures losing.past.listable).1 (rw w.in-Entry.is at held)) ∙ w'.if-is_of.false)
             | else-is_place-via-else-is_place w' ↦ true≢false
                 (sym (w.at_place-is_place.ensures.here.1 ((left p.index (omega arith)).0 at)) ∙ w'.if-is_place.false)
           ] in
-          let one : p.index + 1 ≡ p.index + length (contents_in piece.held section) =
-          sym (ap (λ h. p.index + length (contents_in h section)) w.in-Entry.is) in
+          let one : p.index + 1 ≡ p.index + length (contents_in piece.held section) = rw w.in-Entry.is in
           let step =
           losing_keeps w.keep.new.self piece losing is shorter other one
           (entry_no_header w.in-Entry.is) pushed off lost kept in
-          let after : section_after piece.held section ≡ option_map section_of m.section =
-          ap (λ h. section_after h section) w.in-Entry.is ∙ ap (λ s. option_map section_of s)
-          (sym w.section-is) in
-          rw (w.new-is, w.group-is, w.count-is, w.left-is, w.index-is) (
-            subst (λ s. Losing key places text rest p.new.items s w.keep.new.self p.count (p.index + 1)) after step,
+          rw (w.new-is, w.group-is, w.count-is, w.left-is, w.index-is, w.section-is) (
+            rw w.in-Entry.is at step,
             left_after places (option_copied p.left) (option_copied w.at_place-is_place.result.1) p.index left w.at_place-is_place.ensures.left,
             omega arith,
           )
@@ -108,18 +82,11 @@ pieces-preserved c =
           let same : p.index ≡ p.index + length (contents_in piece.held section) = omega arith in
           let step =
           losing_keeps w.keep-in-Nothing.new.self piece losing is shorter
-          (λ held. no_entry_held key section piece.held w.in-Nothing.is held.0)
-          same
+          (λ held. no_entry_held key section piece.held w.in-Nothing.is held.0) same
           (nothing_no_header w.in-Nothing.is) pushed off lost kept in
-          let after : section_after piece.held section ≡ option_map section_of m.section =
-          no_header_after piece.held section w.in-Nothing.is ∙ ap (λ s. option_map section_of s)
-          (sym w.section-is) in
-          rw (w.new-is, w.group-is, w.count-is, w.left-is, w.index-is) (
-            subst (λ s. Losing key places text rest p.new.items s w.keep-in-Nothing.new.self p.count p.index) after step,
-            left,
-            omega arith,
-          )
-    ] in whole
+          rw (w.new-is, w.group-is, w.count-is, w.left-is, w.index-is, w.section-is)
+          (rw (no_header_after piece.held section w.in-Nothing.is) at step, left, omega arith)
+    ]
 
 pub returns : goal.returns
 returns c = λ contents ends.

@@ -10,7 +10,4 @@ returns-in-Header c = λ text is.
     let from = key_of c.args.key.now in
     let (listed, spelled) =
     header_listed piece.held piece.blanks.now piece.bytes.now piece.rest.now piece.is_line is.made c.in-Header.section c.in-Header.is in
-    let (there, back) = c.is_in.ensures listed spelled in (
-      λ yes. subst (λ h. IsHeaderHeld from h) (sym c.in-Header.is) (there yes),
-      λ held. back (subst (λ h. IsHeaderHeld from h) c.in-Header.is held),
-    )
+    rw c.in-Header.is (c.is_in.ensures listed spelled)

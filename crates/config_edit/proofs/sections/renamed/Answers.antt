@@ -12,13 +12,8 @@ use Rattle.config_edit.proofs.sections.renamed.Goals.{then-is_found, else-is_fou
 
 pub pieces-init : goal.pieces-init
 pieces-init c =
-    let from = key_of c.args.from.now in
-    let to = key_of c.args.to.now in
-    let empty : c.in_ok-new.new.items ≡ [] = search rules in (
-      subst (λ n. Renaming from to c.args.text.now c.args.text.now n false) (sym empty)
-          (renaming_begins from to c.args.text.now (λ none. none)),
-      search rules,
-    )
+    let begins = renaming_begins (key_of c.args.from.now) (key_of c.args.to.now) c.args.text.now (λ none. none) in
+    (rw c.in_ok-new.ensures.items begins, search rules)
 
 pub pieces-preserved : goal.pieces-preserved
 pieces-preserved c =
@@ -31,26 +26,19 @@ pieces-preserved c =
       | then-is_header_of+in_ok-extend_from_slice+in_ok-extend_from_slice-2 w ↦
           let held = (c.is_header_of.ensures c.pieces.rest.now c.in-Some.ensures.piece).0 (search rules) in
           let put : IsHeader c.push_header.new.spelling.items to.section to.subsection =
-          subst (λ b. IsHeader b to.section to.subsection) (sym header_is)
-          (header_spelled to.section to.subsection c.requires) in
+          rw header_is (header_spelled to.section to.subsection c.requires) in
           let step =
           renaming_changes piece c.push_header.new.spelling.items renaming c.in-Some.ensures.piece c.in-Some.ensures.shorter held put header_is in
           let new_is : c.if-is_header_of.new.items ≡
-          (c.pieces.new.items ++ piece.blanks.now) ++ c.push_header.new.spelling.items = search rules in (
-            rw w.is_found-is (subst (λ n. Renaming from to text piece.rest.now n true)
-                (sym new_is) step),
-            header_is,
-          )
+          (c.pieces.new.items ++ piece.blanks.now) ++ c.push_header.new.spelling.items = search rules in
+          (rw (w.is_found-is, new_is) step, header_is)
       | else-is_header_of+in_ok-extend_from_slice-3 w ↦
           let other : ¬ (IsHeaderHeld from piece.held) =
           λ held. true≢false (sym ((c.is_header_of.ensures c.pieces.rest.now c.in-Some.ensures.piece).1 held)
           ∙ w.if-is_header_of.false) in
           let step = renaming_keeps piece renaming c.in-Some.ensures.piece c.in-Some.ensures.shorter other in
-          let new_is : c.if-is_header_of.new.items ≡ c.pieces.new.items ++ piece.bytes.now = search rules in (
-            rw w.is_found-is (subst (λ n. Renaming from to text piece.rest.now n c.pieces.is_found)
-                (sym new_is) step),
-            header_is,
-          )
+          let new_is : c.if-is_header_of.new.items ≡ c.pieces.new.items ++ piece.bytes.now = search rules in
+          (rw (w.is_found-is, new_is) step, header_is)
     ]
 
 pub returns : goal.returns

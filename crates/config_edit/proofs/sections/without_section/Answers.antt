@@ -15,10 +15,7 @@ use Rattle.config_edit.proofs.sections.without_section.Goals.{else-is_found}
 
 pub pieces-init : goal.pieces-init
 pieces-init c =
-    let empty : c.in_ok-new.new.items ≡ [] = search rules in
-    let key = key_of c.args.key.now in
-    subst (λ n. Clearing key c.args.text.now c.args.text.now n false None) (sym empty)
-    (clearing_begins key c.args.text.now)
+    rw c.in_ok-new.ensures.items (clearing_begins (key_of c.args.key.now) c.args.text.now)
 
 pub push_left-requires : goal.push_left-requires
 push_left-requires c =

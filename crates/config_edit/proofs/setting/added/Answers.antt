@@ -10,9 +10,7 @@ use Rattle.config_edit.proofs.setting.added.Goals.{in-None+in_ok-push_behind-in-
 
 pub push_inside-requires : goal.push_inside-requires
 push_inside-requires c =
-    subst (λ inside. IfSome inside
-    (λ place. (front : List ℕ) ×
-    (c.args.text.now ≡ front ++ place.rest.now))) c.in-Some.is c.find_places-places.ensures.within
+    rw c.in-Some.is at c.find_places-places.ensures.within
 
 pub returns : goal.returns
 returns c = λ contents ends.
@@ -25,9 +23,7 @@ returns c = λ contents ends.
           let (front, feed, is_feed, cut, pushed) = w.in_ok-push_inside-in-Some.ensures in
           let place = w.in-Some.place in
           let put = front ++ (line_ends place.end feed ++ (new_line key.name value feed ++ place.rest.now)) in
-          let is_place : IsPlace key text [] contents p.section true place =
-          subst (λ inside. MatchOption inside (NoneIn key contents)
-          (λ place. IsPlace key text [] contents p.section true place)) w.in-Some.is p.inside in
+          let is_place = rw w.in-Some.is at p.inside in
           added_inside value text c.match-places.new.items feed front {section = p.section} {place = place} c.requires.name c.requires.spellable is_place is_feed cut (ap (λ n. n.items) w.new-is ∙ pushed ∙ ap (λ n. n ++ put) c.in_ok-new.ensures.items)
       | in-None+in_ok-push_behind-in-None w ↦
           let (feed, is_feed, pushed) = w.in_ok-push_behind-in-None.ensures in
@@ -35,8 +31,6 @@ returns c = λ contents ends.
           text ++ (line_ends c.find_places-places.result.end feed ++
           ((91 ∷ spelled_section key.section key.subsection) ++
           (feed ++ new_line key.name value feed))) in
-          let nothing : NoneIn key contents =
-          subst (λ inside. MatchOption inside (NoneIn key contents)
-          (λ place. IsPlace key text [] contents p.section true place)) w.in-None.is p.inside in
+          let nothing = rw w.in-None.is at p.inside in
           added_behind key value text c.match-places.new.items feed contents p.section c.find_places-places.result.end c.requires.name c.requires.spellable c.requires.section nothing p.closes is_feed ends (ap (λ n. n.items) w.new-is ∙ pushed ∙ ap (λ n. n ++ put) c.in_ok-new.ensures.items)
     ]

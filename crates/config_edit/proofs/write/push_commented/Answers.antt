@@ -57,10 +57,7 @@ returns c =
           )
     ] in
     let whole : c.extend_from_slice-4.new.self.items ≡ text ++ (core ++ (feed ++ ((front ++ comment) ++ end))) =
-    c.in_ok-extend_from_slice-4.ensures.items
-    ∙ ap (λ t. t ++ end) (c.in_ok-extend_from_slice-3.ensures.items ∙ ap (λ t. t ++ comment)
-    (c.in_ok-extend_from_slice-2.ensures.items ∙ ap (λ t. t ++ front) fed))
-    ∙ simp append_assoc in (
+    simp (c.in_ok-extend_from_slice-4.ensures.items, c.in_ok-extend_from_slice-3.ensures.items, c.in_ok-extend_from_slice-2.ensures.items, fed, append_assoc) in (
       core ++ (feed ++ ((front ++ comment) ++ end)),
       whole,
       record {

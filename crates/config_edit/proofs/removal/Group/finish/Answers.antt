@@ -8,17 +8,9 @@ returns c =
     let new = c.args.new.now.items in
     let left = c.head_left.result.now in
     let whole : c.extend_from_slice-2.new.self.items ≡ new ++ (left ++ g.body.items) =
-    c.in_ok-extend_from_slice-2.ensures.items ∙ ap
-    (λ b. c.extend_from_slice.new.self.items ++ b) c.as_slice.ensures.value
-    ∙ ap (λ n. n ++ g.body.items) c.in_ok-extend_from_slice.ensures.items
-    ∙ append_assoc new left g.body.items in
+    simp (c.in_ok-extend_from_slice-2.ensures.items, c.as_slice.ensures.value, c.in_ok-extend_from_slice.ensures.items, append_assoc) in
     elim c.head_left.ensures [
-      | inl same ↦ (
-        g.head.items ++ g.body.items,
-        whole ∙ ap
-            (λ l. new ++ (l ++ g.body.items)) same,
-        edit.whole,
-      )
+      | inl same ↦ (g.head.items ++ g.body.items, rw whole (ap (λ l. new ++ (l ++ g.body.items)) same), edit.whole)
       | inr (not_kept, has_lost, is_end) ↦
           (left ++ g.body.items, whole, edit.without_head not_kept has_lost is_end)
     ]
