@@ -277,39 +277,27 @@ gap_spaces gap (inl none) = rw none refl
 gap_spaces gap (inr space) = rw space refl
 
 -- the rest of a line, without its first blanks
-record Unblanked (tail rest : List ℕ) (is_line : Bool) : Type 0 where
-  blanks : List ℕ
-  left : List ℕ
-  joined : tail ≡ blanks ++ left
-  are_blank : AreBlank blanks
-  is_tail : IsTail left rest is_line
-  ends : EndsValue (left ++ rest)
-
 comment_ends_value : {comment : List ℕ} (more : List ℕ) → IsComment comment → EndsValue more
     → EndsValue (comment ++ more)
 comment_ends_value more absent ends = ends
 comment_ends_value more (present is all) ends = inr is
 
-unblanked : {tail rest : List ℕ} {is_line : Bool} → IsTail tail rest is_line → Unblanked tail rest is_line
-unblanked {tail = tail} {rest = rest} t =
+unblanked : {tail rest : List ℕ} {is_line : Bool} (t : IsTail tail rest is_line)
+    → (left : List ℕ) × (tail ≡ t.blanks ++ left) × IsTail left rest is_line × EndsValue (left ++ rest)
+unblanked {rest = rest} t =
     elim t.ends [
-      | inl line ↦ record {
-        blanks = t.blanks;
-        left = t.comment ++ 10 ∷ [];
-        joined = line.1;
-        are_blank = t.are_blank;
-        is_tail = record { blanks = []; comment = t.comment; are_blank = refl; is_comment = t.is_comment; ends = inl (line.0, refl) };
-        ends = rw (append_assoc t.comment (10 ∷ []) rest)
-            (comment_ends_value (10 ∷ rest) t.is_comment (inl refl));
-      }
-      | inr end ↦ record {
-        blanks = t.blanks;
-        left = t.comment;
-        joined = end.2;
-        are_blank = t.are_blank;
-        is_tail = record { blanks = []; comment = t.comment; are_blank = refl; is_comment = t.is_comment; ends = inr (end.0, end.1, refl) };
-        ends = comment_ends_value rest t.is_comment (subst EndsValue (sym end.1) tt);
-      }
+      | inl (is, joined) ↦ (
+        t.comment ++ 10 ∷ [],
+        joined,
+        record { blanks = []; comment = t.comment; are_blank = refl; is_comment = t.is_comment; ends = inl (is, refl) },
+        rw append_assoc (comment_ends_value (10 ∷ rest) t.is_comment (inl refl)),
+      )
+      | inr (is, none, joined) ↦ (
+        t.comment,
+        joined,
+        record { blanks = []; comment = t.comment; are_blank = refl; is_comment = t.is_comment; ends = inr (is, none, refl) },
+        comment_ends_value rest t.is_comment (rw none tt),
+      )
     ]
 
 no_letter : (b : ℕ) (more : List ℕ) → IsAtLineEnd (b ∷ more) → is_ascii_alphabetic b ≡ true → ⊥
@@ -344,32 +332,29 @@ pub value_given : {parts : EntryParts} {piece : Piece} {value gap : List ℕ} �
     → is_spellable value ≡ true → IsGap gap
     → IsSet parts piece value ((piece.blanks.now ++ e.front) ++ ((gap ++ 61 ∷ 32 ∷ git_spelled value) ++ e.tail))
 value_given {parts = parts} {piece = piece} {value = value} {gap = gap} held e spellable is_gap =
-    let u = unblanked e.is_tail in
+    let blanks = e.is_tail.blanks in
+    let (left, tail_is, is_tail, ends) = unblanked e.is_tail in
     let g = git_spelled value in
     let spelling = git_spelling value spellable in
-    let blanks = piece.blanks.now in
-    let rest = piece.rest.now in
-    let raw = 32 ∷ (g ++ u.blanks) in
+    let raw = 32 ∷ (g ++ blanks) in
     let spells : SpellsValue raw value outside =
-    spells_between (32 ∷ []) u.blanks refl u.are_blank spelling.0 in
-    let front = (e.front ++ gap) ++ 61 ∷ raw in
-    let (takes, begins) = with_value e.front gap raw value refl held e.begins e.takes is_gap spells u.ends in
+    spells_between (32 ∷ []) blanks refl e.is_tail.are_blank spelling.0 in
+    let (takes, begins) = with_value e.front gap raw value refl held e.begins e.takes is_gap spells ends in
     let put = gap ++ 61 ∷ 32 ∷ g in
-    let whole : (blanks ++ e.front) ++ (put ++ e.tail) ≡ blanks ++ (front ++ u.left) =
-    ap (λ x. (blanks ++ e.front) ++ (put ++ x)) u.joined ∙ simp append_assoc in
+    let rest = left ++ piece.rest.now in
     record {
       raw = raw;
       lines = line_feeds raw;
-      at = u.left ++ rest;
+      at = rest;
       has_value = (outside, spells);
       entry = record {
-        front = front;
-        tail = u.left;
-        begins = rw (append_assoc (e.front ++ gap) (61 ∷ raw) (u.left ++ rest)) begins;
-        takes = rw (append_assoc (e.front ++ gap) (61 ∷ raw) (u.left ++ rest)) takes;
+        front = (e.front ++ gap) ++ 61 ∷ raw;
+        tail = left;
+        begins = rw (append_assoc (e.front ++ gap) (61 ∷ raw) rest) begins;
+        takes = rw (append_assoc (e.front ++ gap) (61 ∷ raw) rest) takes;
         left = refl;
-        is_tail = u.is_tail;
-        joined = whole;
+        is_tail = is_tail;
+        joined = ap (λ x. (piece.blanks.now ++ e.front) ++ (put ++ x)) tail_is ∙ simp append_assoc;
       };
       given = inr (
         rw held (λ none. none),

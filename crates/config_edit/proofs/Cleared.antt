@@ -1,6 +1,6 @@
 -- Texts without the sections of a key.
 use Rattle.std.proofs.Common.{◌≡◌, ◌≢◌, ℕ, ◌<◌, Bool, true, false, List, [], ◌++◌, Option, Some, None}
-use Rattle.std.proofs.Common.{is_some, IfSome, MatchOption, length, refl, sym, ap, ◌∙◌, subst, append_assoc}
+use Rattle.std.proofs.Common.{is_some, IfSome, MatchOption, length, refl, sym, ap, ◌∙◌, append_assoc}
 use Rattle.std.proofs.Common.{append-nil, inl, inr, ◌⊎◌, true≢false}
 use Rattle.config_edit.specs.declared.sections.Lost.{Lost}
 use Rattle.config_edit.specs.declared.piece.Held.{Held}
@@ -11,11 +11,10 @@ use Rattle.config_file.specs.Key.{Key}
 use Rattle.config_file.specs.Header.{Section}
 use Rattle.config_edit.specs.Edit as spec
 use Rattle.config_edit.specs.Edit.{Content, IsIn, WithoutIn, NoneIn, Becomes, LosesSection, MayRemove, IsEnd, AreBlank, IsBody, IsTail}
-use Rattle.config_edit.specs.Reading.{Holds, Ends, Passed, anywhere, IsRead}
-use Rattle.config_edit.specs.Reading.{IsPiece, IsMade, contents_in, section_after, IsPast, IsHead, IsCleared}
-use Rattle.config_edit.specs.Reading.{IsKept, IsLost, Clearing, ClearsPiece, IsBefore, Comes, IsComeTo}
+use Rattle.config_edit.specs.Reading.{Ends, Passed, anywhere, IsRead}
+use Rattle.config_edit.specs.Reading.{IsPiece, IsMade, contents_in, section_after, IsHead, IsCleared}
+use Rattle.config_edit.specs.Reading.{IsKept, IsLost, Clearing, ClearsPiece, IsBefore, Comes}
 use Rattle.config_file.specs.Views.{section_of}
-use Rattle.config_edit.proofs.Pieces.{made_passed}
 use Rattle.config_edit.proofs.Edits.{without_in_both, holds_nothing, holds_join, passed_holds, passed_join}
 use Rattle.config_edit.proofs.Edits.{passed_ends, all_passed, some_left}
 use Rattle.config_edit.proofs.Becomes.{becomes_before, becomes_both}

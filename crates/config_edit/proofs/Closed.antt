@@ -9,15 +9,14 @@ use Rattle.config_edit.specs.declared.write.End.{End}
 use Rattle.config_edit.specs.declared.piece.Held.{Held}
 use Rattle.config_edit.specs.declared.piece.Held.TheVariants as held
 use Rattle.config_edit.specs.declared.piece.Piece.{Piece}
-use Rattle.config_file.specs.Bytes.{is_blank, is_space, is_key_byte, is_comment_sign, is_comment_byte}
+use Rattle.config_file.specs.Bytes.{is_space, is_key_byte, is_comment_byte}
 use Rattle.config_file.specs.Bytes.{IsAtLineEnd}
 use Rattle.config_file.specs.Runs.{StopsRun}
 use Rattle.config_file.specs.Header.{Section}
-use Rattle.config_file.specs.Value as value
-use Rattle.config_file.specs.Value.{Ending, outside, inside, at_backslash, Spells, SpellsValue, TakesValue}
-use Rattle.config_file.specs.Value.{closed, open_end, EndsValue, line_feeds}
-use Rattle.config_file.specs.File.{TakesKey, TakesEntry, alone, valued}
-use Rattle.config_edit.specs.Edit.{Content, HasValue, SameValue, SameEntry, IsLineEnd}
+use Rattle.config_file.specs.Value.{Ending, outside, at_backslash, Spells, SpellsValue}
+use Rattle.config_file.specs.Value.{EndsValue, line_feeds}
+use Rattle.config_file.specs.File.{TakesEntry, alone}
+use Rattle.config_edit.specs.Edit.{Content, SameValue, SameEntry, IsLineEnd}
 use Rattle.config_edit.specs.Reading as edit
 use Rattle.config_edit.specs.Reading.{Holds, IsMade, IsPiece, contents_in, section_after}
 use Rattle.config_edit.specs.Reading.{IsOpenHeld, IsEndOf, line_ends, Closes}
@@ -25,9 +24,7 @@ use Rattle.config_edit.specs.Edit.{AreBlank, IsComment, absent, present, IsTail,
 use Rattle.config_file.specs.Bytes.{BeginsWithLetter}
 use Rattle.std.proofs.lemmas.List.{append_cancel_right}
 use Rattle.config_file.specs.Views.{section_of, value_of}
-use Rattle.config_file.proofs.LineEnds.{all_more}
 use Rattle.config_file.proofs.EachReading.{not_empty}
-use Rattle.config_edit.proofs.Pieces.{first_blank, blank_no_feed, blank_no_sign}
 use Rattle.config_edit.proofs.Pieces.{blanks_lead, tail_leads, header_holds, entry_holds}
 use Rattle.config_edit.proofs.Pieces.{key_joined}
 use Rattle.config_edit.proofs.Edits.{holds_join}
@@ -104,60 +101,39 @@ record ClosedEntry (key : List ℕ) (was : Option (List ℕ)) (blanks bytes ends
 pub some_same : {a b : List ℕ} → Some a ≡ Some b → a ≡ b
 some_same e = cc
 
--- the rest of a line without LF
-comment_sign_is : (b : ℕ) → is_comment_sign b ≡ true → is_comment_byte b ≡ true
-comment_sign_is b is = grind (arith, nat_tests)
-
-blank_is : (b : ℕ) → is_blank b ≡ true → is_comment_byte b ≡ true
-blank_is b is = grind (arith, nat_tests)
-
-comment_bytes : {comment : List ℕ} → IsComment comment → list_all is_comment_byte comment ≡ true
-comment_bytes absent = refl
-comment_bytes (present {sign = sign} is all) = rw (comment_sign_is sign is, all) refl
-
-tail_bytes : {tail rest : List ℕ} → IsTail tail rest false → list_all is_comment_byte tail ≡ true
-tail_bytes t =
-    let (none, tail_is) = open_tail t in
-    let blanks : list_all is_comment_byte t.blanks ≡ true =
-    all_more is_blank is_comment_byte blank_is t.blanks t.are_blank in
-    rw (tail_is, list_all-append is_comment_byte t.blanks t.comment, blanks, comment_bytes t.is_comment) refl
-
-feed_is_no_byte : (b : ℕ) (more : List ℕ) → list_all is_comment_byte (b ∷ more) ≡ true → b ≡ 10 → ⊥
-feed_is_no_byte b more all is = grind (arith, nat_tests)
-
 pub more_bytes : (b : ℕ) (more : List ℕ) → list_all is_comment_byte (b ∷ more) ≡ true
     → list_all is_comment_byte more ≡ true
 more_bytes b more all = grind (arith, nat_tests)
 
-at_end_nothing : (at : List ℕ) → list_all is_comment_byte at ≡ true → IsAtLineEnd at → at ≡ []
-at_end_nothing [] all end = refl
-at_end_nothing (a ∷ []) all end = absurd (feed_is_no_byte a [] all end)
-at_end_nothing (a ∷ b ∷ more) all (inl is) = absurd (feed_is_no_byte a (b ∷ more) all is)
-at_end_nothing (a ∷ b ∷ more) all (inr is) =
-    absurd (feed_is_no_byte b more (more_bytes a (b ∷ more) all) is.1)
-
+-- a line end, or what begins with one
 line_end_at : (bytes : List ℕ) → IsLineEnd bytes → IsAtLineEnd bytes
 line_end_at bytes (inl feed) = rw feed refl
 line_end_at bytes (inr both) = rw both (inr (refl, refl))
 
-line_end_stops : (test : ℕ → Bool) (bytes : List ℕ) → IsLineEnd bytes → test 10 ≡ false → test 13 ≡ false
-    → StopsRun test bytes
-line_end_stops test bytes (inl feed) ten thirteen = rw feed ten
-line_end_stops test bytes (inr both) ten thirteen = rw both thirteen
+line_end_more : (at more : List ℕ) → IsAtLineEnd at → IsAtLineEnd more → IsAtLineEnd (at ++ more)
+line_end_more [] more end also = also
+line_end_more (b ∷ []) [] end also = end
+line_end_more (b ∷ []) (c ∷ more) end also = inl end
+line_end_more (b ∷ c ∷ at) more end also = end
+
+line_end_stops : (test : ℕ → Bool) (at : List ℕ) → IsAtLineEnd at → test 10 ≡ false → test 13 ≡ false → StopsRun test at
+line_end_stops test [] end ten thirteen = tt
+line_end_stops test (b ∷ []) end ten thirteen = rw end ten
+line_end_stops test (b ∷ c ∷ at) (inl is) ten thirteen = rw is ten
+line_end_stops test (b ∷ c ∷ at) (inr is) ten thirteen = rw is.0 thirteen
 
 -- a key alone, before a line end
 alone_before : {key at : List ℕ} {lines : ℕ} (front line_end : List ℕ) → BeginsWithLetter (front ++ at)
     → TakesEntry (front ++ at) key None lines at → IsLineEnd line_end
-    → TakesEntry (front ++ line_end) key None 0 line_end × BeginsWithLetter (front ++ line_end) × IsAtLineEnd at
+    → TakesEntry (front ++ (at ++ line_end)) key None 0 (at ++ line_end) × BeginsWithLetter (front ++ (at ++ line_end))
 alone_before {key = key} {at = at} front line_end begins (alone takes end) is =
     let front_is : front ≡ key ++ takes.spaces =
     append_cancel_right front (key ++ takes.spaces) at (key_joined at takes) in
-    let key_takes = key_before takes [] line_end refl (line_end_stops is_key_byte line_end is refl refl)
-    (line_end_stops is_space line_end is refl refl) in (
-      rw front_is (alone key_takes (line_end_at line_end is)),
-      letter_in_front front at line_end begins end,
-      end,
-    )
+    let rest = at ++ line_end in
+    let ends = line_end_more at line_end end (line_end_at line_end is) in
+    let key_takes = key_before takes [] rest refl (line_end_stops is_key_byte rest ends refl refl)
+    (line_end_stops is_space rest ends refl refl) in
+    (rw front_is (alone key_takes ends), letter_in_front front at rest begins end)
 
 nothing_or : (text : List ℕ) → (text ≡ []) ⊎ (text ≢ [])
 nothing_or [] = inl refl
@@ -244,11 +220,10 @@ closed_entry : {key at blanks bytes rest : List ℕ} {lines : ℕ} (was : Option
     → IsEntry key was lines at blanks bytes rest false → (line_end : List ℕ) → IsLineEnd line_end
     → ¬ ((raw : List ℕ) × (was ≡ Some raw) × (line_feeds raw ≢ lines))
     → ClosedEntry key was blanks bytes line_end
-closed_entry {at = at} None e line_end is other =
-    let (takes, begins, end) = alone_before e.front line_end e.begins e.takes is in
+closed_entry None e line_end is other =
+    let (takes, begins) = alone_before e.front line_end e.begins e.takes is in
     let is_at = at_is e line_end is in
-    let none : e.tail ≡ [] = sym is_at ∙ at_end_nothing at (rw is_at (tail_bytes e.is_tail)) end in
-    unchanged e line_end is None e.front 0 refl refl (rw none takes) (rw none begins)
+    unchanged e line_end is None e.front 0 refl refl (rw is_at at takes) (rw is_at at begins)
 closed_entry (Some raw) e line_end is other =
     elim (how_ends e.takes) [
       | before_rest text spells same ↦ closed_value e line_end is refl text spells

@@ -16,7 +16,7 @@ use Rattle.config_file.specs.Key.{is_name}
 use Rattle.config_edit.specs.Edit as spec
 use Rattle.config_edit.specs.Edit.{Content, Becomes, ChangesEach, ChangesValueTo, ChangesEntry, MayChange, AreInOrder, IsChanged, IsEntry}
 use Rattle.config_edit.specs.Edit.{Has, HasValue, PutsValue, name_after, value_bytes}
-use Rattle.config_edit.specs.Reading.{Ends, HasHow, Passed, anywhere, IsRead, IsPiece, IsSet, IsChangedIn, IsNamed, IsValued}
+use Rattle.config_edit.specs.Reading.{Ends, HasHow, anywhere, IsRead, IsPiece, IsSet, IsChangedIn, IsNamed, IsValued}
 use Rattle.config_edit.specs.Reading.{IsWritableComment}
 use Rattle.config_edit.specs.Reading.{AreLater, AreWritable, Changing, IsEachChanged, contents_in}
 use Rattle.config_edit.specs.Reading.{section_after, content_of, Comes, IsShaped, IsGiven}

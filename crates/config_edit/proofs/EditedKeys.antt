@@ -13,9 +13,9 @@ use Rattle.config_file.specs.Spelling.{HasNoHeader}
 use Rattle.config_file.specs.Header.{Section}
 use Rattle.config_edit.specs.Edit.{Content, content, HasContents, Changes, ChangesAt, SetsBytes, ChangesKey}
 use Rattle.config_edit.specs.Edit.{ReplacesKey, AddsKey, PutsLine, ReachesBehind, IsApart, MayUnset}
-use Rattle.config_edit.specs.Edit.{LosesOne, Without, NamesSection, MayRemove, RemovesSection}
+use Rattle.config_edit.specs.Edit.{LosesOne, Without, NamesSection, RemovesSection}
 use Rattle.config_edit.specs.Edit.{RenamesSection, NoneIn, LacksSection, LacksHeader, ChangesEntries}
-use Rattle.config_edit.specs.Reading.{IsSplit, IsReplaced, IsAdded, IsTaken, IsCleared, Counted, IsEachChanged}
+use Rattle.config_edit.specs.Reading.{IsSplit, IsReplaced, IsAdded, IsTaken, IsCleared, IsEachChanged}
 use Rattle.config_edit.specs.Reading.{Ends, ChangesIn, SetsIn, ComesBehind}
 use Rattle.config_edit.specs.Reading.{RefusesName}
 use Rattle.config_file.proofs.OneKey.{cut_same, not_both}

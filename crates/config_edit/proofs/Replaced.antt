@@ -23,7 +23,7 @@ use Rattle.config_edit.specs.Reading.{Holds, Ends, Passed, anywhere, at_end, IsR
 use Rattle.config_edit.specs.Reading.{IsSet, contents_in, section_after, IsListable, IsPast, content_of}
 use Rattle.config_edit.specs.Reading.{IsEntryHeld, IsFound, Replacing, IsReplaced, IsLeft}
 use Rattle.config_edit.specs.Edit.{AreBlank, IsEntry, IsEnd}
-use Rattle.config_edit.specs.Reading.{IsGiven, ChangesIn, SetsIn, Comes, MayLose}
+use Rattle.config_edit.specs.Reading.{IsGiven, ChangesIn, Comes, MayLose}
 use Rattle.config_file.specs.Views.{value_of}
 use Rattle.std.proofs.lemmas.List.{append_cancel_right}
 use Rattle.config_file.proofs.EachReading.{not_empty}

@@ -1,8 +1,5 @@
-use Rattle.std.proofs.Common.{◌≡◌, ◌++◌, ◌∙◌, ◌+◌, ◌<◌, ap, sym, subst, [], ◌∷◌, drop, length}
-use Rattle.std.proofs.Common.{MatchOption}
+use Rattle.std.proofs.Common.{◌≡◌, ◌++◌, ◌∙◌, ap}
 use Rattle.std.proofs.Math.ListN.{drop_of_length-le}
-use Rattle.config_edit.specs.declared.Change.{Change}
-use Rattle.config_edit.specs.Reading.{AreLater, Changing}
 use Rattle.config_edit.proofs.EachEntry.{changing_begins, changing_passes, changing_keeps, changing_changes}
 use Rattle.config_edit.proofs.EachEntry.{each_changed, not_in_order, some_after}
 use Rattle.config_edit.proofs.each.change_each.Goals as goal

@@ -1,6 +1,5 @@
-use Rattle.std.proofs.Common.{◌≡◌, ◌++◌, ◌∙◌, None, Some, ap, sym, subst, inl, inr, option_copied}
+use Rattle.std.proofs.Common.{◌≡◌, ◌++◌, ◌∙◌, None, Some, ap, inl, inr, option_copied}
 use Rattle.config_edit.specs.Edit.{name_after}
-use Rattle.config_edit.specs.Reading.{IsNamed, IsShaped}
 use Rattle.config_edit.proofs.EachEntry.{no_comment, changed_plain}
 use Rattle.config_edit.proofs.Commented.{changed_commented, writable_comment}
 use Rattle.config_edit.proofs.each.push_change.Goals as goal

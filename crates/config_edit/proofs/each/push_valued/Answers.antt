@@ -1,5 +1,3 @@
-use Rattle.std.proofs.Common.{ap, sym, subst, option_copied}
-use Rattle.config_edit.specs.Reading.{IsValued}
 use Rattle.config_edit.proofs.EachEntry.{valued_new, valued_old}
 use Rattle.config_edit.proofs.each.push_valued.Goals as goal
 

@@ -1,11 +1,10 @@
-use Rattle.std.proofs.Common.{rules, ◌≡◌, ◌++◌, ◌∙◌, ap, sym, subst, [], None}
-use Rattle.std.proofs.Common.{option_copied, option_map, true≢false, length, ◌+◌, ◌≤◌, arith}
+use Rattle.std.proofs.Common.{◌≡◌, ◌++◌, ◌∙◌, ap, sym}
+use Rattle.std.proofs.Common.{option_copied, option_map, true≢false, length, ◌+◌, arith}
 use Rattle.config_edit.specs.declared.removal.Taken.{Taken}
-use Rattle.config_edit.specs.declared.removal.Count.TheVariants as count
 use Rattle.config_file.specs.KeyView.{key_of}
 use Rattle.config_file.specs.Views.{section_of}
-use Rattle.config_edit.specs.Edit.{IsOf, IsPlaceOf}
-use Rattle.config_edit.specs.Reading.{AreLeft, Losing, IsEntryHeld, contents_in, content_of, one_more, section_after}
+use Rattle.config_edit.specs.Edit.{IsPlaceOf}
+use Rattle.config_edit.specs.Reading.{IsEntryHeld, contents_in, one_more}
 use Rattle.config_edit.proofs.Replaced.{no_entry_held, no_header_after}
 use Rattle.config_edit.proofs.Removed.{losing_begins, losing_header, losing_keeps, losing_loses, losing_ends}
 use Rattle.config_edit.proofs.Removed.{entry_no_header, nothing_no_header, nothing_in}

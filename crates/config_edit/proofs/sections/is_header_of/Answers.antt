@@ -1,6 +1,4 @@
-use Rattle.std.proofs.Common.{subst, sym}
 use Rattle.config_file.specs.KeyView.{key_of}
-use Rattle.config_edit.specs.Reading.{IsHeaderHeld}
 use Rattle.config_edit.proofs.Edits.{header_listed}
 use Rattle.config_edit.proofs.sections.is_header_of.Goals as goal
 

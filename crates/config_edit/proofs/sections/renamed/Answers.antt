@@ -1,7 +1,7 @@
-use Rattle.std.proofs.Common.{rules, ◌≡◌, ◌++◌, [], ◌∙◌, sym, subst, true, false, true≢false}
+use Rattle.std.proofs.Common.{rules, ◌≡◌, ◌++◌, ◌∙◌, sym, true≢false}
 use Rattle.config_file.specs.KeyView.{key_of}
 use Rattle.config_file.specs.Spelling.{IsHeader}
-use Rattle.config_edit.specs.Reading.{Renaming, IsHeaderHeld}
+use Rattle.config_edit.specs.Reading.{IsHeaderHeld}
 use Rattle.config_file.proofs.SpelledHeaders.{header_spelled}
 use Rattle.config_edit.proofs.Edits.{renaming_begins, renaming_keeps, renaming_changes, renaming_ends}
 use Rattle.config_edit.proofs.Edits.{none_renamed}

@@ -1,7 +1,7 @@
-use Rattle.std.proofs.Common.{rules, ◌≡◌, ◌++◌, ◌∙◌, sym, ap, subst, [], None}
-use Rattle.std.proofs.Common.{false, true, true≢false, append-nil}
+use Rattle.std.proofs.Common.{◌≡◌, ◌++◌, ◌∙◌, sym, ap}
+use Rattle.std.proofs.Common.{true≢false, append-nil}
 use Rattle.config_file.specs.KeyView.{key_of}
-use Rattle.config_edit.specs.Reading.{Clearing, ClearsPiece, IsKept, IsLost}
+use Rattle.config_edit.specs.Reading.{Clearing, ClearsPiece}
 use Rattle.config_edit.proofs.Edits.{header_listed, some_left}
 use Rattle.config_edit.proofs.Cleared.{clearing_begins, at_header, then_header, piece_clears, left_is_cut, still_lost}
 use Rattle.config_edit.proofs.Cleared.{nothing_lost, kept_ends, lost_ends, none_cleared}

@@ -1,7 +1,6 @@
-use Rattle.std.proofs.Common.{◌≡◌, ◌∙◌, ap, subst, IfSome, MatchOption, List, ℕ, [], ◌∷◌, ◌++◌, true}
+use Rattle.std.proofs.Common.{◌∙◌, ap, ◌∷◌, ◌++◌}
 use Rattle.config_file.specs.KeyView.{key_of}
-use Rattle.config_edit.specs.Edit.{NoneIn}
-use Rattle.config_edit.specs.Reading.{IsPlace, line_ends, new_line}
+use Rattle.config_edit.specs.Reading.{line_ends, new_line}
 use Rattle.config_file.specs.Spelling.{spelled_section}
 use Rattle.config_edit.proofs.Added.{added_inside, added_behind}
 use Rattle.config_edit.proofs.setting.added.Goals as goal

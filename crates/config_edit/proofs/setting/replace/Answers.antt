@@ -1,11 +1,9 @@
-use Rattle.std.proofs.Common.{rules, ◌≡◌, ◌≢◌, ◌++◌, ◌∙◌, ap, sym, subst, [], None}
-use Rattle.std.proofs.Common.{option_map, is_some, false, true≢false, append_assoc}
+use Rattle.std.proofs.Common.{◌≡◌, ◌≢◌, ◌++◌, ◌∙◌, ap, sym, []}
+use Rattle.std.proofs.Common.{option_map, is_some, true≢false, append_assoc}
 use Rattle.config_edit.specs.declared.setting.Found.{Found}
 use Rattle.config_file.specs.KeyView.{key_of}
 use Rattle.config_file.specs.Views.{section_of}
-use Rattle.config_edit.specs.Edit.{IsOf}
-use Rattle.config_edit.specs.Reading.{Replacing, IsEntryHeld, IsFound, content_of}
-use Rattle.config_edit.specs.Reading.{section_after}
+use Rattle.config_edit.specs.Reading.{IsEntryHeld}
 use Rattle.config_edit.proofs.Replaced.{replacing_begins, replacing_passes, replacing_finds}
 use Rattle.config_edit.proofs.Replaced.{replacing_listable, no_entry_held, no_header_after}
 use Rattle.config_edit.proofs.Replaced.{none_replaced, one_replaced, not_replaced}

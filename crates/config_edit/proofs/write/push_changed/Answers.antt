@@ -1,7 +1,5 @@
-use Rattle.std.proofs.Common.{◌≡◌, ◌++◌, ◌∷◌, ◌∙◌, refl, ap, sym, subst, List, ℕ, Some, None}
-use Rattle.std.proofs.Common.{append_assoc, inl, inr, true≢false}
-use Rattle.config_file.specs.Value.{outside, at_backslash, SpellsValue}
-use Rattle.config_edit.specs.Edit.{HasValue}
+use Rattle.std.proofs.Common.{◌≡◌, ◌++◌, ◌∷◌, ◌∙◌, refl, ap, Some, None}
+use Rattle.std.proofs.Common.{append_assoc}
 use Rattle.config_file.specs.Spelling.{git_spelled}
 use Rattle.config_file.specs.Views.{value_of}
 use Rattle.config_edit.proofs.Changed.{can_hold, tail_cut, front_cut, value_changed, value_given, value_kept}

@@ -1,6 +1,5 @@
-use Rattle.std.proofs.Common.{◌≡◌, ◌++◌, ◌∷◌, ◌∙◌, [], List, ℕ, refl, ap, sym, subst, append_assoc, append-nil, inl, inr, ◌⊎◌, true≢false}
+use Rattle.std.proofs.Common.{◌≡◌, ◌++◌, ◌∷◌, ◌∙◌, [], List, ℕ, refl, ap, sym, append_assoc, append-nil, inl, inr, ◌⊎◌, true≢false}
 use Rattle.std.proofs.lemmas.List.{append_cancel_right}
-use Rattle.config_file.specs.Value.{outside, at_backslash, SpellsValue}
 use Rattle.config_edit.specs.Edit.{HasValue}
 use Rattle.config_edit.specs.Reading.{IsOpen}
 use Rattle.config_file.specs.Views.{value_of}

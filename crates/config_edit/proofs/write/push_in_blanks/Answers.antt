@@ -1,4 +1,4 @@
-use Rattle.std.proofs.Common.{◌≡◌, ◌++◌, ◌∙◌, ap, List, ℕ, append_assoc}
+use Rattle.std.proofs.Common.{◌≡◌, ◌++◌, append_assoc}
 use Rattle.config_file.specs.Spelling.{git_spelled}
 use Rattle.config_edit.proofs.Changed.{put_in_blanks}
 use Rattle.config_edit.proofs.write.push_in_blanks.Goals as goal

@@ -1,4 +1,4 @@
-use Rattle.std.proofs.Common.{◌≡◌, ◌++◌, ◌∙◌, ap, inl, inr, append_assoc}
+use Rattle.std.proofs.Common.{◌≡◌, ◌++◌, ap, inl, inr, append_assoc}
 use Rattle.config_edit.specs.Reading as edit
 use Rattle.config_edit.proofs.removal.Group.finish.Goals as goal
 
