@@ -191,9 +191,15 @@ front_cut {blanks = blanks} e front tail joined is =
     append_cancel_right front (blanks ++ e.front) e.tail
     (ap (λ t. front ++ t) (sym is) ∙ sym joined ∙ e.joined ∙ sym (append_assoc blanks e.front e.tail))
 
+-- the piece has the entry of these parts
+abbrev pub IsEntryIn : EntryParts → Piece → Type 0
+IsEntryIn parts piece =
+    IsEntry parts.key.now (value_of parts.value) parts.lines parts.rest.now
+    piece.blanks.now piece.bytes.now piece.rest.now piece.is_line
+
 -- the bytes of an entry, in which these come in the place of those of its value
 given_by : {parts : EntryParts} {piece : Piece} {value put : List ℕ}
-    (e : IsEntry parts.key.now (value_of parts.value) parts.lines parts.rest.now piece.blanks.now piece.bytes.now piece.rest.now piece.is_line)
+    (e : IsEntryIn parts piece)
     (front now : List ℕ) → e.front ≡ front ++ value_bytes (value_of parts.value)
     → put ≡ piece.blanks.now ++ ((front ++ now) ++ e.tail) → PutsValue value (value_of parts.value) now
     → IsGiven parts piece value put
@@ -219,7 +225,7 @@ given_by {parts = parts} e front now front_is put_is puts =
 
 pub value_changed : {parts : EntryParts} {piece : Piece} (raw value put start : List ℕ)
     → value_of parts.value ≡ Some raw
-    → (e : IsEntry parts.key.now (value_of parts.value) parts.lines parts.rest.now piece.blanks.now piece.bytes.now piece.rest.now piece.is_line)
+    → (e : IsEntryIn parts piece)
     → piece.bytes.now ≡ (start ++ raw) ++ e.tail → IsPutIn raw value put
     → ¬ (HasValue (value_of parts.value) value) → IsSet parts piece value (start ++ (put ++ e.tail))
 value_changed {parts = parts} {piece = piece} raw value put start held e bytes_is is_put other =
@@ -328,7 +334,7 @@ with_value {key = key} {at = at} front gap raw value {rest = rest} joined none b
     )
 
 pub value_given : {parts : EntryParts} {piece : Piece} {value gap : List ℕ} → value_of parts.value ≡ None
-    → (e : IsEntry parts.key.now (value_of parts.value) parts.lines parts.rest.now piece.blanks.now piece.bytes.now piece.rest.now piece.is_line)
+    → (e : IsEntryIn parts piece)
     → is_spellable value ≡ true → IsGap gap
     → IsSet parts piece value ((piece.blanks.now ++ e.front) ++ ((gap ++ 61 ∷ 32 ∷ git_spelled value) ++ e.tail))
 value_given {parts = parts} {piece = piece} {value = value} {gap = gap} held e spellable is_gap =
@@ -400,7 +406,7 @@ has_of parts (raw, held, inr how) = rw held (at_backslash, how.0)
 
 -- an entry that has the value already
 pub value_kept : {parts : EntryParts} {piece : Piece} {value : List ℕ} → HasHow parts value
-    → (e : IsEntry parts.key.now (value_of parts.value) parts.lines parts.rest.now piece.blanks.now piece.bytes.now piece.rest.now piece.is_line)
+    → (e : IsEntryIn parts piece)
     → IsSet parts piece value piece.bytes.now
 value_kept {parts = parts} how e =
     let (raw, held, spells) = how in

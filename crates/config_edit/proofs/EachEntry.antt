@@ -23,7 +23,7 @@ use Rattle.config_edit.specs.Reading.{section_after, content_of, Comes, IsShaped
 use Rattle.config_file.specs.Views.{value_of}
 use Rattle.config_edit.proofs.Added.{name_parts}
 use Rattle.config_edit.proofs.Pieces.{entry_passed, key_joined}
-use Rattle.config_edit.proofs.Changed.{value_ends}
+use Rattle.config_edit.proofs.Changed.{IsEntryIn, value_ends}
 use Rattle.config_edit.proofs.Replaced.{piece_passed}
 use Rattle.config_edit.proofs.Edits.{holds_nothing, passed_join, passed_ends, all_passed, some_left}
 use Rattle.config_edit.proofs.Edits.{joined_more, passed_holds, comes_blanks}
@@ -88,7 +88,7 @@ value_at_end (valued {b = b} t is_sign value) =
 
 -- an entry whose bytes stay
 shaped_old : {value : Option (List ℕ)} {parts : EntryParts} {piece : Piece}
-    → IsEntry parts.key.now (value_of parts.value) parts.lines parts.rest.now piece.blanks.now piece.bytes.now piece.rest.now piece.is_line
+    → IsEntryIn parts piece
     → MatchOption value (value_bytes (value_of parts.value) ≡ value_bytes (value_of parts.value))
     (λ new. ChangesValueTo new (value_of parts.value) (value_bytes (value_of parts.value)))
     → MatchOption value ⊤ (λ new. HasValue (value_of parts.value) new → HasHow parts new)
@@ -143,22 +143,19 @@ shaped_new {parts = parts} {piece = piece} other g =
     }
 
 shaped_set : {value : List ℕ} {parts : EntryParts} {piece : Piece} {put : List ℕ}
-    → IsEntry parts.key.now (value_of parts.value) parts.lines parts.rest.now piece.blanks.now piece.bytes.now piece.rest.now piece.is_line
-    → IsSet parts piece value put → IsShaped parts.key.now (Some value) parts piece put
+    → IsEntryIn parts piece → IsSet parts piece value put → IsShaped parts.key.now (Some value) parts piece put
 shaped_set {value = value} e s = elim s.given [
   | inl same ↦ rw same.1 (shaped_old {value = Some value} e (inl (same.0, refl)) (λ has. same.2))
   | inr other ↦ shaped_new other.0 other.1
 ]
 
 pub valued_new : {value : List ℕ} {parts : EntryParts} {piece : Piece} {put : List ℕ}
-    → IsEntry parts.key.now (value_of parts.value) parts.lines parts.rest.now piece.blanks.now piece.bytes.now piece.rest.now piece.is_line
-    → IsSet parts piece value put → IsValued (Some value) parts piece put
+    → IsEntryIn parts piece → IsSet parts piece value put → IsValued (Some value) parts piece put
 valued_new e s =
     record { raw = Some s.raw; lines = s.lines; at = s.at; value_is = s.has_value; entry = s.entry; shaped = shaped_set e s }
 
 pub valued_old : {parts : EntryParts} {piece : Piece}
-    → IsEntry parts.key.now (value_of parts.value) parts.lines parts.rest.now piece.blanks.now piece.bytes.now piece.rest.now piece.is_line
-    → IsValued None parts piece piece.bytes.now
+    → IsEntryIn parts piece → IsValued None parts piece piece.bytes.now
 valued_old {parts = parts} e =
     record { raw = value_of parts.value; lines = parts.lines; at = parts.rest.now; value_is = refl; entry = e; shaped = shaped_old {value = None} e refl tt }
 

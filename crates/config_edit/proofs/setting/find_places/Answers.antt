@@ -55,28 +55,23 @@ pieces-preserved c =
       | in_default-held w ↦ rw w.is_inside-is
           (inside_after_other key p.section c.pieces.is_inside piece.held w.in_default-held.not-Header p.inside_is)
     ] in
-    let either : (m.is_inside ≡ false) ⊎ (is_item piece.held ≡ false) =
+    let (either, no_comment) : ((m.is_inside ≡ false) ⊎ (is_item piece.held ≡ false))
+    × ((c.pieces.is_inside && c.pieces.after_header) ≡ true → NoCommentNext c.pieces.rest.now) =
     elim c.else-is_inside.branch [
       | else-is_inside-via-then-is_inside+else-is_item w ↦ elim w.if-after_header.branch [
-        | then-after_header v ↦ absurd
-            (true≢false (sym v.if-after_header.true ∙ sym v.value-is ∙ w.if-is_item.false))
-        | else-after_header v ↦ inr (sym v.is_item.ensures ∙ sym v.value-is ∙ w.if-is_item.false)
+        | then-after_header v ↦ cc
+        | else-after_header v ↦ (
+          inr (sym v.is_item.ensures ∙ sym v.value-is ∙ w.if-is_item.false),
+          λ pending. let was = and_parts c.pieces.is_inside c.pieces.after_header pending in cc,
+        )
       ]
-      | else-is_inside-via-else-is_inside w ↦ inl w.if-is_inside.false
-    ] in
-    let no_comment : (c.pieces.is_inside && c.pieces.after_header) ≡ true → NoCommentNext c.pieces.rest.now =
-    λ pending.
-    let (was, behind) = and_parts c.pieces.is_inside c.pieces.after_header pending in
-    elim c.else-is_inside.branch [
-      | else-is_inside-via-then-is_inside+else-is_item w ↦ elim w.if-after_header.branch [
-        | then-after_header v ↦ absurd
-            (true≢false (sym v.if-after_header.true ∙ sym v.value-is ∙ w.if-is_item.false))
-        | else-after_header v ↦ absurd (true≢false (sym behind ∙ v.if-after_header.false))
-      ]
-      | else-is_inside-via-else-is_inside w ↦ elim c.match-piece.branch [
-        | in-Header v ↦ header_next piece.held piece.blanks.now piece.bytes.now piece.rest.now piece.is_line v.in-Header.section v.in-Header.is is.blank is.made is.joined
-        | in_default-held v ↦ absurd (true≢false (sym was ∙ sym v.is_inside-is ∙ w.if-is_inside.false))
-      ]
+      | else-is_inside-via-else-is_inside w ↦ (
+        inl w.if-is_inside.false,
+        λ pending. elim c.match-piece.branch [
+          | in-Header v ↦ header_next piece.held piece.blanks.now piece.bytes.now piece.rest.now piece.is_line v.in-Header.section v.in-Header.is is.blank is.made is.joined
+          | in_default-held v ↦ let was = and_parts c.pieces.is_inside c.pieces.after_header pending in cc
+        ],
+      )
     ] in
     placing_kept c.pieces.is_inside c.pieces.after_header m.is_inside m.is_header piece p no_comment is c.in-Some.ensures.shorter c.of-end.ensures inside either
 

@@ -45,27 +45,18 @@ returns c =
           let held : was ≡ Some raw = ap (λ v. value_of v) w.in-Some.is in
           let (put, pushed, is_put) = w.in_ok-push_in_place-in-Some.ensures in
           let other = not_spelled was c.in_ok-has_value.ensures.spelled c.if-branch.false in
-          let bytes_is : c.args.piece.now.bytes.now ≡ (start ++ raw) ++ e.tail =
-          c.before-front.ensures ∙ ap (λ f. f ++ tail) w.before-start.ensures ∙ ap
-          (λ t. (start ++ raw) ++ t) tail_is in
-          let whole : c.extend_from_slice-2.new.self.items ≡ text ++ (start ++ (put ++ e.tail)) =
-          c.in_ok-extend_from_slice-2.ensures.items
-          ∙ ap (λ x. x ++ tail) (ap (λ x. x.items) w.text-is ∙ pushed ∙ ap
-          (λ x. x ++ put) w.in_ok-extend_from_slice-in-Some.ensures.items)
-          ∙ ap (λ t. ((text ++ start) ++ put) ++ t) tail_is ∙ simp append_assoc in
-          (start ++ (put ++ e.tail), whole, value_changed raw value put start held e bytes_is is_put other)
+          let bytes_is = rw (w.before-start.ensures, tail_is) at c.before-front.ensures in
+          let pushes = w.in_ok-extend_from_slice-in-Some.ensures.items in
+          let whole : c.extend_from_slice-2.new.self.items ≡ text ++ (start ++ (put ++ tail)) =
+          simp (c.in_ok-extend_from_slice-2.ensures.items, w.text-is, pushed, pushes, append_assoc) in
+          (start ++ (put ++ tail), whole, rw tail_is (value_changed raw value put start held e bytes_is is_put other))
       | in-None+in_ok-extend_from_slice-in-None+in_ok-push_given-in-None w ↦
           let (gap, is, pushed) = w.in_ok-push_given-in-None.ensures in
           let put = gap ++ 61 ∷ 32 ∷ git_spelled value in
-          let blanks = c.args.piece.now.blanks.now in
-          let front_is : front ≡ blanks ++ e.front = front_cut e front tail c.before-front.ensures tail_is in
+          let front_is = front_cut e front tail c.before-front.ensures tail_is in
           let held : was ≡ None = ap (λ v. value_of v) w.in-None.is in
-          let whole : c.extend_from_slice-2.new.self.items ≡ text ++
-          ((blanks ++ e.front) ++ (put ++ e.tail)) =
-          c.in_ok-extend_from_slice-2.ensures.items
-          ∙ ap (λ x. x ++ tail) (ap (λ x. x.items) w.text-is ∙ pushed ∙ ap
-          (λ x. x ++ put) w.in_ok-extend_from_slice-in-None.ensures.items)
-          ∙ ap (λ t. ((text ++ front) ++ put) ++ t) tail_is ∙ ap (λ f. ((text ++ f) ++ put) ++ e.tail) front_is
-          ∙ simp append_assoc in
-          ((blanks ++ e.front) ++ (put ++ e.tail), whole, value_given held e c.requires.spellable is)
+          let pushes = w.in_ok-extend_from_slice-in-None.ensures.items in
+          let whole : c.extend_from_slice-2.new.self.items ≡ text ++ (front ++ (put ++ tail)) =
+          simp (c.in_ok-extend_from_slice-2.ensures.items, w.text-is, pushed, pushes, append_assoc) in
+          (front ++ (put ++ tail), whole, rw (front_is, tail_is) (value_given held e c.requires.spellable is))
     ]

@@ -39,7 +39,7 @@ returns c =
           let known = w.in_ok-has_value.ensures in
           let has = has_of parts (how_spelled was e.takes known.alone known.spelled w.if-branch.true) in (
             10 ∷ [],
-            ap (λ t. t.items) w.text-is ∙ w.in_ok-push.ensures.items ∙ ap (λ t. t ++ 10 ∷ []) first ∙ append_assoc text core (10 ∷ []),
+            simp (w.text-is, w.in_ok-push.ensures.items, first, append_assoc),
             inl (c.is_open.ensures.0 w.if-is_open.true, has, refl),
           )
       | else-is_open w ↦
@@ -49,11 +49,8 @@ returns c =
                 not_spelled was w'.in_ok-has_value.ensures.spelled w'.if-branch.false has
             | else-is_open-via-else-is_open w' ↦
                 true≢false (sym (c.is_open.ensures.1 opened) ∙ w'.if-is_open.false)
-          ] in (
-            [],
-            ap (λ t. t.items) w.text-is ∙ first ∙ ap (λ x. text ++ x) (sym (append-nil core)),
-            inr (closed, refl),
-          )
+          ] in
+          ([], simp (w.text-is, first, append-nil), inr (closed, refl))
     ] in
     let whole : c.extend_from_slice-4.new.self.items ≡ text ++ (core ++ (feed ++ ((front ++ comment) ++ end))) =
     simp (c.in_ok-extend_from_slice-4.ensures.items, c.in_ok-extend_from_slice-3.ensures.items, c.in_ok-extend_from_slice-2.ensures.items, fed, append_assoc) in (
