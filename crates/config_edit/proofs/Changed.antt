@@ -1,6 +1,7 @@
 -- Values that stand in the place of others.
 use Rattle.std.proofs.Common.{◌≡◌, ◌≢◌, ℕ, ◌+◌, Bool, true, false, List, [], ◌∷◌, ◌++◌, Option, Some, None, refl}
-use Rattle.std.proofs.Common.{sym, ap, ◌∙◌, subst, append_assoc, append-nil, arith, inl, inr, ◌⊎◌, ◌↔◌, IsTrue, true≢false}
+use Rattle.std.proofs.Common.{sym, ap, ◌∙◌, subst, append_assoc, append-nil, arith, inl, inr, ◌⊎◌, ◌↔◌}
+use Rattle.std.proofs.Common.{IsTrue, true≢false}
 use Rattle.std.specs.List.{list_all}
 use Rattle.std.specs.Char.{is_ascii_alphabetic}
 use Rattle.std.proofs.lemmas.Bool.{and_parts}
@@ -65,7 +66,8 @@ AddNothing at_backslash more =
     (feed blanks : List ℕ) × (more ≡ feed ++ blanks) × IsLineEnd feed × AreBlank blanks
 
 pub spells_more : {w : ℕ → ℕ} {q : Bool} {held raw text so_far : List ℕ} {ending : Ending} (more : List ℕ)
-    → Spells w q so_far held raw text ending → AddNothing ending more → Spells w q so_far held (raw ++ more) text outside
+    → Spells w q so_far held raw text ending → AddNothing ending more
+    → Spells w q so_far held (raw ++ more) text outside
 spells_more more value.ends_outside all = blanks_end more all
 spells_more more value.ends_inside never = absurd never
 spells_more more (value.ends_at_backslash b) (feed, blanks, more_is, inl is, all) =
@@ -107,7 +109,9 @@ put_between lead rest core trail value spellable run some joined all last =
     λ b more e. subst (StopsRun is_blank) (joined ∙ ap (λ c. c ++ trail) e) run.longest in
     record {
       spells = spells_between lead trail run.pass all spelling.0;
-      puts = rw (run.joined, joined) (spec.in_place lead trail run.pass (no_core trail rest run some joined all, begins, last) all (spelling, refl));
+      puts = rw (run.joined, joined)
+          (spec.in_place lead trail run.pass (no_core trail rest run some joined all, begins, last) all
+          (spelling, refl));
     }
 
 pub gap_blank : (gap : List ℕ) → IsGap gap → AreBlank gap
@@ -170,11 +174,13 @@ can_hold {text = text} {key = key} {raw = raw} {at = at} front joined e begins (
       start = start;
       before = before;
       start_is = refl;
-      joined = append_cancel_right front (start ++ raw) at (sym joined ∙ simp (text_is, after_is, same, append_assoc));
+      joined = append_cancel_right front
+          (start ++ raw) at (sym joined ∙ simp (text_is, after_is, same, append_assoc));
       ends = ends;
       holds = λ put value other spells ends_now. (
         simp append_assoc (valued (key_takes (put ++ other)) refl (closed refl spells ends_now)),
-        simp append_assoc (letter_before before 61 after (put ++ other) (subst BeginsWithLetter text_is begins)),
+        simp append_assoc (letter_before before 61 after (put ++ other)
+            (subst BeginsWithLetter text_is begins)),
       );
     }
 
@@ -236,6 +242,7 @@ value_changed {parts = parts} {piece = piece} raw value put start held e bytes_i
     append_cancel_right start (blanks ++ c.start) raw
     (append_cancel_right (start ++ raw) ((blanks ++ c.start) ++ raw) e.tail
     (sym bytes_is ∙ e.joined ∙ ap (λ f. blanks ++ (f ++ e.tail)) c.joined ∙ simp append_assoc)) in
+    let front_is = c.joined ∙ ap (λ w. c.start ++ value_bytes w) (sym held) in
     let whole : start ++ (put ++ e.tail) ≡ blanks ++ ((c.start ++ put) ++ e.tail) =
     ap (λ s. s ++ (put ++ e.tail)) start_is ∙ simp append_assoc in
     record {
@@ -252,7 +259,7 @@ value_changed {parts = parts} {piece = piece} raw value put start held e bytes_i
         is_tail = e.is_tail;
         joined = whole;
       };
-      given = inr (other, given_by e c.start put (c.joined ∙ ap (λ w. c.start ++ value_bytes w) (sym held)) whole (rw held is_put.puts));
+      given = inr (other, given_by e c.start put front_is whole (rw held is_put.puts));
     }
 
 -- a value for a key alone
@@ -262,8 +269,10 @@ spaces_stop [] other all stops = stops
 spaces_stop (s ∷ spaces) other all stops = grind (arith, nat_tests)
 
 -- a key with more spaces behind it, before another rest
-pub key_before : {text key at : List ℕ} (t : TakesKey text key at) (gap rest : List ℕ) → list_all is_space gap ≡ true
-    → StopsRun is_key_byte rest → StopsRun is_space rest → TakesKey ((key ++ t.spaces) ++ (gap ++ rest)) key rest
+pub key_before : {text key at : List ℕ} (t : TakesKey text key at) (gap rest : List ℕ)
+    → list_all is_space gap ≡ true
+    → StopsRun is_key_byte rest → StopsRun is_space rest
+    → TakesKey ((key ++ t.spaces) ++ (gap ++ rest)) key rest
 key_before t gap rest all stops ends =
     let are : list_all is_space (t.spaces ++ gap) ≡ true =
     rw (list_all-append is_space t.spaces gap, t.space_run.pass, all) refl in
@@ -364,23 +373,28 @@ value_given {parts = parts} {piece = piece} {value = value} {gap = gap} held e s
       };
       given = inr (
         rw held (λ none. none),
-        given_by e e.front put (rw held (sym (append-nil e.front))) (simp append_assoc) (rw held (spec.behind_key is_gap (spelling, refl))),
+        given_by e e.front put (rw held (sym (append-nil e.front))) (simp append_assoc)
+            (rw held (spec.behind_key is_gap (spelling, refl))),
       );
     }
 
 -- how the bytes of a value end: before what follows them, or at a backslash that ends the text
 pub data HowEnds (raw : List ℕ) (lines : ℕ) (at : List ℕ) : Type 0 where
   before_rest : (text : List ℕ) → SpellsValue raw text outside → lines ≡ line_feeds raw → HowEnds raw lines at
-  before_nothing : (text : List ℕ) → SpellsValue raw text at_backslash → lines ≡ line_feeds raw + 1 → at ≡ [] → HowEnds raw lines at
+  before_nothing : (text : List ℕ) → SpellsValue raw text at_backslash → lines ≡ line_feeds raw + 1 → at ≡ []
+      → HowEnds raw lines at
 
-pub how_ends : {text key raw at : List ℕ} {lines : ℕ} → TakesEntry text key (Some raw) lines at → HowEnds raw lines at
+pub how_ends : {text key raw at : List ℕ} {lines : ℕ}
+    → TakesEntry text key (Some raw) lines at → HowEnds raw lines at
 how_ends (valued takes is (closed {value = text} joined spells ends)) = before_rest text spells refl
 how_ends (valued takes is (open_end {value = text} spells)) = before_nothing text spells refl refl
 
 -- what a test says of a value: whether it is this one
-pub how_spelled : {text key at value : List ℕ} {lines : ℕ} {yes : Bool} (was : Option (List ℕ)) → TakesEntry text key was lines at
+pub how_spelled : {text key at value : List ℕ} {lines : ℕ} {yes : Bool} (was : Option (List ℕ))
+    → TakesEntry text key was lines at
     → (was ≡ None → yes ≡ false)
-    → ((raw spelled : List ℕ) (ending : Ending) → was ≡ Some raw → SpellsValue raw spelled ending → IsTrue yes ↔ (spelled ≡ value))
+    → ((raw spelled : List ℕ) (ending : Ending) → was ≡ Some raw → SpellsValue raw spelled ending
+    → IsTrue yes ↔ (spelled ≡ value))
     → yes ≡ true
     → (raw : List ℕ) × (was ≡ Some raw) × ((SpellsValue raw value outside × (lines ≡ line_feeds raw))
     ⊎ (SpellsValue raw value at_backslash × (lines ≡ line_feeds raw + 1)))
@@ -394,13 +408,15 @@ how_spelled (Some raw) takes unvalued spelled same =
     ]
 
 pub not_spelled : {value : List ℕ} {yes : Bool} (was : Option (List ℕ))
-    → ((raw spelled : List ℕ) (ending : Ending) → was ≡ Some raw → SpellsValue raw spelled ending → IsTrue yes ↔ (spelled ≡ value))
+    → ((raw spelled : List ℕ) (ending : Ending) → was ≡ Some raw → SpellsValue raw spelled ending
+    → IsTrue yes ↔ (spelled ≡ value))
     → yes ≡ false → ¬ (HasValue was value)
 not_spelled None spelled differs has = has
 not_spelled {value = value} (Some raw) spelled differs (ending, spells) =
     true≢false (sym ((spelled raw value ending refl spells).1 refl) ∙ differs)
 
-pub has_of : (parts : EntryParts) {value : List ℕ} → HasHow parts value → HasValue (value_of parts.value) value
+pub has_of : (parts : EntryParts) {value : List ℕ} → HasHow parts value
+    → HasValue (value_of parts.value) value
 has_of parts (raw, held, inl how) = rw held (outside, how.0)
 has_of parts (raw, held, inr how) = rw held (at_backslash, how.0)
 

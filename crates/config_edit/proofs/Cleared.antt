@@ -18,7 +18,8 @@ use Rattle.config_file.specs.Views.{section_of}
 use Rattle.config_edit.proofs.Edits.{without_in_both, holds_nothing, holds_join, passed_holds, passed_join}
 use Rattle.config_edit.proofs.Edits.{passed_ends, all_passed, some_left}
 use Rattle.config_edit.proofs.Becomes.{becomes_before, becomes_both}
-use Rattle.config_edit.proofs.Replaced.{other_after, holds_then, past_begins, past_more, piece_passed, end_holds}
+use Rattle.config_edit.proofs.Replaced.{other_after, holds_then, past_begins, past_more, piece_passed}
+use Rattle.config_edit.proofs.Replaced.{end_holds}
 use Rattle.config_edit.proofs.Added.{none_in_piece}
 use Rattle.config_edit.proofs.Removed.{header_may_go}
 use Rattle.std.proofs.lemmas.List.{append_cancel_right}
@@ -68,7 +69,8 @@ lost_before {key = key} {text = text} {rest = rest} {new = new} end comments som
     append_cancel_right comments r.comments rest (sym cut ∙ r.cut) in
     let are = passed_holds some (r.are_comments r.base) in
     let holds =
-    holds_join new (end ++ r.comments) r.new_is (holds_join end r.comments (end_holds r.base end is_end) are) in
+    holds_join new (end ++ r.comments) r.new_is
+    (holds_join end r.comments (end_holds r.base end is_end) are) in
     let (at, there, place) = r.begins in
     let goes : Becomes (Comes text) (MayRemove key) r.gone (r.comments ++ rest) end =
     spec.changed spec.none place (with_end end is_end r.loses) in
@@ -81,7 +83,8 @@ lost_before {key = key} {text = text} {rest = rest} {new = new} end comments som
       past = r.past;
       new_is = rw append-nil at holds;
       without = r.without;
-      changes = becomes_both r.front new r.changes (becomes_both r.gone end goes (spec.kept r.comments spec.none));
+      changes = becomes_both r.front new r.changes
+          (becomes_both r.gone end goes (spec.kept r.comments spec.none));
       untouched = λ none. absurd (true≢false (sym found ∙ none));
     })
 
@@ -170,7 +173,8 @@ body_joined is spec.none = rw append-nil is
 body_joined {first = first} is (spec.entry {body = body} {bytes = bytes} more entry) =
     rw (← append_assoc first body bytes) (spec.entry (body_joined (rw append_assoc at is) more) entry)
 body_joined {first = first} is (spec.line {body = body} {tail = tail} blanks more all t) =
-    rw (← append_assoc first body (blanks ++ tail)) (spec.line blanks (body_joined (rw append_assoc at is) more) all t)
+    rw (← append_assoc first body (blanks ++ tail))
+    (spec.line blanks (body_joined (rw append_assoc at is) more) all t)
 
 piece_body : (h : Held) (blanks rest : List ℕ) (is_line : Bool) {bytes : List ℕ}
     → ((header : code.Section) → h ≡ held.Header header → ⊥) → AreBlank blanks
@@ -197,7 +201,11 @@ more_gone bytes is_body loses =
     }
 
 -- one piece more of a section that is lost
-module _ {key : Key} {text rest new : List ℕ} {lost : Lost} (piece : Piece) (later : Lost) (r : IsLost key text rest new lost) (is : IsPiece rest piece) (shorter : length piece.rest.now < length rest) (no_header : (header : code.Section) → piece.held ≡ held.Header header → ⊥) (is_end : IsEnd later.line_end.now) where
+module _ {key : Key} {text rest new : List ℕ} {lost : Lost} (piece : Piece) (later : Lost)
+    (r : IsLost key text rest new lost) (is : IsPiece rest piece)
+    (shorter : length piece.rest.now < length rest)
+    (no_header : (header : code.Section) → piece.held ≡ held.Header header → ⊥)
+    (is_end : IsEnd later.line_end.now) where
   more_lost : (gone comments : List ℕ) → (r.gone ++ r.comments) ++ piece.bytes.now ≡ gone ++ comments
       → later.comments.now ≡ comments ++ piece.rest.now
       → ((any : Option Section) → Passed any comments [] any piece.rest.now) → IsBody comments piece.rest.now
@@ -207,7 +215,8 @@ module _ {key : Key} {text rest new : List ℕ} {lost : Lost} (piece : Piece) (l
       let without =
       without_in_both r.old r.now r.without (all_lost key piece.held r.section r.inside) in
       let whole : (r.gone ++ r.comments) ++ rest ≡ (gone ++ comments) ++ piece.rest.now =
-      ap (λ x. (r.gone ++ r.comments) ++ x) is.joined ∙ rw (← append_assoc) (ap (λ x. x ++ piece.rest.now) split) in
+      ap (λ x. (r.gone ++ r.comments) ++ x) is.joined
+      ∙ rw (← append_assoc) (ap (λ x. x ++ piece.rest.now) split) in
       record {
         front = r.front;
         gone = gone;
@@ -229,16 +238,20 @@ module _ {key : Key} {text rest new : List ℕ} {lost : Lost} (piece : Piece) (l
         begins = rw (← append_assoc r.gone r.comments rest, whole, append_assoc) at r.begins;
       }
 
-  pub piece_lost : ((later.comments.now ≡ lost.comments.now) × (piece.held ≡ held.Comment)) ⊎ (later.comments.now ≡ piece.rest.now)
+  pub piece_lost : ((later.comments.now ≡ lost.comments.now)
+      × (piece.held ≡ held.Comment)) ⊎ (later.comments.now ≡ piece.rest.now)
       → IsLost key text piece.rest.now new later
   piece_lost (inl (same, comment)) =
-      let body = piece_body piece.held piece.blanks.now piece.rest.now piece.is_line no_header is.blank is.made in
+      let body = piece_body piece.held piece.blanks.now piece.rest.now piece.is_line no_header is.blank
+      is.made in
       more_lost r.gone (r.comments ++ piece.bytes.now) (append_assoc r.gone r.comments piece.bytes.now)
       (same ∙ r.cut ∙ ap (λ x. r.comments ++ x) is.joined ∙ simp append_assoc)
-      (λ any. passed_join (some_left rest piece.rest.now shorter) (r.are_comments any) (rw comment at (piece_passed piece is any)))
+      (λ any. passed_join (some_left rest piece.rest.now shorter) (r.are_comments any)
+      (rw comment at (piece_passed piece is any)))
       (body_joined (rw is.joined at r.is_body) body) (rw (is.joined, ← append_assoc) at r.loses)
   piece_lost (inr begins) =
-      let body = piece_body piece.held piece.blanks.now piece.rest.now piece.is_line no_header is.blank is.made in
+      let body = piece_body piece.held piece.blanks.now piece.rest.now piece.is_line no_header is.blank
+      is.made in
       more_lost ((r.gone ++ r.comments) ++ piece.bytes.now) [] (sym (append-nil _)) begins
       (λ any. anywhere (holds_nothing any)) spec.none
       (more_gone piece.bytes.now body (rw is.joined at (more_gone r.comments r.is_body r.loses)))

@@ -29,7 +29,8 @@ use Rattle.config_edit.proofs.Pieces.{blanks_lead, tail_leads, header_holds, ent
 use Rattle.config_edit.proofs.Pieces.{key_joined}
 use Rattle.config_edit.proofs.Edits.{holds_join}
 use Rattle.config_edit.proofs.Replaced.{end_holds}
-use Rattle.config_edit.proofs.Changed.{can_hold, spells_before, spells_more, letter_in_front, both_blank, key_before}
+use Rattle.config_edit.proofs.Changed.{can_hold, spells_before, spells_more, letter_in_front, both_blank}
+use Rattle.config_edit.proofs.Changed.{key_before}
 use Rattle.config_edit.proofs.Changed.{before_rest, before_nothing, how_ends}
 
 -- a line end: blanks, and LF
@@ -64,7 +65,8 @@ closed_comment blanks all (present {sign = sign} {bytes = bytes} is_sign pass) r
       blanks = blanks;
       comment = sign ∷ (bytes ++ return);
       are_blank = all;
-      is_comment = present is_sign (rw (list_all-append is_comment_byte bytes return, pass, return_comment return is) refl);
+      is_comment = present is_sign
+          (rw (list_all-append is_comment_byte bytes return, pass, return_comment return is) refl);
       ends = inl (refl, simp append_assoc);
     }
 
@@ -116,7 +118,8 @@ line_end_more (b ∷ []) [] end also = end
 line_end_more (b ∷ []) (c ∷ more) end also = inl end
 line_end_more (b ∷ c ∷ at) more end also = end
 
-line_end_stops : (test : ℕ → Bool) (at : List ℕ) → IsAtLineEnd at → test 10 ≡ false → test 13 ≡ false → StopsRun test at
+line_end_stops : (test : ℕ → Bool) (at : List ℕ) → IsAtLineEnd at → test 10 ≡ false → test 13 ≡ false
+    → StopsRun test at
 line_end_stops test [] end ten thirteen = tt
 line_end_stops test (b ∷ []) end ten thirteen = rw end ten
 line_end_stops test (b ∷ c ∷ at) (inl is) ten thirteen = rw is ten
@@ -125,7 +128,8 @@ line_end_stops test (b ∷ c ∷ at) (inr is) ten thirteen = rw is.0 thirteen
 -- a key alone, before a line end
 alone_before : {key at : List ℕ} {lines : ℕ} (front line_end : List ℕ) → BeginsWithLetter (front ++ at)
     → TakesEntry (front ++ at) key None lines at → IsLineEnd line_end
-    → TakesEntry (front ++ (at ++ line_end)) key None 0 (at ++ line_end) × BeginsWithLetter (front ++ (at ++ line_end))
+    → TakesEntry (front ++ (at ++ line_end)) key None 0 (at ++ line_end)
+    × BeginsWithLetter (front ++ (at ++ line_end))
 alone_before {key = key} {at = at} front line_end begins (alone takes end) is =
     let front_is : front ≡ key ++ takes.spaces =
     append_cancel_right front (key ++ takes.spaces) at (key_joined at takes) in
@@ -163,7 +167,8 @@ module _ {key at blanks bytes rest : List ℕ} {was : Option (List ℕ)} {lines 
           takes = takes;
           left = sym (append-nil (e.tail ++ line_end));
           is_tail = closed_tail line_end is e.is_tail;
-          joined = ap (λ b. b ++ line_end) (e.joined ∙ ap (λ f. blanks ++ (f ++ e.tail)) front_is) ∙ simp append_assoc;
+          joined = ap (λ b. b ++ line_end) (e.joined ∙ ap (λ f. blanks ++ (f ++ e.tail)) front_is)
+              ∙ simp append_assoc;
         };
         same = inl same;
       }
@@ -201,14 +206,16 @@ module _ {key at blanks bytes rest : List ℕ} {was : Option (List ℕ)} {lines 
       let (return, line_is, return_is) = return_of line_end is in
       elim (nothing_or e.tail) [
         | inl nothing ↦ rw line_is
-            (longer held [] return text outside nothing spells (spells_before return (return_blank return return_is) spells))
+            (longer held [] return text outside nothing spells
+            (spells_before return (return_blank return return_is) spells))
         | inr some ↦
             let ends = ends_before e.tail line_end some (subst EndsValue at_is hold.ends) in
             let (takes, begins) = hold.holds raw text (e.tail ++ line_end) spells ends in
             unchanged (Some raw) (hold.start ++ raw) (line_feeds raw) held hold.joined takes begins
       ]
 
-  closed_over : {raw : List ℕ} → was ≡ Some raw → (text : List ℕ) → SpellsValue raw text at_backslash → at ≡ []
+  closed_over : {raw : List ℕ} → was ≡ Some raw → (text : List ℕ) → SpellsValue raw text at_backslash
+      → at ≡ []
       → ClosedEntry key was blanks bytes (line_end ++ line_end)
   closed_over held text spells none =
       let (return, line_is, return_is) = return_of line_end is in
@@ -255,7 +262,8 @@ both_same (x ∷ a) (y ∷ b) c d first second = (first.0, both_same a b c d fir
 
 -- with these bytes, the text holds entries that are the same as those of these contents
 abbrev Closing : Option Section → List ℕ → List Content → Option Section → Type 0
-Closing section text contents next = (now : List Content) × Holds section text now next × AllZip SameEntry contents now
+Closing section text contents next =
+    (now : List Content) × Holds section text now next × AllZip SameEntry contents now
 
 entry_closes : {key blanks bytes ends : List ℕ} {was : Option (List ℕ)} (section : Option Section)
     → AreBlank blanks → ClosedEntry key was blanks bytes ends
@@ -263,49 +271,59 @@ entry_closes : {key blanks bytes ends : List ℕ} {was : Option (List ℕ)} (sec
 entry_closes {key = key} {blanks = blanks} section all c =
     ((section, key, c.now) ∷ [], entry_holds blanks all c.entry section, ((refl, refl, c.same), tt))
 
-line_at_holds : (bytes rest blanks : List ℕ) → AreBlank blanks → edit.IsLineAt blanks bytes rest true → (section : Option Section)
-    → Holds section bytes [] section
-line_at_holds bytes rest blanks all (tail, joined, t) section = λ line other.
-    (line + 1, [], rw (joined, append_assoc) (blanks_lead blanks all (tail_leads refl t section line other)), refl)
+line_at_holds : {bytes tail rest : List ℕ} (blanks : List ℕ) → AreBlank blanks → bytes ≡ blanks ++ tail
+    → IsTail tail rest true → (section : Option Section) → Holds section bytes [] section
+line_at_holds blanks all joined t section = λ line other.
+    let leads = blanks_lead blanks all (tail_leads refl t section line other) in
+    (line + 1, [], rw (joined, append_assoc) leads, refl)
 
-line_closes : (bytes rest blanks : List ℕ) (section : Option Section) → AreBlank blanks → edit.IsLineAt blanks bytes rest false
-    → (line_end : List ℕ) → IsLineEnd line_end → Closing section (bytes ++ line_end) [] section
-line_closes bytes rest blanks section all (tail, joined, t) line_end is =
-    let whole : bytes ++ line_end ≡ blanks ++ (tail ++ line_end) = rw joined (append_assoc blanks tail line_end) in
-    ([], line_at_holds (bytes ++ line_end) [] blanks all (tail ++ line_end, whole, closed_tail line_end is t) section, tt)
+line_closes : {bytes tail rest : List ℕ} (blanks : List ℕ) → AreBlank blanks → bytes ≡ blanks ++ tail
+    → IsTail tail rest false → (section : Option Section) (line_end : List ℕ) → IsLineEnd line_end
+    → Closing section (bytes ++ line_end) [] section
+line_closes {bytes = bytes} {tail = tail} blanks all joined t section line_end is =
+    let whole : bytes ++ line_end ≡ blanks ++ (tail ++ line_end) =
+    rw joined (append_assoc blanks tail line_end) in
+    ([], line_at_holds blanks all whole (closed_tail line_end is t) section, tt)
 
-closes : (h : Held) (bytes rest blanks : List ℕ) → AreBlank blanks → IsMade h blanks bytes rest false → (section : Option Section)
+closes : (h : Held) (bytes rest blanks : List ℕ) → AreBlank blanks → IsMade h blanks bytes rest false
+    → (section : Option Section)
     → (line_end : List ℕ) → IsLineEnd line_end
-    → (¬ (IsOpenHeld h) → Closing section (bytes ++ line_end) (contents_in h section) (section_after h section))
-    × (IsOpenHeld h → Closing section (bytes ++ (line_end ++ line_end)) (contents_in h section) (section_after h section))
+    → (¬ (IsOpenHeld h) → Closing section (bytes ++ line_end) (contents_in h section)
+    (section_after h section))
+    × (IsOpenHeld h → Closing section (bytes ++ (line_end ++ line_end)) (contents_in h section)
+    (section_after h section))
 closes (held.Entry parts) bytes rest blanks all made section line_end is = (
   λ other. entry_closes section all (closed_entry (value_of parts.value) made line_end is other),
   λ opened. entry_closes section all (closed_open_entry (value_of parts.value) made line_end is opened),
 )
-closes (held.Header new) bytes rest blanks all made section line_end is = (
-  λ other. ([], holds_join bytes line_end (header_holds all made section) (end_holds (Some (section_of new)) line_end (inr is)), tt),
-  λ opened. absurd opened,
-)
+closes (held.Header new) bytes rest blanks all made section line_end is =
+    let ended = end_holds (Some (section_of new)) line_end (inr is) in
+    (λ other. ([], holds_join bytes line_end (header_holds all made section) ended, tt), λ opened. absurd opened)
 closes held.Nothing bytes rest blanks all (tail, joined, t, none) section line_end is =
-    (λ other. line_closes bytes rest blanks section all (tail, joined, t) line_end is, λ opened. absurd opened)
-closes held.Comment bytes rest blanks all made section line_end is =
-    (λ other. line_closes bytes rest blanks section all made line_end is, λ opened. absurd opened)
+    (λ other. line_closes blanks all joined t section line_end is, λ opened. absurd opened)
+closes held.Comment bytes rest blanks all (tail, joined, t) section line_end is =
+    (λ other. line_closes blanks all joined t section line_end is, λ opened. absurd opened)
 
 -- a piece that ends its line holds the same wherever it stands
 line_holds : (h : Held) (bytes rest blanks : List ℕ) → AreBlank blanks → IsMade h blanks bytes rest true
     → (section : Option Section) → Holds section bytes (contents_in h section) (section_after h section)
 line_holds (held.Entry parts) bytes rest blanks all made section = entry_holds blanks all made section
 line_holds (held.Header new) bytes rest blanks all made section = header_holds all made section
-line_holds held.Nothing bytes rest blanks all (tail, joined, t, none) section = line_at_holds bytes rest blanks all (tail, joined, t) section
-line_holds held.Comment bytes rest blanks all made section = line_at_holds bytes rest blanks all made section
+line_holds held.Nothing bytes rest blanks all (tail, joined, t, none) section =
+    line_at_holds blanks all joined t section
+line_holds held.Comment bytes rest blanks all (tail, joined, t) section = line_at_holds blanks all joined t section
 
 pub piece_closes : {text : List ℕ} {e : End} (piece : Piece) → IsPiece text piece → IsEndOf piece e
     → (section : Option Section)
     → Closes section piece.bytes.now (contents_in piece.held section) (section_after piece.held section) e
 piece_closes piece is (edit.line ends_line) section = λ line_end line_is.
     let contents = contents_in piece.held section in
-    (contents, rw append-nil (line_holds piece.held piece.bytes.now piece.rest.now piece.blanks.now is.blank (rw ends_line at is.made) section), same_entries contents)
+    let made = rw ends_line at is.made in
+    let holds = line_holds piece.held piece.bytes.now piece.rest.now piece.blanks.now is.blank made section in
+    (contents, rw append-nil holds, same_entries contents)
 piece_closes piece is (edit.unended goes_on other) section = λ line_end line_is.
-    (closes piece.held piece.bytes.now piece.rest.now piece.blanks.now is.blank (rw goes_on at is.made) section line_end line_is).0 other
+    (closes piece.held piece.bytes.now piece.rest.now piece.blanks.now is.blank
+    (rw goes_on at is.made) section line_end line_is).0 other
 piece_closes piece is (edit.backslashed goes_on is_open) section = λ line_end line_is.
-    (closes piece.held piece.bytes.now piece.rest.now piece.blanks.now is.blank (rw goes_on at is.made) section line_end line_is).1 is_open
+    (closes piece.held piece.bytes.now piece.rest.now piece.blanks.now is.blank
+    (rw goes_on at is.made) section line_end line_is).1 is_open

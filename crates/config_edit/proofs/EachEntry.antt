@@ -16,7 +16,8 @@ use Rattle.config_file.specs.Key.{is_name}
 use Rattle.config_edit.specs.Edit as spec
 use Rattle.config_edit.specs.Edit.{Content, Becomes, ChangesEach, ChangesValueTo, ChangesEntry, MayChange, AreInOrder, IsChanged, IsEntry}
 use Rattle.config_edit.specs.Edit.{Has, HasValue, PutsValue, name_after, value_bytes}
-use Rattle.config_edit.specs.Reading.{Ends, HasHow, anywhere, IsRead, IsPiece, IsSet, IsChangedIn, IsNamed, IsValued}
+use Rattle.config_edit.specs.Reading.{Ends, HasHow, anywhere, IsRead, IsPiece, IsSet, IsChangedIn, IsNamed}
+use Rattle.config_edit.specs.Reading.{IsValued}
 use Rattle.config_edit.specs.Reading.{IsWritableComment}
 use Rattle.config_edit.specs.Reading.{AreLater, AreWritable, Changing, IsEachChanged, contents_in}
 use Rattle.config_edit.specs.Reading.{section_after, content_of, Comes, IsShaped, IsGiven}
@@ -127,7 +128,8 @@ shaped_new {parts = parts} {piece = piece} other g =
     let gone_is : g.gone ≡ key ++ (between ++ raw) =
     append_cancel_right g.gone (key ++ (between ++ raw)) rest text_is in
     let front_is : g.gives.front ≡ key ++ between =
-    append_cancel_right g.gives.front (key ++ between) raw (sym g.gives.gone_is ∙ gone_is ∙ sym (append_assoc key between raw)) in
+    append_cancel_right g.gives.front (key ++ between) raw
+    (sym g.gives.gone_is ∙ gone_is ∙ sym (append_assoc key between raw)) in
     record {
       lines = g.gives.lines;
       between = between;
@@ -143,7 +145,8 @@ shaped_new {parts = parts} {piece = piece} other g =
     }
 
 shaped_set : {value : List ℕ} {parts : EntryParts} {piece : Piece} {put : List ℕ}
-    → IsEntryIn parts piece → IsSet parts piece value put → IsShaped parts.key.now (Some value) parts piece put
+    → IsEntryIn parts piece → IsSet parts piece value put
+    → IsShaped parts.key.now (Some value) parts piece put
 shaped_set {value = value} e s = elim s.given [
   | inl same ↦ rw same.1 (shaped_old {value = Some value} e (inl (same.0, refl)) (λ has. same.2))
   | inr other ↦ shaped_new other.0 other.1
@@ -177,7 +180,8 @@ named_new {parts = parts} {piece = piece} name more is v line_is =
     let shape = v.shaped in
     let after = (shape.between ++ shape.bytes) ++ shape.tail in
     let more_is : more ≡ after =
-    append_cancel_left (blanks ++ key) more after (simp append_assoc (sym line_is ∙ simp append_assoc at shape.put_is)) in
+    append_cancel_left (blanks ++ key) more after
+    (simp append_assoc (sym line_is ∙ simp append_assoc at shape.put_is)) in
     record {
       raw = v.raw;
       lines = v.lines;
@@ -336,7 +340,8 @@ pub changing_passes : {changes left : List Change} {text rest new : List ℕ} {i
     → ((parts : EntryParts) → piece.held ≡ held.Entry parts → ⊥)
     → Changing changes text piece.rest.now left (new ++ piece.bytes.now) index
 changing_passes {index = index} piece r is shorter other =
-    changing_stays index piece r is shorter (omega arith) (rw (none_held piece.held r.section other, append-nil) r.index_is) (λ count order. order)
+    changing_stays index piece r is shorter (omega arith)
+    (rw (none_held piece.held r.section other, append-nil) r.index_is) (λ count order. order)
 
 -- an entry that stays
 pub changing_keeps : {changes left : List Change} {text rest new : List ℕ} {index : ℕ} (piece : Piece) (parts : EntryParts)
@@ -345,7 +350,8 @@ pub changing_keeps : {changes left : List Change} {text rest new : List ℕ} {in
     → Changing changes text piece.rest.now left (new ++ piece.bytes.now) (index + 1)
 changing_keeps {left = left} {index = index} piece parts r is shorter entry later =
     changing_stays (index + 1) piece r is shorter (omega arith)
-    (rw (entry, one_longer) (ap (λ i. i + 1) r.index_is)) (λ count order. order_kept left index count later order)
+    (rw (entry, one_longer) (ap (λ i. i + 1) r.index_is))
+    (λ count order. order_kept left index count later order)
 
 -- an entry that changes
 pub changing_changes : {changes left more : List Change} {change : Change} {text rest new put : List ℕ} {index : ℕ}
@@ -365,7 +371,8 @@ changing_changes {changes = changes} {left = left} {more = more} {change = chang
     let cut : rest ≡ (piece.blanks.now ++ (c.gone ++ c.kept)) ++ piece.rest.now =
     is.joined ∙ ap (λ b. b ++ piece.rest.now) c.bytes_are in
     let place : Comes text r.old r.section (c.gone ++ (c.kept ++ piece.rest.now)) =
-    comes_blanks r.front piece.blanks.now (c.gone ++ (c.kept ++ piece.rest.now)) r.joined (cut ∙ simp append_assoc) is.blank (passed_holds some r.passed) in
+    comes_blanks r.front piece.blanks.now (c.gone ++ (c.kept ++ piece.rest.now)) r.joined
+    (cut ∙ simp append_assoc) is.blank (passed_holds some r.passed) in
     let may : MayChange changes r.old r.section c.gone c.now (c.kept ++ piece.rest.now) =
     (change, parts.key.now, value_of parts.value, (r.done, more, split), due ∙ r.index_is, c.changes) in
     record {
@@ -381,7 +388,8 @@ changing_changes {changes = changes} {left = left} {more = more} {change = chang
       each = spec.changed change x y r.each (due ∙ r.index_is) (refl, name_is (option_copied change.name) parts.key.now, c.value_is);
       index_is = ap (λ i. i + 1) r.index_is ∙ sym (one_longer r.old x);
       bytes = rw (c.bytes_are, c.put_is)
-          (becomes_piece piece.blanks.now c.gone c.now c.kept piece.rest.now (becomes_before r.bytes cut) place may);
+          (becomes_piece piece.blanks.now c.gone c.now c.kept piece.rest.now
+          (becomes_before r.bytes cut) place may);
       ordered = λ count order. order_done change more index count due (rw left_is at (r.ordered count order));
       writable = (rw left_is at r.writable).1;
       room = let room = r.room in omega arith;

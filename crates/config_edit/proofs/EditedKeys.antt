@@ -19,7 +19,8 @@ use Rattle.config_edit.specs.Reading.{IsSplit, IsReplaced, IsAdded, IsTaken, IsC
 use Rattle.config_edit.specs.Reading.{Ends, ChangesIn, SetsIn, ComesBehind}
 use Rattle.config_edit.specs.Reading.{RefusesName}
 use Rattle.config_file.proofs.OneKey.{cut_same, not_both}
-use Rattle.config_edit.proofs.Edits.{file_of, text_of, split_joined, reaches, reaches_behind, body_ends, becomes_marked}
+use Rattle.config_edit.proofs.Edits.{file_of, text_of, split_joined, reaches, reaches_behind, body_ends}
+use Rattle.config_edit.proofs.Edits.{becomes_marked}
 
 change_marked : {May : List ℕ → List ℕ → List ℕ → Type 0} {text mark body new : List ℕ} {contents before : List Content}
     {section : Option Section}
@@ -70,7 +71,8 @@ line_marked {mark = mark} split ends p =
     }
 
 -- what holds of a key and of the contents of a text, behind its mark or without
-pub edit : {P : Key → List Content → Type 0} {name text mark body : List ℕ} {key : Key} {contents : List Content}
+pub edit : {P : Key → List Content → Type 0} {name text mark body : List ℕ} {key : Key}
+    {contents : List Content}
     → IsKey name key → IsSplit text mark body → Ends None body contents → P key contents
     → (k : Key) × IsKey name k × (all : List Content) × HasContents text all × P k all
 edit {key = key} {contents = contents} is split ends made = (key, is, contents, text_of split ends, made)
@@ -82,33 +84,39 @@ pub edit_file : {P : Key → List Content → Type 0} {name text mark body : Lis
 edit_file is split (entries, is_file) made =
     let ends = body_ends is_file split in edit is split ends (made (map content entries) ends)
 
-pub changed_key : {key : Key} {value text mark body new edited : List ℕ} {contents : List Content} {several : Bool}
+pub changed_key : {key : Key} {value text mark body new edited : List ℕ} {contents : List Content}
+    {several : Bool}
     → IsSplit text mark body → Ends None body contents → IsReplaced key value body contents new several → several ≡ false
     → edited ≡ mark ++ new → ChangesKey key value text contents edited
 changed_key split ends r one e =
     let (nothing, bytes) = r.single one in
     rw e (r.now, file_of split r.ends, r.replaces, nothing, set_marked split ends bytes)
 
-pub replaced_key : {key : Key} {value text mark body new edited : List ℕ} {contents : List Content} {several : Bool}
+pub replaced_key : {key : Key} {value text mark body new edited : List ℕ} {contents : List Content}
+    {several : Bool}
     → IsSplit text mark body → Ends None body contents → IsReplaced key value body contents new several
     → edited ≡ mark ++ new → ReplacesKey key value text contents edited
-replaced_key split ends r e = rw e (r.now, file_of split r.ends, r.replaces, becomes_marked split ends r.changes)
+replaced_key split ends r e =
+    rw e (r.now, file_of split r.ends, r.replaces, becomes_marked split ends r.changes)
 
 pub added_key : {key : Key} {value text mark body new edited : List ℕ} {contents : List Content}
     → IsSplit text mark body → Ends None body contents → IsAdded key value body contents new
     → edited ≡ mark ++ new → AddsKey key value text contents edited
 added_key split ends r e = rw e (r.now, file_of split r.ends, r.adds, line_marked split ends r.bytes)
 
-pub taken_key : {key : Key} {places : Option (List ℕ)} {text mark body edited : List ℕ} {contents : List Content} {taken : Taken}
+pub taken_key : {key : Key} {places : Option (List ℕ)} {text mark body edited : List ℕ}
+    {contents : List Content} {taken : Taken}
     → IsSplit text mark body → Ends None body contents → IsTaken key places body contents taken
     → edited ≡ mark ++ taken.text.items
-    → (now : List Content) × HasContents edited now × Without key places contents now × Changes (MayUnset key places) text edited
+    → (now : List Content) × HasContents edited now × Without key places contents now
+    × Changes (MayUnset key places) text edited
 taken_key split ends r e = rw e (r.now, file_of split r.ends, r.without, becomes_marked split ends r.changes)
 
 pub one_taken : {key : Key} {text mark body edited : List ℕ} {contents : List Content} {taken : Taken}
     → IsSplit text mark body → Ends None body contents → IsTaken key None body contents taken → taken.count ≡ count.One
     → edited ≡ mark ++ taken.text.items
-    → (now : List Content) × HasContents edited now × LosesOne key contents now × Changes (MayUnset key None) text edited
+    → (now : List Content) × HasContents edited now × LosesOne key contents now
+    × Changes (MayUnset key None) text edited
 one_taken split ends r one e =
     rw e (r.now, file_of split r.ends, rw one at r.counted, becomes_marked split ends r.changes)
 
@@ -116,7 +124,8 @@ pub changed_entries : {changes : List Change} {text mark body new edited : List 
     → IsSplit text mark body → Ends None body contents → IsEachChanged changes body contents new
     → edited ≡ mark ++ new → ChangesEntries changes text edited
 changed_entries {contents = contents} split ends r e =
-    rw e (contents, text_of split ends, r.now, file_of split r.ends, r.each, becomes_marked split ends r.bytes)
+    let whole = becomes_marked split ends r.bytes in
+    rw e (contents, text_of split ends, r.now, file_of split r.ends, r.each, whole)
 
 -- a name of which no key is made names no section
 names_nothing : (name : List ℕ) {text : List ℕ} {e : KeyError} {key : Key} → text ≡ name ++ 46 ∷ 120 ∷ []
@@ -129,7 +138,8 @@ pub section_removed : {text mark body new edited : List ℕ} (name : List ℕ) (
     → IsCleared key body (map content entries) new → edited ≡ mark ++ new → RemovesSection name text edited
 section_removed name entries key is_file split names r e =
     let whole = becomes_marked split (body_ends is_file split) r.changes in
-    rw e (key, names, map content entries, (entries, is_file, refl), r.now, file_of split r.ends, r.without, whole)
+    let has = file_of split r.ends in
+    rw e (key, names, map content entries, (entries, is_file, refl), r.now, has, r.without, whole)
 
 -- the text has no entry in the section of the one key that has this name
 pub lacks : {text : List ℕ} (name : List ℕ) (entries : List Entry) (key : Key) → IsFile text entries None
@@ -141,7 +151,7 @@ pub lacks_any : {text key_text : List ℕ} {e : KeyError} (name : List ℕ) (ent
     → IsFile text entries None → key_text ≡ name ++ 46 ∷ 120 ∷ [] → RefusesKey key_text e
     → LacksSection name text
 lacks_any name entries is_file text_is refused =
-    (map content entries, (entries, is_file, refl), λ other is. absurd (names_nothing name text_is refused is))
+    (map content entries, (entries, is_file, refl), λ k is. absurd (names_nothing name text_is refused is))
 
 -- why a name has no header
 pub lacks_header : {key_text : List ℕ} (name : List ℕ) (e : EditError) → key_text ≡ name ++ 46 ∷ 120 ∷ []

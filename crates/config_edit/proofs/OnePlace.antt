@@ -60,7 +60,8 @@ same_step h k = step_is h ∙ sym (step_is k)
 
 one_place : {section m n : Option Section} {line e f : ℕ} {text at other : List ℕ} {xs ys : List Entry}
     (h : Leads section line text xs m e at) (k : Leads section line text ys n f other) → step h ≡ step k
-    → first_kind at ≡ one.entry → first_kind other ≡ one.entry → length xs ≡ length ys → (at ≡ other) × (m ≡ n)
+    → first_kind at ≡ one.entry → first_kind other ≡ one.entry → length xs ≡ length ys
+    → (at ≡ other) × (m ≡ n)
 one_place reached.here reached.here e at_letter other_letter same = (refl, refl)
 one_place reached.here (reached.entry so takes_two k) e at_letter other_letter same = absurd (omega arith)
 one_place (reached.entry is takes_one h) reached.here e at_letter other_letter same = absurd (omega arith)
@@ -75,7 +76,8 @@ one_place (reached.header is takes_one h) (reached.header so takes_two k) e at_l
     let (news, rests) = header_once takes_two takes_one in
     let there = rw (news, rests) at k in
     one_place h there (same_step h there) at_letter other_letter same
-one_place (reached.entry {entries = xs} is takes_one h) (reached.entry {entries = ys} so takes_two k) e at_letter other_letter same =
+one_place (reached.entry {entries = xs} is takes_one h)
+    (reached.entry {entries = ys} so takes_two k) e at_letter other_letter same =
     let (keys, values, lines, rests) = taken_once takes_two takes_one in
     let there = rw (lines, rests) at k in
     let fewer : length xs ≡ length ys = omega arith in
@@ -94,5 +96,6 @@ reached_once first second at_letter other_letter same =
     let there = rw (lines, bodies) at second.leads in
     let count = simp length-map at (ap (λ c. length c) first.contents_are) in
     let also = simp length-map at (ap (λ c. length c) second.contents_are) in
-    one_place first.leads there (same_step first.leads there) (letter_kind at_letter) (letter_kind other_letter)
+    one_place first.leads there (same_step first.leads there) (letter_kind at_letter)
+    (letter_kind other_letter)
     (count ∙ same ∙ sym also)

@@ -86,7 +86,8 @@ without_both a b first spec.none = simp append-nil first
 without_both a b first (spec.lost x {old = old} second is at) =
     rw (← append_assoc a old (x ∷ [])) (spec.lost x (without_both a b first second) is at)
 without_both a b first (spec.kept x {old = old} {new = new} second other) =
-    rw (← append_assoc a old (x ∷ []), ← append_assoc b new (x ∷ [])) (spec.kept x (without_both a b first second) other)
+    rw (← append_assoc a old (x ∷ []), ← append_assoc b new (x ∷ []))
+    (spec.kept x (without_both a b first second) other)
 
 pub none_in : {key : Key} (h : Held) (section : Option Section) → ¬ (IsEntryHeld key section h)
     → HasNone key (contents_in h section)
@@ -110,7 +111,8 @@ pub past_begins : (text : List ℕ) → IsPast text text [] [] None
 past_begins text = record { joined = refl; passed = anywhere (holds_nothing None); listable = tt }
 
 pub piece_passed : {text : List ℕ} (piece : Piece) → IsPiece text piece → (section : Option Section)
-    → Passed section piece.bytes.now (contents_in piece.held section) (section_after piece.held section) piece.rest.now
+    → Passed section piece.bytes.now (contents_in piece.held section)
+    (section_after piece.held section) piece.rest.now
 piece_passed piece is section = made_passed piece.held piece.blanks.now piece.is_line is.blank is.made section
 
 pub past_more : {text rest front : List ℕ} {contents : List Content} {section : Option Section}
@@ -121,7 +123,8 @@ pub past_more : {text rest front : List ℕ} {contents : List Content} {section 
 past_more {text = text} {rest = rest} {front = front} {section = section} piece past is shorter =
     record {
       joined = joined_more text front rest piece.bytes.now piece.rest.now past.joined is.joined;
-      passed = passed_join (some_left rest piece.rest.now shorter) past.passed (piece_passed piece is section);
+      passed = passed_join (some_left rest piece.rest.now shorter) past.passed
+          (piece_passed piece is section);
       listable = listable_after piece.held piece.blanks.now piece.bytes.now piece.rest.now piece.is_line is.made section past.listable;
     }
 
@@ -160,7 +163,8 @@ replacing_passes key text rest start new section several (Some f) piece r is sho
       is_of = r.is_of;
       others = r.others;
       changes = r.changes;
-      between_is = passed_join (some_left rest piece.rest.now shorter) r.between_is (piece_passed piece is section);
+      between_is = passed_join (some_left rest piece.rest.now shorter) r.between_is
+          (piece_passed piece is section);
       last = without_both r.after r.after r.last (none_in piece.held section other);
       listable = listable_after piece.held piece.blanks.now piece.bytes.now piece.rest.now piece.is_line is.made section r.listable;
       single = r.single;
@@ -237,7 +241,8 @@ replacing_finds key text rest start new section several (Some g) f left between 
       start_is = refl;
       cut = refl;
       before_is = holds_join r.front (bytes ++ r.between) r.before_is (holds_join bytes r.between entry gap);
-      now_is = holds_join new (left ++ r.between) r.now_is (holds_join left r.between (end_holds r.at left left_is) gap);
+      now_is = holds_join new (left ++ r.between) r.now_is
+          (holds_join left r.between (end_holds r.at left left_is) gap);
       blank = is.blank;
       is_entry = rw e at is.made;
       is_of = is_of;
@@ -249,7 +254,7 @@ replacing_finds key text rest start new section several (Some g) f left between 
       last = spec.none;
       listable = r.listable;
       single = λ one. absurd (true≢false one);
-      many = λ yes. (r.before, r.after, [], x, y, append_assoc r.before (x ∷ r.after) (y ∷ []), r.is_of, is_of);
+      many = λ m. (r.before, r.after, [], x, y, append_assoc r.before (x ∷ r.after) (y ∷ []), r.is_of, is_of);
     })
 
 -- only the bytes of a value change
@@ -276,7 +281,8 @@ pub none_replaced : (key : Key) (text rest start new : List ℕ) (section : Opti
     → Replacing key text rest start new section None several → rest ≡ []
     → (contents : List Content) × Ends None text contents × HasNone key contents
 none_replaced key text rest start new section several (front, contents, past, nothing, start_is, new_is, several_is) none =
-    let text_is = rw (none, append-nil) at past.joined in (contents, rw text_is (passed_ends none past.passed), nothing)
+    let text_is = rw (none, append-nil) at past.joined in
+    (contents, rw text_is (passed_ends none past.passed), nothing)
 
 -- the piece of the last entry of the key stays, or only the bytes of its value change
 replaced_here : {key : Key} {text rest start new value put : List ℕ} {section : Option Section} {several : Bool} {f : Found}
@@ -293,11 +299,13 @@ replaced_here {key = key} {text = text} {start = start} {new = new} {value = val
           let blanks = f.piece.blanks.now in
           let was = blanks ++ (g.gone ++ g.tail) in
           let is = blanks ++ (g.now ++ g.tail) in
-          let place = comes_blanks r.front blanks (g.gone ++ (g.tail ++ start)) r.joined (rw g.bytes_are (simp append_assoc)) r.blank r.before_is in
+          let place = comes_blanks r.front blanks (g.gone ++ (g.tail ++ start)) r.joined
+          (rw g.bytes_are (simp append_assoc)) r.blank r.before_is in
           let gives : MayReplace key value r.before r.at g.gone g.now (g.tail ++ start) =
           inr (f.parts.key.now, value_of f.parts.value, r.is_of, rw r.start_is g.gives) in
           let step = becomes_piece blanks g.gone g.now g.tail start (rw g.bytes_are at loses) place gives in
-          rw (g.bytes_are, g.put_is, ← append_assoc r.front was start, ← append_assoc new is start) (becomes_end start step)
+          rw (g.bytes_are, g.put_is, ← append_assoc r.front was start, ← append_assoc new is start)
+          (becomes_end start step)
     ]
 
 pub one_replaced : {key : Key} {text rest start new value put : List ℕ}
@@ -305,7 +313,8 @@ pub one_replaced : {key : Key} {text rest start new value put : List ℕ}
     → IsFound key text rest start new section f several
     → rest ≡ [] → IsSet f.parts f.piece value put
     → (contents : List Content) × Ends None text contents × IsReplaced key value text contents (new ++ (put ++ start)) several
-one_replaced {key = key} {text = text} {start = start} {new = new} {value = value} {put = put} {section = section} {f = f} found rest_is set =
+one_replaced {key = key} {text = text} {start = start} {new = new} {value = value} {put = put}
+    {section = section} {f = f} found rest_is set =
     let r = rw rest_is at found in
     let x : Content = content_of r.at f.parts in
     let now_x : Content = (r.at, f.parts.key.now, Some set.raw) in
@@ -313,8 +322,10 @@ one_replaced {key = key} {text = text} {start = start} {new = new} {value = valu
     let follows : f.piece.rest.now ≡ r.between ++ [] = sym r.start_is ∙ r.cut in
     let entry = rw follows at (entry_passed f.piece.blanks.now f.piece.is_line r.blank r.is_entry r.at) in
     let entry_now = rw follows at (entry_passed f.piece.blanks.now f.piece.is_line r.blank set.entry r.at) in
-    let passed = holds_then r.front (f.piece.bytes.now ++ r.between) r.before_is (passed_then f.piece.bytes.now r.between entry r.between_is) in
-    let passed_now = holds_then new (put ++ r.between) r.now_is (passed_then put r.between entry_now r.between_is) in (
+    let passed = holds_then r.front (f.piece.bytes.now ++ r.between) r.before_is
+    (passed_then f.piece.bytes.now r.between entry r.between_is) in
+    let passed_now = holds_then new (put ++ r.between) r.now_is
+    (passed_then put r.between entry_now r.between_is) in (
       r.before ++ x ∷ r.after,
       rw (r.joined, start_is) (passed_ends refl passed),
       record {
@@ -344,7 +355,8 @@ one_replaced {key = key} {text = text} {start = start} {new = new} {value = valu
                 | inl same ↦ inl (same.0, ap (λ p. r.front ++ (p ++ start)) same.1)
                 | inr other ↦ inr (
                   other.0,
-                  given_in r.front (holds_blanks r.front f.piece.blanks.now r.blank r.before_is) other.1 r.start_is,
+                  given_in r.front (holds_blanks r.front f.piece.blanks.now r.blank r.before_is) other.1
+                      r.start_is,
                 )
               ]),
             );

@@ -1,5 +1,6 @@
 -- The reading of a text comes to no place inside a comment.
-use Rattle.std.proofs.Common.{◌≡◌, ℕ, ◌+◌, ◌≤◌, List, ◌∷◌, ◌++◌, Option, length, sym, ◌∙◌, arith, refl, true, inl, inr, ◌⊎◌}
+use Rattle.std.proofs.Common.{◌≡◌, ℕ, ◌+◌, ◌≤◌, List, ◌∷◌, ◌++◌, Option, length, sym, ◌∙◌, arith, refl}
+use Rattle.std.proofs.Common.{true, inl, inr, ◌⊎◌}
 use Rattle.config_file.specs.Bytes.{is_comment_sign, is_comment_byte}
 use Rattle.config_file.specs.Runs.{Run}
 use Rattle.config_file.specs.Header.{Section}
@@ -58,7 +59,8 @@ past_comment run h e = cc
 beside_comment : {next section : Option Section} {sign : ℕ} {text comment rest at : List ℕ}
     → is_comment_sign sign ≡ true → Run is_comment_byte text comment rest
     → Ordered section next (sign ∷ text) at → (length text + 1 ≤ length at) ⊎ (length at ≤ length rest)
-beside_comment {sign = sign} is run (first h) = past_comment run h (sym (kind_comment sign is) ∙ sym (step_is h))
+beside_comment {sign = sign} is run (first h) =
+    past_comment run h (sym (kind_comment sign is) ∙ sym (step_is h))
 beside_comment is run (second h) = let shorter = no_longer h in inl (omega arith)
 
 pub whole_comments : (text comment rest at : List ℕ) (sign : ℕ) (before also : List Content) (section next : Option Section)

@@ -28,7 +28,8 @@ returns-in-Some-2 c =
     let names = rw (c.as_slice-2.ensures.value ∙ c.in_ok-old_key.ensures) at c.in-Ok-parse.ensures in
     let names_now = rw (c.as_slice.ensures.value ∙ c.in_ok-new_key.ensures) at c.in-Ok.ensures.0 in
     let here = rw c.in-Some.is at (c.in_ok-renamed.ensures (map content entries) (body_ends is_file split)) in
-    section_renamed entries (key_of c.in-Ok-parse.from) (key_of c.in-Ok.to) is_file split names names_now here c.in_ok-marked-in-Some-2.ensures
+    section_renamed entries (key_of c.in-Ok-parse.from)
+    (key_of c.in-Ok.to) is_file split names names_now here c.in_ok-marked-in-Some-2.ensures
 
 pub returns : goal.returns
 returns c =

@@ -10,7 +10,8 @@ pub returns-in_ok-marked-in-One : goal.returns-in_ok-marked-in-One
 returns-in_ok-marked-in-One c =
     let split = c.split_mark.ensures in
     edit_file c.in_ok-key.ensures.0 split c.in_ok-check_file.ensures
-    (λ contents ends. one_taken split ends (c.in_ok-taken.ensures contents ends) c.in-One.is c.in_ok-marked-in-One.ensures)
+    (λ contents ends. one_taken split ends
+    (c.in_ok-taken.ensures contents ends) c.in-One.is c.in_ok-marked-in-One.ensures)
 
 pub returns-in-Several : goal.returns-in-Several
 returns-in-Several c =

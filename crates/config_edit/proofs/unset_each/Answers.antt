@@ -10,4 +10,5 @@ pub returns-in_ok-marked-in-One : goal.returns-in_ok-marked-in-One
 returns-in_ok-marked-in-One c =
     let split = c.split_mark.ensures in
     edit_file c.in_ok-key.ensures.0 split c.in_ok-check_file.ensures
-    (λ contents ends. taken_key split ends (c.in_ok-taken.ensures contents ends) c.in_ok-marked-in-One.ensures)
+    (λ contents ends. taken_key split ends
+    (c.in_ok-taken.ensures contents ends) c.in_ok-marked-in-One.ensures)

@@ -28,12 +28,14 @@ pieces-preserved c =
           let (left_is, is_due, below) = rw w.in-Some-due.is at c.due.ensures in
           let new_is : m.new.items ≡ c.pieces.new.items ++ put = ap (λ n. n.items) w.new-is ∙ pushed in
           rw (new_is, w.made-is)
-          (changing_changes {change = w.in-Some-due.change.now} piece parts c.pieces.invariant is shorter c.in-Entry.is left_is is_due changed)
+          (changing_changes {change = w.in-Some-due.change.now} piece parts c.pieces.invariant is shorter
+          c.in-Entry.is left_is is_due changed)
       | in-None+in_ok-extend_from_slice-in-None w ↦
           let new_is : m.new.items ≡ c.pieces.new.items ++ piece.bytes.now =
           ap (λ n. n.items) w.new-is ∙ w.in_ok-extend_from_slice-in-None.ensures.items in
           rw (new_is, w.made-is)
-          (changing_keeps piece parts c.pieces.invariant is shorter c.in-Entry.is (rw w.in-None.is at c.due.ensures))
+          (changing_keeps piece parts c.pieces.invariant is shorter c.in-Entry.is
+          (rw w.in-None.is at c.due.ensures))
     ]
 
 pub returns-then-made-changes : goal.returns-then-made-changes

@@ -30,8 +30,10 @@ returns c =
     let is : is_name name ≡ true = subst IsWritableName name_is c.requires.writable.0 in
     let line_is : c.as_slice.result.now ≡ line =
     c.as_slice.ensures.value ∙ pushed ∙ ap (λ l. l ++ line) c.new-line.ensures.items in
+    let first = c.in_ok-extend_from_slice.ensures.items in
+    let second = c.in_ok-extend_from_slice-2.ensures.items in
     let whole : c.extend_from_slice-3.new.self.items ≡ new ++ (blanks ++ (name ++ more)) =
-    simp (c.in_ok-extend_from_slice-3.ensures.items, c.in_ok-extend_from_slice-2.ensures.items, c.in_ok-extend_from_slice.ensures.items, append_assoc) in (
+    simp (c.in_ok-extend_from_slice-3.ensures.items, second, first, append_assoc) in (
       blanks ++ (name ++ more),
       whole,
       rw name_is (named_new name more is valued (sym line_is ∙ c.behind.ensures)),

@@ -8,4 +8,5 @@ returns-in_ok-push_changed-in-Some c =
 
 pub returns-in_ok-extend_from_slice-in-None : goal.returns-in_ok-extend_from_slice-in-None
 returns-in_ok-extend_from_slice-in-None c =
-    (c.args.piece.now.bytes.now, c.in_ok-extend_from_slice-in-None.ensures.items, rw c.in-None.is (valued_old c.requires.entry))
+    let kept = valued_old c.requires.entry in
+    (c.args.piece.now.bytes.now, c.in_ok-extend_from_slice-in-None.ensures.items, rw c.in-None.is kept)

@@ -1,4 +1,5 @@
-use Rattle.std.proofs.Common.{◌≡◌, ℕ, ◌+◌, ◌-◌, ◌<◌, List, [], ◌∷◌, ◌++◌, Option, Some, None, codes, length, drop, get_or, refl, ap, ◌∙◌}
+use Rattle.std.proofs.Common.{◌≡◌, ℕ, ◌+◌, ◌-◌, ◌<◌, List, [], ◌∷◌, ◌++◌, Option, Some, None, codes, length}
+use Rattle.std.proofs.Common.{drop, get_or, refl, ap, ◌∙◌}
 use Rattle.std.proofs.Common.{arith, inr, length-append}
 use Rattle.std.proofs.Math.Seq.{drop-append_seam}
 use Rattle.config_file.proofs.EachReading.{each_is_read}
@@ -56,12 +57,15 @@ cut_off text front rest e =
 pub returns-clause-behind : goal.returns-clause-behind
 returns-clause-behind c = λ sets.
     let reading = each_is_read (codes "[a]\nk =# me\n") in
-    let has : HasContents (codes "[a]\nk =# me\n") ((a, codes "k", Some []) ∷ []) = (reading.0, reading.2, refl) in
+    let has : HasContents (codes "[a]\nk =# me\n") ((a, codes "k", Some []) ∷ []) =
+    (reading.0, reading.2, refl) in
     let takes = takes_k [] (codes "# me\n") (value.closed refl value.ends_outside (inr refl)) in
     let shorter : 9 < 12 = omega arith in
     let (front, e) =
-    set_keeps ak [] ak_is has tt shorter (at_key (codes "k =# me\n")) (107, codes " =# me\n", refl, refl) takes sets in
-    let never : ◌≡◌ {A = ℕ} 107 35 = ap (λ l. get_or l 0 0) (cut_off (codes "[a]\nk =2\n") front (codes "# me\n") e) in
+    set_keeps ak [] ak_is has tt shorter (at_key (codes "k =# me\n"))
+    (107, codes " =# me\n", refl, refl) takes sets in
+    let never : ◌≡◌ {A = ℕ} 107 35 =
+    ap (λ l. get_or l 0 0) (cut_off (codes "[a]\nk =2\n") front (codes "# me\n") e) in
     omega arith
 
 abbrev b : Content
@@ -80,6 +84,7 @@ returns-clause-below c = λ sets.
     let takes = takes_k (codes " 1 ") rest (value.closed refl spells (inr refl)) in
     let shorter : 18 < 34 = omega arith in
     let (front, e) =
-    set_keeps ak (b ∷ []) ak_is has (other, tt) shorter (at_key (codes "k = 1 " ++ rest)) (107, codes " = 1 " ++ rest, refl, refl) takes sets in
+    set_keeps ak (b ∷ []) ak_is has (other, tt) shorter (at_key (codes "k = 1 " ++ rest))
+    (107, codes " = 1 " ++ rest, refl, refl) takes sets in
     let never : 18 ≡ length front + 24 = ap (λ t. length t) e ∙ length-append front rest in
     omega arith

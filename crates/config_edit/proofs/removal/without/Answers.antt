@@ -21,7 +21,9 @@ pub pieces-init : goal.pieces-init
 pieces-init c =
     let g = c.new-group in
     let places = option_copied c.args.places in
-    let begins = losing_begins (key_of c.args.key.now) places c.args.text.now g.result g.ensures.head g.ensures.body g.ensures.in_head g.ensures.has_lost g.ensures.is_kept in
+    let begins = losing_begins
+    (key_of c.args.key.now) places c.args.text.now g.result g.ensures.head g.ensures.body g.ensures.in_head
+    g.ensures.has_lost g.ensures.is_kept in
     (rw c.in_ok-new.ensures.items begins, all_left places 0, omega arith)
 
 pub pieces-preserved : goal.pieces-preserved
@@ -61,7 +63,8 @@ pieces-preserved c =
           let other : ¬ (IsEntryHeld key section piece.held × IsPlaceOf places p.index) = λ (held, at).
           elim w.else-is_place.branch [
             | else-is_place-via-then-is_place+else-is_of w' ↦ true≢false
-                (sym ((w'.is_of.ensures losing.past.listable).1 (rw w.in-Entry.is at held)) ∙ w'.if-is_of.false)
+                (sym ((w'.is_of.ensures losing.past.listable).1 (rw w.in-Entry.is at held))
+                ∙ w'.if-is_of.false)
             | else-is_place-via-else-is_place w' ↦ true≢false
                 (sym (w.at_place-is_place.ensures.here.1 ((left p.index (omega arith)).0 at)) ∙ w'.if-is_place.false)
           ] in

@@ -12,7 +12,8 @@ use Rattle.config_edit.proofs.sections.renamed.Goals.{then-is_found, else-is_fou
 
 pub pieces-init : goal.pieces-init
 pieces-init c =
-    let begins = renaming_begins (key_of c.args.from.now) (key_of c.args.to.now) c.args.text.now (λ none. none) in
+    let begins = renaming_begins (key_of c.args.from.now) (key_of c.args.to.now) c.args.text.now
+    (λ none. none) in
     (rw c.in_ok-new.ensures.items begins, search rules)
 
 pub pieces-preserved : goal.pieces-preserved

@@ -3,7 +3,8 @@ use Rattle.std.proofs.Common.{true≢false, append-nil}
 use Rattle.config_file.specs.KeyView.{key_of}
 use Rattle.config_edit.specs.Reading.{Clearing, ClearsPiece}
 use Rattle.config_edit.proofs.Edits.{header_listed, some_left}
-use Rattle.config_edit.proofs.Cleared.{clearing_begins, at_header, then_header, piece_clears, left_is_cut, still_lost}
+use Rattle.config_edit.proofs.Cleared.{clearing_begins, at_header, then_header, piece_clears, left_is_cut}
+use Rattle.config_edit.proofs.Cleared.{still_lost}
 use Rattle.config_edit.proofs.Cleared.{nothing_lost, kept_ends, lost_ends, none_cleared}
 use Rattle.config_edit.proofs.sections.without_section.Goals as goal
 use Rattle.config_edit.proofs.sections.without_section.Goals.{in-Header+in_ok-in_line, in_default-held}
@@ -38,7 +39,8 @@ pieces-preserved c =
           header_listed piece.held piece.blanks.now piece.bytes.now piece.rest.now piece.is_line is.made header w.in-Header.is in
           rw (w.new-is, w.lost-is)
           (then_header key text p.rest.now w.push_left.new.new.items p.is_found w.lost_from-lost.result piece
-          (at_header key text p.rest.now p.new.items w.push_left.new.new.items p.is_found p.lost (some_left p.rest.now piece.rest.now shorter) p.invariant w.in_ok-in_line.ensures)
+          (at_header key text p.rest.now p.new.items w.push_left.new.new.items p.is_found p.lost
+          (some_left p.rest.now piece.rest.now shorter) p.invariant w.in_ok-in_line.ensures)
           is shorter header w.in-Header.is (w.lost_from-lost.ensures listed spelled))
       | in_default-held w ↦ rw (w.new-is, w.lost-is)
           (piece_clears key text p.rest.now p.new.items p.is_found p.lost w.lost_with-lost.result piece p.invariant is shorter w.in_default-held.not-Header w.lost_with-lost.ensures)
@@ -77,6 +79,7 @@ returns c = λ contents ends.
       | else-is_found v ↦ rw v.result-is (elim c.match-lost.branch [
         | in-Some-lost+in_ok-push_between w ↦
             absurd (true≢false (sym (rw w.in-Some-lost.is at p.invariant).1 ∙ v.if-is_found.false))
-        | in_default-lost w ↦ none_cleared (rw w.in_default-lost.is at p.invariant) v.if-is_found.false ends left
+        | in_default-lost w ↦ none_cleared
+            (rw w.in_default-lost.is at p.invariant) v.if-is_found.false ends left
       ])
     ]

@@ -68,7 +68,8 @@ pieces-preserved c =
       | else-is_inside-via-else-is_inside w ↦ (
         inl w.if-is_inside.false,
         λ pending. elim c.match-piece.branch [
-          | in-Header v ↦ header_next piece.held piece.blanks.now piece.bytes.now piece.rest.now piece.is_line v.in-Header.section v.in-Header.is is.blank is.made is.joined
+          | in-Header v ↦ header_next piece.held piece.blanks.now piece.bytes.now piece.rest.now
+              piece.is_line v.in-Header.section v.in-Header.is is.blank is.made is.joined
           | in_default-held v ↦ let was = and_parts c.pieces.is_inside c.pieces.after_header pending in cc
         ],
       )

@@ -35,14 +35,16 @@ pieces-preserved c =
     elim c.match-piece.branch [
       | in-Header w ↦
           let other : ¬ (IsEntryHeld key section piece.held) = rw w.in-Header.is (λ held. held) in
-          rw (w.new-is, w.start-is, w.found-is, w.several-is, w.section-is) (rw w.in-Header.is at (passes other))
+          rw (w.new-is, w.start-is, w.found-is, w.several-is, w.section-is)
+          (rw w.in-Header.is at (passes other))
       | in-Entry+then-is_of+in_ok-push_before-in-Entry w ↦
           let f : Found = record { piece = piece; parts = w.in-Entry.parts; in_line = p.in_line } in
           let listable = replacing_listable key text rest start new section p.several p.found p.invariant in
           let (left, left_is, pushed) = w.in_ok-push_before-in-Entry.ensures in
           let between = w.before-then-is_of.result.now in
           let step =
-          replacing_finds key text rest start new section p.several p.found f left between p.invariant is shorter w.in-Entry.is
+          replacing_finds key text rest start new section p.several p.found f left between p.invariant is
+          shorter w.in-Entry.is
           ((w.is_of.ensures listable).0 w.if-is_of.true) left_is w.before-then-is_of.ensures in
           let several_is : m.several ≡ is_some p.found = w.several-is ∙ w.is_some-several.ensures in
           let new_is : m.new.items ≡ new ++ (left ++ between) = ap (λ n. n.items) w.new-is ∙ pushed in
@@ -51,7 +53,8 @@ pieces-preserved c =
           let listable = replacing_listable key text rest start new section p.several p.found p.invariant in
           let other : ¬ (IsEntryHeld key section piece.held) = λ held.
           true≢false (sym ((w.is_of.ensures listable).1 (rw w.in-Entry.is at held)) ∙ w.if-is_of.false) in
-          rw (w.new-is, w.start-is, w.found-is, w.several-is, w.section-is) (rw w.in-Entry.is at (passes other))
+          rw (w.new-is, w.start-is, w.found-is, w.several-is, w.section-is)
+          (rw w.in-Entry.is at (passes other))
       | in-Nothing w ↦
           let step = passes (no_entry_held key section piece.held w.in-Nothing.is) in
           rw (w.new-is, w.start-is, w.found-is, w.several-is, w.section-is)
@@ -67,7 +70,8 @@ returns-then-not-is_empty c =
 pub returns-in-None : goal.returns-in-None
 returns-in-None c =
     let p = c.pieces in
-    none_replaced (key_of c.args.key.now) c.args.text.now p.rest.now p.start.now p.new.items (option_map section_of p.section) p.several (rw c.in-None.is at p.invariant)
+    none_replaced (key_of c.args.key.now) c.args.text.now p.rest.now p.start.now p.new.items
+    (option_map section_of p.section) p.several (rw c.in-None.is at p.invariant)
     (is_none_left p.rest.now c.if-not-is_empty.ensures)
 
 pub returns : goal.returns
@@ -77,4 +81,5 @@ returns c =
     let (put, pushed, set) = c.in_ok-push_changed.ensures in
     let whole : c.extend_from_slice.new.self.items ≡ p.new.items ++ (put ++ p.start.now) =
     simp (c.in_ok-extend_from_slice.ensures.items, pushed, append_assoc) in
-    rw whole (one_replaced {f = c.in-Some-found.last} found (is_none_left p.rest.now c.if-not-is_empty.ensures) set)
+    rw whole (one_replaced {f = c.in-Some-found.last} found
+    (is_none_left p.rest.now c.if-not-is_empty.ensures) set)

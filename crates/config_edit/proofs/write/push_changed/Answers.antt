@@ -12,20 +12,23 @@ pub returns-then-branch : goal.returns-then-branch
 returns-then-branch c =
     let e = c.requires.entry in
     let known = c.in_ok-has_value.ensures in
-    let how = how_spelled (value_of c.args.parts.now.value) e.takes known.alone known.spelled c.if-branch.true in
+    let how = how_spelled (value_of c.args.parts.now.value) e.takes known.alone known.spelled
+    c.if-branch.true in
     (c.args.piece.now.bytes.now, c.in_ok-extend_from_slice.ensures.items, value_kept how e)
 
 pub before-front-requires : goal.before-front-requires
 before-front-requires c =
     let e = c.requires.entry in
-    (c.args.piece.now.blanks.now ++ e.front, rw (tail_cut e c.before-tail.result.now c.before-tail.ensures, append_assoc) e.joined)
+    let tail_is = tail_cut e c.before-tail.result.now c.before-tail.ensures in
+    (c.args.piece.now.blanks.now ++ e.front, rw (tail_is, append_assoc) e.joined)
 
 pub before-start-requires : goal.before-start-requires
 before-start-requires c =
     let e = c.requires.entry in
     let blanks = c.args.piece.now.blanks.now in
     let tail = c.before-tail.result.now in
-    let front_is = front_cut e c.before-front.result.now tail c.before-front.ensures (tail_cut e tail c.before-tail.ensures) in
+    let front_is = front_cut e c.before-front.result.now tail c.before-front.ensures
+    (tail_cut e tail c.before-tail.ensures) in
     let hold = can_hold e.front refl (ap (λ v. value_of v) c.in-Some.is) e.begins e.takes in
     (blanks ++ hold.start, front_is ∙ ap (λ f. blanks ++ f) hold.joined ∙ simp append_assoc)
 
@@ -49,7 +52,8 @@ returns c =
           let pushes = w.in_ok-extend_from_slice-in-Some.ensures.items in
           let whole : c.extend_from_slice-2.new.self.items ≡ text ++ (start ++ (put ++ tail)) =
           simp (c.in_ok-extend_from_slice-2.ensures.items, w.text-is, pushed, pushes, append_assoc) in
-          (start ++ (put ++ tail), whole, rw tail_is (value_changed raw value put start held e bytes_is is_put other))
+          let set = value_changed raw value put start held e bytes_is is_put other in
+          (start ++ (put ++ tail), whole, rw tail_is set)
       | in-None+in_ok-extend_from_slice-in-None+in_ok-push_given-in-None w ↦
           let (gap, is, pushed) = w.in_ok-push_given-in-None.ensures in
           let put = gap ++ 61 ∷ 32 ∷ git_spelled value in

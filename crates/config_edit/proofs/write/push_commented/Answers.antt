@@ -1,4 +1,5 @@
-use Rattle.std.proofs.Common.{◌≡◌, ◌++◌, ◌∷◌, ◌∙◌, [], List, ℕ, refl, ap, sym, append_assoc, append-nil, inl, inr, ◌⊎◌, true≢false}
+use Rattle.std.proofs.Common.{◌≡◌, ◌++◌, ◌∷◌, ◌∙◌, [], List, ℕ, refl, ap, sym, append_assoc, append-nil}
+use Rattle.std.proofs.Common.{inl, inr, ◌⊎◌, true≢false}
 use Rattle.std.proofs.lemmas.List.{append_cancel_right}
 use Rattle.config_edit.specs.Edit.{HasValue}
 use Rattle.config_edit.specs.Reading.{IsOpen}
@@ -52,8 +53,10 @@ returns c =
           ] in
           ([], simp (w.text-is, first, append-nil), inr (closed, refl))
     ] in
+    let second = c.in_ok-extend_from_slice-2.ensures.items in
+    let third = c.in_ok-extend_from_slice-3.ensures.items in
     let whole : c.extend_from_slice-4.new.self.items ≡ text ++ (core ++ (feed ++ ((front ++ comment) ++ end))) =
-    simp (c.in_ok-extend_from_slice-4.ensures.items, c.in_ok-extend_from_slice-3.ensures.items, c.in_ok-extend_from_slice-2.ensures.items, fed, append_assoc) in (
+    simp (c.in_ok-extend_from_slice-4.ensures.items, third, second, fed, append_assoc) in (
       core ++ (feed ++ ((front ++ comment) ++ end)),
       whole,
       record {

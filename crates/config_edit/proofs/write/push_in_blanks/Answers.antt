@@ -12,6 +12,8 @@ returns c =
     let value = c.args.value.now in
     let text = c.args.text.now.items in
     let git = git_spelled value in
+    let first = c.in_ok-extend_from_slice.ensures.items in
+    let last = c.in_ok-extend_from_slice-2.ensures.items in
     let whole : c.extend_from_slice-2.new.self.items ≡ text ++ (lead ++ ((gap ++ (git ++ later)) ++ trail)) =
-    simp (c.in_ok-extend_from_slice-2.ensures.items, pushed_later, c.in_ok-push_as_git.ensures, pushed, c.in_ok-extend_from_slice.ensures.items, append_assoc) in
+    simp (last, pushed_later, c.in_ok-push_as_git.ensures, pushed, first, append_assoc) in
     (lead ++ ((gap ++ (git ++ later)) ++ trail), whole, put_in_blanks c.args.blanks.now lead trail gap later value c.requires.spellable c.requires.blank c.first_blank.ensures is also)
