@@ -92,14 +92,6 @@ pub goes_on_over : {w : ℕ → ℕ} {q : Bool} {so_far held raw text : List ℕ
 goes_on_over line_end return is also e s =
     spells_more (line_end ++ return) s (rw e (line_end, return, refl, is, return_blank return also))
 
--- an entry with line ends behind it
-record ClosedEntry (key : List ℕ) (was : Option (List ℕ)) (blanks bytes ends : List ℕ) : Type 0 where
-  pub now : Option (List ℕ)
-  pub lines : ℕ
-  pub at : List ℕ
-  pub entry : IsEntry key now lines at blanks (bytes ++ ends) [] true
-  pub same : SameValue was now
-
 pub some_same : {a b : List ℕ} → Some a ≡ Some b → a ≡ b
 some_same e = cc
 
@@ -147,60 +139,62 @@ ends_before : (text more : List ℕ) → text ≢ [] → EndsValue text → Ends
 ends_before [] more some ends = absurd (some refl)
 ends_before (b ∷ text) more some ends = ends
 
+-- with these bytes, the text holds entries that are the same as those of these contents
+abbrev Closing : Option Section → List ℕ → List Content → Option Section → Type 0
+Closing section text contents next =
+    (now : List Content) × Holds section text now next × AllZip SameEntry contents now
+
 -- an entry at the end of a text, with a line end behind it
-module _ {key at blanks bytes rest : List ℕ} {was : Option (List ℕ)} {lines : ℕ} (e : IsEntry key was lines at blanks bytes rest false) (line_end : List ℕ) (is : IsLineEnd line_end) where
+module _ {key at blanks bytes rest : List ℕ} {was : Option (List ℕ)} {lines : ℕ} (section : Option Section)
+    (all : AreBlank blanks) (e : IsEntry key was lines at blanks bytes rest false)
+    (line_end : List ℕ) (is : IsLineEnd line_end) where
   at_is : at ≡ e.tail
   at_is = e.left ∙ ap (λ r. e.tail ++ r) (open_tail e.is_tail).0 ∙ append-nil e.tail
 
   unchanged : (now : Option (List ℕ)) (front : List ℕ) (count : ℕ) → was ≡ now → e.front ≡ front
       → TakesEntry (front ++ (e.tail ++ line_end)) key now count (e.tail ++ line_end)
-      → BeginsWithLetter (front ++ (e.tail ++ line_end)) → ClosedEntry key was blanks bytes line_end
+      → BeginsWithLetter (front ++ (e.tail ++ line_end))
+      → Closing section (bytes ++ line_end) ((section, key, was) ∷ []) section
   unchanged now front count same front_is takes begins =
+      let entry : IsEntry key now count (e.tail ++ line_end) blanks (bytes ++ line_end) [] true =
       record {
-        now = now;
-        lines = count;
-        at = e.tail ++ line_end;
-        entry = record {
-          front = front;
-          tail = e.tail ++ line_end;
-          begins = begins;
-          takes = takes;
-          left = sym (append-nil (e.tail ++ line_end));
-          is_tail = closed_tail line_end is e.is_tail;
-          joined = ap (λ b. b ++ line_end) (e.joined ∙ ap (λ f. blanks ++ (f ++ e.tail)) front_is)
-              ∙ simp append_assoc;
-        };
-        same = inl same;
-      }
+        front = front;
+        tail = e.tail ++ line_end;
+        begins = begins;
+        takes = takes;
+        left = sym (append-nil (e.tail ++ line_end));
+        is_tail = closed_tail line_end is e.is_tail;
+        joined = ap (λ b. b ++ line_end) (e.joined ∙ ap (λ f. blanks ++ (f ++ e.tail)) front_is)
+            ∙ simp append_assoc;
+      } in
+      ((section, key, now) ∷ [], entry_holds blanks all entry section, ((refl, refl, inl same), tt))
 
   -- the value gets these bytes, and then the line end comes
   longer : {raw : List ℕ} → was ≡ Some raw → (more return text : List ℕ) (ending : Ending) → e.tail ≡ []
       → SpellsValue raw text ending → SpellsValue (raw ++ (more ++ return)) text outside
-      → ClosedEntry key was blanks bytes (more ++ (return ++ 10 ∷ []))
+      → Closing section (bytes ++ (more ++ (return ++ 10 ∷ []))) ((section, key, was) ∷ []) section
   longer {raw = raw} held more return text ending none spells spells_now =
       let hold = can_hold e.front refl held e.begins e.takes in
       let now = raw ++ (more ++ return) in
       let (takes, begins) = hold.holds now text (10 ∷ []) spells_now (inl refl) in
       let bytes_is = e.joined ∙ ap (λ f. blanks ++ (f ++ e.tail)) hold.joined
       ∙ ap (λ t. blanks ++ ((hold.start ++ raw) ++ t)) none in
+      let ends = more ++ (return ++ 10 ∷ []) in
+      let entry : IsEntry key (Some now) (line_feeds now) (10 ∷ []) blanks (bytes ++ ends) [] true =
       record {
-        now = Some now;
-        lines = line_feeds now;
-        at = 10 ∷ [];
-        entry = record {
-          front = hold.start ++ now;
-          tail = 10 ∷ [];
-          begins = begins;
-          takes = takes;
-          left = refl;
-          is_tail = closed_comment [] refl absent [] (inl refl);
-          joined = ap (λ b. b ++ (more ++ (return ++ 10 ∷ []))) bytes_is ∙ simp (append_assoc, append-nil);
-        };
-        same = inr (text, rw held (ending, spells), (outside, spells_now));
-      }
+        front = hold.start ++ now;
+        tail = 10 ∷ [];
+        begins = begins;
+        takes = takes;
+        left = refl;
+        is_tail = closed_comment [] refl absent [] (inl refl);
+        joined = ap (λ b. b ++ ends) bytes_is ∙ simp (append_assoc, append-nil);
+      } in
+      let same = inr (text, rw held (ending, spells), (outside, spells_now)) in
+      ((section, key, Some now) ∷ [], entry_holds blanks all entry section, ((refl, refl, same), tt))
 
   closed_value : {raw : List ℕ} → was ≡ Some raw → (text : List ℕ) → SpellsValue raw text outside
-      → ClosedEntry key was blanks bytes line_end
+      → Closing section (bytes ++ line_end) ((section, key, was) ∷ []) section
   closed_value {raw = raw} held text spells =
       let hold = can_hold e.front refl held e.begins e.takes in
       let (return, line_is, return_is) = return_of line_end is in
@@ -215,37 +209,38 @@ module _ {key at blanks bytes rest : List ℕ} {was : Option (List ℕ)} {lines 
       ]
 
   closed_over : {raw : List ℕ} → was ≡ Some raw → (text : List ℕ) → SpellsValue raw text at_backslash
-      → at ≡ []
-      → ClosedEntry key was blanks bytes (line_end ++ line_end)
+      → at ≡ [] → Closing section (bytes ++ (line_end ++ line_end)) ((section, key, was) ∷ []) section
   closed_over held text spells none =
       let (return, line_is, return_is) = return_of line_end is in
-      subst (λ l. ClosedEntry key was blanks bytes (line_end ++ l)) (sym line_is)
-      (longer held line_end return text at_backslash (sym at_is ∙ none) spells
-      (goes_on_over line_end return is return_is refl spells))
+      let over = goes_on_over line_end return is return_is refl spells in
+      rw (ap (λ l. bytes ++ (line_end ++ l)) line_is)
+      (longer held line_end return text at_backslash (sym at_is ∙ none) spells over)
 
-closed_entry : {key at blanks bytes rest : List ℕ} {lines : ℕ} (was : Option (List ℕ))
-    → IsEntry key was lines at blanks bytes rest false → (line_end : List ℕ) → IsLineEnd line_end
+closed_entry : {key at blanks bytes rest : List ℕ} {lines : ℕ} (section : Option Section) → AreBlank blanks
+    → (was : Option (List ℕ)) → IsEntry key was lines at blanks bytes rest false
+    → (line_end : List ℕ) → IsLineEnd line_end
     → ¬ ((raw : List ℕ) × (was ≡ Some raw) × (line_feeds raw ≢ lines))
-    → ClosedEntry key was blanks bytes line_end
-closed_entry None e line_end is other =
+    → Closing section (bytes ++ line_end) ((section, key, was) ∷ []) section
+closed_entry section all None e line_end is other =
     let (takes, begins) = alone_before e.front line_end e.begins e.takes is in
-    let is_at = at_is e line_end is in
-    unchanged e line_end is None e.front 0 refl refl (rw is_at at takes) (rw is_at at begins)
-closed_entry (Some raw) e line_end is other =
+    let is_at = at_is section all e line_end is in
+    unchanged section all e line_end is None e.front 0 refl refl (rw is_at at takes) (rw is_at at begins)
+closed_entry section all (Some raw) e line_end is other =
     elim (how_ends e.takes) [
-      | before_rest text spells same ↦ closed_value e line_end is refl text spells
+      | before_rest text spells same ↦ closed_value section all e line_end is refl text spells
       | before_nothing text spells same none ↦ absurd (other (raw, refl, λ count. omega arith))
     ]
 
-closed_open_entry : {key at blanks bytes rest : List ℕ} {lines : ℕ} (was : Option (List ℕ))
-    → IsEntry key was lines at blanks bytes rest false → (line_end : List ℕ) → IsLineEnd line_end
+closed_open_entry : {key at blanks bytes rest : List ℕ} {lines : ℕ} (section : Option Section)
+    → AreBlank blanks → (was : Option (List ℕ)) → IsEntry key was lines at blanks bytes rest false
+    → (line_end : List ℕ) → IsLineEnd line_end
     → (raw : List ℕ) × (was ≡ Some raw) × (line_feeds raw ≢ lines)
-    → ClosedEntry key was blanks bytes (line_end ++ line_end)
-closed_open_entry None e line_end is (raw, held, differs) = cc
-closed_open_entry (Some own) e line_end is (raw, held, differs) =
+    → Closing section (bytes ++ (line_end ++ line_end)) ((section, key, was) ∷ []) section
+closed_open_entry section all None e line_end is (raw, held, differs) = cc
+closed_open_entry section all (Some own) e line_end is (raw, held, differs) =
     elim (how_ends e.takes) [
       | before_rest text spells same ↦ absurd (differs (ap line_feeds (some_same (sym held)) ∙ sym same))
-      | before_nothing text spells same none ↦ closed_over e line_end is refl text spells none
+      | before_nothing text spells same none ↦ closed_over section all e line_end is refl text spells none
     ]
 
 -- a piece with line ends behind it
@@ -259,17 +254,6 @@ both_same [] [] c d first second = second
 both_same [] (y ∷ b) c d first second = absurd first
 both_same (x ∷ a) [] c d first second = absurd first
 both_same (x ∷ a) (y ∷ b) c d first second = (first.0, both_same a b c d first.1 second)
-
--- with these bytes, the text holds entries that are the same as those of these contents
-abbrev Closing : Option Section → List ℕ → List Content → Option Section → Type 0
-Closing section text contents next =
-    (now : List Content) × Holds section text now next × AllZip SameEntry contents now
-
-entry_closes : {key blanks bytes ends : List ℕ} {was : Option (List ℕ)} (section : Option Section)
-    → AreBlank blanks → ClosedEntry key was blanks bytes ends
-    → Closing section (bytes ++ ends) ((section, key, was) ∷ []) section
-entry_closes {key = key} {blanks = blanks} section all c =
-    ((section, key, c.now) ∷ [], entry_holds blanks all c.entry section, ((refl, refl, c.same), tt))
 
 line_at_holds : {bytes tail rest : List ℕ} (blanks : List ℕ) → AreBlank blanks → bytes ≡ blanks ++ tail
     → IsTail tail rest true → (section : Option Section) → Holds section bytes [] section
@@ -293,8 +277,8 @@ closes : (h : Held) (bytes rest blanks : List ℕ) → AreBlank blanks → IsMad
     × (IsOpenHeld h → Closing section (bytes ++ (line_end ++ line_end)) (contents_in h section)
     (section_after h section))
 closes (held.Entry parts) bytes rest blanks all made section line_end is = (
-  λ other. entry_closes section all (closed_entry (value_of parts.value) made line_end is other),
-  λ opened. entry_closes section all (closed_open_entry (value_of parts.value) made line_end is opened),
+  λ other. closed_entry section all (value_of parts.value) made line_end is other,
+  λ opened. closed_open_entry section all (value_of parts.value) made line_end is opened,
 )
 closes (held.Header new) bytes rest blanks all made section line_end is =
     let ended = end_holds (Some (section_of new)) line_end (inr is) in
