@@ -171,6 +171,32 @@ replacing_passes key text rest start new section several (Some f) piece r is sho
       many = r.many;
     }
 
+found_past : {key : Key} {text rest start new : List ℕ} {section : Option Section} {f : Found} {several : Bool}
+    (r : IsFound key text rest start new section f several)
+    → IsPast text rest (r.front ++ (f.piece.bytes.now ++ r.between))
+    (r.before ++ content_of r.at f.parts ∷ r.after) section
+found_past {rest = rest} {f = f} r =
+    let bytes = f.piece.bytes.now in
+    let follows : f.piece.rest.now ≡ r.between ++ rest = sym r.start_is ∙ r.cut in
+    let entry = rw follows at (entry_passed f.piece.blanks.now f.piece.is_line r.blank r.is_entry r.at) in
+    record {
+      joined = simp (r.joined, r.cut, append_assoc);
+      passed = holds_then r.front (bytes ++ r.between) r.before_is (passed_then bytes r.between entry r.between_is);
+      listable = r.listable;
+    }
+
+pub looked_past : (key : Key) (text rest start new : List ℕ) (section : Option Section) (several : Bool)
+    (found : Option Found) → Replacing key text rest start new section found several
+    → (front : List ℕ) × (contents : List Content) × IsPast text rest front contents section
+looked_past key text rest start new section several None (front, contents, past, nothing, s, n, o) = (front, contents, past)
+looked_past key text rest start new section several (Some f) r = (_, _, found_past r)
+
+-- an entry of the key goes
+loses_entry : {name at blanks gone rest : List ℕ} {value : Option (List ℕ)} {lines : ℕ} {is_line : Bool}
+    (key : Key) (section : Option Section) (put : List ℕ) → IsOf key (section, name, value) → AreBlank blanks
+    → IsEntry name value lines at blanks gone rest is_line → IsEnd put → LosesEntry key section gone put rest
+loses_entry key section put is_of all entry is_end = (_, _, _, _, _, _, is_of, all, entry, is_end)
+
 -- one entry of the key more
 pub replacing_finds : (key : Key) (text rest start new : List ℕ) (section : Option Section) (several : Bool)
     (found : Option Found) (f : Found) (left between : List ℕ)
@@ -211,23 +237,8 @@ replacing_finds key text rest start new section several (Some g) f left between 
     let y = content_of section f.parts in
     let bytes = g.piece.bytes.now in
     let between_is : between ≡ r.between = append_cancel_right between r.between rest (sym cut ∙ r.cut) in
-    let goes_on : g.piece.rest.now ≢ [] =
-    λ none. some (rest_none r.between rest (sym r.cut ∙ r.start_is ∙ none)) in
-    let entry : Holds r.at bytes (x ∷ []) r.at =
-    passed_holds goes_on (entry_passed g.piece.blanks.now g.piece.is_line r.blank r.is_entry r.at) in
-    let gap : Holds r.at r.between r.after section = passed_holds some r.between_is in
-    let loses : LosesEntry key r.at bytes left start = (
-      g.parts.key.now,
-      value_of g.parts.value,
-      g.parts.lines,
-      g.parts.rest.now,
-      g.piece.blanks.now,
-      g.piece.is_line,
-      r.is_of,
-      r.blank,
-      rw r.start_is r.is_entry,
-      left_is,
-    ) in
+    let gap = passed_holds some r.between_is in
+    let loses = loses_entry key r.at left r.is_of r.blank (rw (← r.start_is) at r.is_entry) left_is in
     let goes : Becomes (Comes text) (MayLose key) (r.front ++ bytes) start (new ++ left) =
     spec.changed r.changes (r.front, r.joined, r.before_is) loses in
     rw between_is (record {
@@ -240,7 +251,7 @@ replacing_finds key text rest start new section several (Some g) f left between 
       joined = simp (r.joined, r.cut, is.joined, append_assoc);
       start_is = refl;
       cut = refl;
-      before_is = holds_join r.front (bytes ++ r.between) r.before_is (holds_join bytes r.between entry gap);
+      before_is = passed_holds some (found_past r).passed;
       now_is = holds_join new (left ++ r.between) r.now_is
           (holds_join left r.between (end_holds r.at left left_is) gap);
       blank = is.blank;
@@ -319,15 +330,13 @@ one_replaced {key = key} {text = text} {start = start} {new = new} {value = valu
     let x : Content = content_of r.at f.parts in
     let now_x : Content = (r.at, f.parts.key.now, Some set.raw) in
     let start_is : start ≡ r.between = r.cut ∙ append-nil r.between in
+    let past = found_past r in
     let follows : f.piece.rest.now ≡ r.between ++ [] = sym r.start_is ∙ r.cut in
-    let entry = rw follows at (entry_passed f.piece.blanks.now f.piece.is_line r.blank r.is_entry r.at) in
     let entry_now = rw follows at (entry_passed f.piece.blanks.now f.piece.is_line r.blank set.entry r.at) in
-    let passed = holds_then r.front (f.piece.bytes.now ++ r.between) r.before_is
-    (passed_then f.piece.bytes.now r.between entry r.between_is) in
     let passed_now = holds_then new (put ++ r.between) r.now_is
     (passed_then put r.between entry_now r.between_is) in (
       r.before ++ x ∷ r.after,
-      rw (r.joined, start_is) (passed_ends refl passed),
+      rw (past.joined, append-nil) (passed_ends refl past.passed),
       record {
         now = r.left ++ now_x ∷ r.after;
         ends = rw start_is (passed_ends refl passed_now);
@@ -366,28 +375,6 @@ one_replaced {key = key} {text = text} {start = start} {new = new} {value = valu
             (before, between, after ++ r.after, a, b, all_is, is_a, is_b);
       },
     )
-
-pub not_replaced : (key : Key) (text rest start new : List ℕ) (section : Option Section) (several : Bool)
-    (found : Option Found) → Replacing key text rest start new section found several
-    → rest ≢ [] → (rest ≡ []) ⊎ (¬ (IsRead rest)) → (contents : List Content) → ¬ (Ends None text contents)
-not_replaced key text rest start new section several None (front, xs, past, nothing, start_is, new_is, several_is) some end contents =
-    not_read past.joined past.passed some end
-not_replaced key text rest start new section several (Some f) r some end contents =
-    let piece = f.piece in
-    let goes_on : piece.rest.now ≢ [] = λ none. some (rest_none r.between rest (sym r.cut ∙ r.start_is ∙ none)) in
-    let entry = passed_holds goes_on (entry_passed piece.blanks.now piece.is_line r.blank r.is_entry r.at) in
-    let passed = holds_then r.front (piece.bytes.now ++ r.between) r.before_is
-    (holds_then piece.bytes.now r.between entry r.between_is) in
-    let joined : text ≡ (r.front ++ (piece.bytes.now ++ r.between)) ++ rest =
-    simp (r.joined, r.cut, append_assoc) in
-    not_read joined passed some end
-
--- what the code needs to know on its way
-pub replacing_listable : (key : Key) (text rest start new : List ℕ) (section : Option Section)
-    (several : Bool) (found : Option Found)
-    → Replacing key text rest start new section found several → IsListable section
-replacing_listable key text rest start new section several None (front, contents, past, nothing, start_is, new_is, several_is) = past.listable
-replacing_listable key text rest start new section several (Some f) r = r.listable
 
 pub no_entry_held : (key : Key) (section : Option Section) (h : Held)
     → (h ≡ held.Nothing) ⊎ (h ≡ held.Comment) → ¬ (IsEntryHeld key section h)

@@ -5,9 +5,9 @@ use Rattle.config_file.specs.KeyView.{key_of}
 use Rattle.config_file.specs.Views.{section_of}
 use Rattle.config_edit.specs.Reading.{IsEntryHeld}
 use Rattle.config_edit.proofs.Replaced.{replacing_begins, replacing_passes, replacing_finds}
-use Rattle.config_edit.proofs.Replaced.{replacing_listable, no_entry_held, no_header_after}
-use Rattle.config_edit.proofs.Replaced.{none_replaced, one_replaced, not_replaced}
-use Rattle.config_edit.proofs.Edits.{is_none_left, is_some_left}
+use Rattle.config_edit.proofs.Replaced.{looked_past, no_entry_held, no_header_after}
+use Rattle.config_edit.proofs.Replaced.{none_replaced, one_replaced}
+use Rattle.config_edit.proofs.Edits.{is_none_left, is_some_left, not_read}
 use Rattle.config_edit.proofs.setting.replace.Goals as goal
 use Rattle.config_edit.proofs.setting.replace.Goals.{in-Header}
 use Rattle.config_edit.proofs.setting.replace.Goals.{in-Entry+then-is_of+in_ok-push_before-in-Entry}
@@ -39,7 +39,7 @@ pieces-preserved c =
           (rw w.in-Header.is at (passes other))
       | in-Entry+then-is_of+in_ok-push_before-in-Entry w ↦
           let f : Found = record { piece = piece; parts = w.in-Entry.parts; in_line = p.in_line } in
-          let listable = replacing_listable key text rest start new section p.several p.found p.invariant in
+          let listable = (looked_past key text rest start new section p.several p.found p.invariant).2.listable in
           let (left, left_is, pushed) = w.in_ok-push_before-in-Entry.ensures in
           let between = w.before-then-is_of.result.now in
           let step =
@@ -50,7 +50,7 @@ pieces-preserved c =
           let new_is : m.new.items ≡ new ++ (left ++ between) = ap (λ n. n.items) w.new-is ∙ pushed in
           rw (new_is, w.start-is, w.section-is, w.found-is, several_is) step
       | in-Entry+else-is_of w ↦
-          let listable = replacing_listable key text rest start new section p.several p.found p.invariant in
+          let listable = (looked_past key text rest start new section p.several p.found p.invariant).2.listable in
           let other : ¬ (IsEntryHeld key section piece.held) = λ held.
           true≢false (sym ((w.is_of.ensures listable).1 (rw w.in-Entry.is at held)) ∙ w.if-is_of.false) in
           rw (w.new-is, w.start-is, w.found-is, w.several-is, w.section-is)
@@ -64,8 +64,11 @@ pieces-preserved c =
 pub returns-then-not-is_empty : goal.returns-then-not-is_empty
 returns-then-not-is_empty c =
     let p = c.pieces in
-    let some : p.rest.now ≢ [] = is_some_left p.rest.now (sym c.if-not-is_empty.true ∙ c.is_empty.ensures) in
-    not_replaced (key_of c.args.key.now) c.args.text.now p.rest.now p.start.now p.new.items (option_map section_of p.section) p.several p.found p.invariant some c.in_default.ensures.piece
+    let (front, contents, past) =
+    looked_past (key_of c.args.key.now) c.args.text.now p.rest.now p.start.now p.new.items
+    (option_map section_of p.section) p.several p.found p.invariant in
+    let some = is_some_left p.rest.now (sym c.if-not-is_empty.true ∙ c.is_empty.ensures) in
+    λ contents. not_read past.joined past.passed some c.in_default.ensures.piece
 
 pub returns-in-None : goal.returns-in-None
 returns-in-None c =
