@@ -238,20 +238,18 @@ module _ {key : Key} {text rest new : List ℕ} {lost : Lost} (piece : Piece) (l
         begins = rw (← append_assoc r.gone r.comments rest, whole, append_assoc) at r.begins;
       }
 
-  pub piece_lost : ((later.comments.now ≡ lost.comments.now)
-      × (piece.held ≡ held.Comment)) ⊎ (later.comments.now ≡ piece.rest.now)
-      → IsLost key text piece.rest.now new later
+  body : IsBody piece.bytes.now piece.rest.now
+  body = piece_body piece.held piece.blanks.now piece.rest.now piece.is_line no_header is.blank is.made
+
+  pub piece_lost : ((later.comments.now ≡ lost.comments.now) × (piece.held ≡ held.Comment))
+      ⊎ (later.comments.now ≡ piece.rest.now) → IsLost key text piece.rest.now new later
   piece_lost (inl (same, comment)) =
-      let body = piece_body piece.held piece.blanks.now piece.rest.now piece.is_line no_header is.blank
-      is.made in
       more_lost r.gone (r.comments ++ piece.bytes.now) (append_assoc r.gone r.comments piece.bytes.now)
       (same ∙ r.cut ∙ ap (λ x. r.comments ++ x) is.joined ∙ simp append_assoc)
       (λ any. passed_join (some_left rest piece.rest.now shorter) (r.are_comments any)
       (rw comment at (piece_passed piece is any)))
       (body_joined (rw is.joined at r.is_body) body) (rw (is.joined, ← append_assoc) at r.loses)
   piece_lost (inr begins) =
-      let body = piece_body piece.held piece.blanks.now piece.rest.now piece.is_line no_header is.blank
-      is.made in
       more_lost ((r.gone ++ r.comments) ++ piece.bytes.now) [] (sym (append-nil _)) begins
       (λ any. anywhere (holds_nothing any)) spec.none
       (more_gone piece.bytes.now body (rw is.joined at (more_gone r.comments r.is_body r.loses)))

@@ -52,19 +52,17 @@ only_first key y others (w ∷ before) after are of e =
 pub set_keeps : {name value old new at other rest : List ℕ} {v : Option (List ℕ)} {next : Option Section}
     {lines : ℕ} {x : Content}
     (key : Key) (others : List Content) → IsKey name key → HasContents old (x ∷ others) → AreOther key others
-    → length new < length old → Reaches old [] next at → BeginsWithLetter at → TakesEntry at other v lines
-    rest
-    → Sets name value old new → (front : List ℕ) × (new ≡ front ++ rest)
-set_keeps key others is has are less reaches begins takes
-    (k, also, contents, has_too, inr (nothing, (now, has_now, adds, puts))) =
-    let longer = not_shorter puts in absurd (omega arith)
-set_keeps key others is has are less reaches begins takes
-    (k, also, contents, has_too, inl (now, has_now, r, nothing, inl (has_value, same))) =
-    let as_long = ap (λ t. length t) same in absurd (omega arith)
-set_keeps key others is has are less reaches begins takes
-    (k, also, contents, has_too, inl (now, has_now, r, nothing, inr (differs, ch))) =
-    let of = subst (λ k. IsOf k r.x) (cut_same also.cut is.cut) r.is_of in
-    let none = only_first key r.x others r.before r.after are of (contents_once has has_too ∙ r.old_is) in
-    let (same, sections) = reached_once ch.reaches reaches ch.may.begins begins (ap (λ b. length b) none) in
-    let (keys, values, counts, rests) = taken_once (rw same at ch.may.takes) takes in
-    (ch.front ++ ch.put, rw append_assoc (rw rests at ch.new_is))
+    → length new < length old → Reaches old [] next at → BeginsWithLetter at
+    → TakesEntry at other v lines rest → Sets name value old new → (front : List ℕ) × (new ≡ front ++ rest)
+set_keeps key others is has are less reaches begins takes (k, also, contents, has_too, makes) = elim makes [
+  | inr (nothing, (now, has_now, adds, puts)) ↦ let longer = not_shorter puts in absurd (omega arith)
+  | inl (now, has_now, r, nothing, bytes) ↦ elim bytes [
+    | inl (has_value, same) ↦ let as_long = ap (λ t. length t) same in absurd (omega arith)
+    | inr (differs, ch) ↦
+        let of = subst (λ k. IsOf k r.x) (cut_same also.cut is.cut) r.is_of in
+        let none = only_first key r.x others r.before r.after are of (contents_once has has_too ∙ r.old_is) in
+        let (same, sections) = reached_once ch.reaches reaches ch.may.begins begins (ap (λ b. length b) none) in
+        let (keys, values, counts, rests) = taken_once (rw same at ch.may.takes) takes in
+        (ch.front ++ ch.put, rw append_assoc (rw rests at ch.new_is))
+  ]
+]
