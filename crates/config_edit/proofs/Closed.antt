@@ -16,7 +16,7 @@ use Rattle.config_file.specs.Header.{Section}
 use Rattle.config_file.specs.Value.{Ending, outside, at_backslash, Spells, SpellsValue}
 use Rattle.config_file.specs.Value.{EndsValue, line_feeds}
 use Rattle.config_file.specs.File.{TakesEntry, alone}
-use Rattle.config_edit.specs.Edit.{Content, SameValue, SameEntry, IsLineEnd}
+use Rattle.config_edit.specs.Edit.{Content, SameEntry, IsLineEnd}
 use Rattle.config_edit.specs.Reading as edit
 use Rattle.config_edit.specs.Reading.{Holds, IsMade, IsPiece, contents_in, section_after}
 use Rattle.config_edit.specs.Reading.{IsOpenHeld, IsEndOf, line_ends, Closes}

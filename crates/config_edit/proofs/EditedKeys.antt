@@ -2,8 +2,6 @@
 use Rattle.std.proofs.Common.{◌≡◌, ℕ, Bool, false, List, [], ◌∷◌, ◌++◌, Option, None, map, refl}
 use Rattle.std.proofs.Common.{sym, ap, ◌∙◌, subst, append_assoc, inl, inr}
 use Rattle.config_edit.specs.declared.Change.{Change}
-use Rattle.config_edit.specs.declared.removal.Count.TheVariants as count
-use Rattle.config_edit.specs.declared.removal.Taken.{Taken}
 use Rattle.config_file.specs.File.{Entry, IsFile}
 use Rattle.config_edit.specs.declared.EditError.{EditError}
 use Rattle.config_edit.specs.declared.EditError.TheVariants as error
@@ -11,12 +9,12 @@ use Rattle.config_file.specs.declared.key.KeyError.{KeyError}
 use Rattle.config_file.specs.Key.{Key, IsKey, RefusesKey}
 use Rattle.config_file.specs.Spelling.{HasNoHeader}
 use Rattle.config_file.specs.Header.{Section}
-use Rattle.config_edit.specs.Edit.{Content, content, HasContents, Changes, ChangesAt, SetsBytes, ChangesKey}
-use Rattle.config_edit.specs.Edit.{ReplacesKey, AddsKey, PutsLine, ReachesBehind, IsApart, MayUnset}
-use Rattle.config_edit.specs.Edit.{LosesOne, Without, NamesSection, RemovesSection}
+use Rattle.config_edit.specs.Edit.{Content, content, HasContents, Becomes, Changes, ChangesAt, SetsBytes, ChangesKey}
+use Rattle.config_edit.specs.Edit.{AddsKey, PutsLine, ReachesBehind, IsApart}
+use Rattle.config_edit.specs.Edit.{NamesSection, RemovesSection}
 use Rattle.config_edit.specs.Edit.{RenamesSection, NoneIn, LacksSection, LacksHeader, ChangesEntries}
-use Rattle.config_edit.specs.Reading.{IsSplit, IsReplaced, IsAdded, IsTaken, IsCleared, IsEachChanged}
-use Rattle.config_edit.specs.Reading.{Ends, ChangesIn, SetsIn, ComesBehind}
+use Rattle.config_edit.specs.Reading.{IsSplit, IsReplaced, IsAdded, IsCleared, IsEachChanged}
+use Rattle.config_edit.specs.Reading.{Ends, ChangesIn, SetsIn, Comes, ComesBehind}
 use Rattle.config_edit.specs.Reading.{RefusesName}
 use Rattle.config_file.proofs.OneKey.{cut_same, not_both}
 use Rattle.config_edit.proofs.Edits.{file_of, text_of, split_joined, reaches, reaches_behind, body_ends}
@@ -92,33 +90,19 @@ changed_key split ends r one e =
     let (nothing, bytes) = r.single one in
     rw e (r.now, file_of split r.ends, r.replaces, nothing, set_marked split ends bytes)
 
-pub replaced_key : {key : Key} {value text mark body new edited : List ℕ} {contents : List Content}
-    {several : Bool}
-    → IsSplit text mark body → Ends None body contents → IsReplaced key value body contents new several
-    → edited ≡ mark ++ new → ReplacesKey key value text contents edited
-replaced_key split ends r e =
-    rw e (r.now, file_of split r.ends, r.replaces, becomes_marked split ends r.changes)
+-- what becomes of a text of whose body stretches change
+pub made : {P : List Content → Type 0} {M : List Content → Option Section → List ℕ → List ℕ → List ℕ → Type 0}
+    {text mark body new edited : List ℕ} {contents now : List Content}
+    → IsSplit text mark body → Ends None body contents → Ends None new now → P now
+    → Becomes (Comes body) M body [] new → edited ≡ mark ++ new
+    → (after : List Content) × HasContents edited after × P after × Changes M text edited
+made {now = now} split ends whole holds changes e =
+    rw e (now, file_of split whole, holds, becomes_marked split ends changes)
 
 pub added_key : {key : Key} {value text mark body new edited : List ℕ} {contents : List Content}
     → IsSplit text mark body → Ends None body contents → IsAdded key value body contents new
     → edited ≡ mark ++ new → AddsKey key value text contents edited
 added_key split ends r e = rw e (r.now, file_of split r.ends, r.adds, line_marked split ends r.bytes)
-
-pub taken_key : {key : Key} {places : Option (List ℕ)} {text mark body edited : List ℕ}
-    {contents : List Content} {taken : Taken}
-    → IsSplit text mark body → Ends None body contents → IsTaken key places body contents taken
-    → edited ≡ mark ++ taken.text.items
-    → (now : List Content) × HasContents edited now × Without key places contents now
-    × Changes (MayUnset key places) text edited
-taken_key split ends r e = rw e (r.now, file_of split r.ends, r.without, becomes_marked split ends r.changes)
-
-pub one_taken : {key : Key} {text mark body edited : List ℕ} {contents : List Content} {taken : Taken}
-    → IsSplit text mark body → Ends None body contents → IsTaken key None body contents taken → taken.count ≡ count.One
-    → edited ≡ mark ++ taken.text.items
-    → (now : List Content) × HasContents edited now × LosesOne key contents now
-    × Changes (MayUnset key None) text edited
-one_taken split ends r one e =
-    rw e (r.now, file_of split r.ends, rw one at r.counted, becomes_marked split ends r.changes)
 
 pub changed_entries : {changes : List Change} {text mark body new edited : List ℕ} {contents : List Content}
     → IsSplit text mark body → Ends None body contents → IsEachChanged changes body contents new

@@ -1,5 +1,5 @@
 -- Texts in which an entry has another value.
-use Rattle.std.proofs.Common.{◌≡◌, ◌≢◌, ℕ, ◌+◌, ◌<◌, Bool, false, List, [], ◌∷◌, ◌++◌, Option, Some}
+use Rattle.std.proofs.Common.{◌≡◌, ℕ, ◌+◌, ◌<◌, Bool, false, List, [], ◌∷◌, ◌++◌, Option, Some}
 use Rattle.std.proofs.Common.{None, is_some, length, refl, sym, ap, ◌∙◌, subst, append_assoc, append-nil, inl}
 use Rattle.std.proofs.Common.{inr, ◌⊎◌, true≢false}
 use Rattle.config_file.specs.declared.entry.EntryParts.{EntryParts}
@@ -19,7 +19,7 @@ use Rattle.config_edit.specs.Edit.{Content, content, Becomes, LosesEntry, MayRep
 use Rattle.config_edit.specs.Edit.{HasNone, HasSeveral, Replaces, GivesValue}
 use Rattle.config_edit.specs.Edit.{HasValue}
 use Rattle.config_edit.specs.Reached as reached
-use Rattle.config_edit.specs.Reading.{Holds, Ends, Passed, anywhere, at_end, IsRead, IsMade, IsPiece}
+use Rattle.config_edit.specs.Reading.{Holds, Ends, Passed, anywhere, at_end, IsMade, IsPiece}
 use Rattle.config_edit.specs.Reading.{IsSet, contents_in, section_after, IsListable, IsPast, content_of}
 use Rattle.config_edit.specs.Reading.{IsEntryHeld, IsFound, Replacing, IsReplaced, IsLeft}
 use Rattle.config_edit.specs.Edit.{AreBlank, IsEntry, IsEnd}
@@ -27,10 +27,9 @@ use Rattle.config_edit.specs.Reading.{IsGiven, ChangesIn, Comes, MayLose}
 use Rattle.config_file.specs.Views.{value_of}
 use Rattle.std.proofs.lemmas.List.{append_cancel_right}
 use Rattle.config_file.proofs.EachReading.{not_empty}
-use Rattle.config_file.proofs.LineEnds.{rest_none}
 use Rattle.config_edit.proofs.Pieces.{entry_passed, made_passed}
 use Rattle.config_edit.proofs.Edits.{holds_nothing, holds_join, holds_end, passed_holds, passed_join}
-use Rattle.config_edit.proofs.Edits.{passed_ends, ends_once, not_read, some_left, joined_more}
+use Rattle.config_edit.proofs.Edits.{passed_ends, ends_once, some_left, joined_more}
 use Rattle.config_edit.proofs.Edits.{header_listed, holds_blanks, comes_blanks}
 use Rattle.config_edit.proofs.Becomes.{becomes_before, becomes_more, becomes_end, becomes_piece}
 

@@ -1,13 +1,13 @@
 use Rattle.std.proofs.Common.{inl, inr}
 use Rattle.config_edit.proofs.Edits.{no_file}
-use Rattle.config_edit.proofs.EditedKeys.{edit, replaced_key, added_key}
+use Rattle.config_edit.proofs.EditedKeys.{edit, made, added_key}
 use Rattle.config_edit.proofs.replace_all.Goals as goal
 
 pub returns-in_ok-marked-in-Done : goal.returns-in_ok-marked-in-Done
 returns-in_ok-marked-in-Done c =
     let split = c.split_mark.ensures in
     let (contents, ends, r) = rw c.in-Done.is at c.in_ok-replaced.ensures in
-    edit c.in_ok-key.ensures.0 split ends (inl (replaced_key split ends r c.in_ok-marked-in-Done.ensures))
+    edit c.in_ok-key.ensures.0 split ends (inl (made split ends r.ends r.replaces r.changes c.in_ok-marked-in-Done.ensures))
 
 pub returns-in_ok-marked-in-Nothing : goal.returns-in_ok-marked-in-Nothing
 returns-in_ok-marked-in-Nothing c =

@@ -1,4 +1,4 @@
-use Rattle.config_edit.proofs.EditedKeys.{edit_file, one_taken}
+use Rattle.config_edit.proofs.EditedKeys.{edit_file, made}
 use Rattle.config_edit.proofs.unset.Goals as goal
 
 pub returns-in-None : goal.returns-in-None
@@ -10,8 +10,9 @@ pub returns-in_ok-marked-in-One : goal.returns-in_ok-marked-in-One
 returns-in_ok-marked-in-One c =
     let split = c.split_mark.ensures in
     edit_file c.in_ok-key.ensures.0 split c.in_ok-check_file.ensures
-    (λ contents ends. one_taken split ends
-    (c.in_ok-taken.ensures contents ends) c.in-One.is c.in_ok-marked-in-One.ensures)
+    (λ contents ends.
+    let r = c.in_ok-taken.ensures contents ends in
+    made split ends r.ends (rw c.in-One.is at r.counted) r.changes c.in_ok-marked-in-One.ensures)
 
 pub returns-in-Several : goal.returns-in-Several
 returns-in-Several c =

@@ -1,4 +1,4 @@
-use Rattle.config_edit.proofs.EditedKeys.{edit_file, taken_key}
+use Rattle.config_edit.proofs.EditedKeys.{edit_file, made}
 use Rattle.config_edit.proofs.unset_each.Goals as goal
 
 pub returns-in-None : goal.returns-in-None
@@ -10,5 +10,6 @@ pub returns-in_ok-marked-in-One : goal.returns-in_ok-marked-in-One
 returns-in_ok-marked-in-One c =
     let split = c.split_mark.ensures in
     edit_file c.in_ok-key.ensures.0 split c.in_ok-check_file.ensures
-    (λ contents ends. taken_key split ends
-    (c.in_ok-taken.ensures contents ends) c.in_ok-marked-in-One.ensures)
+    (λ contents ends.
+    let r = c.in_ok-taken.ensures contents ends in
+    made split ends r.ends r.without r.changes c.in_ok-marked-in-One.ensures)

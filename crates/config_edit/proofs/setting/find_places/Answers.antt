@@ -1,5 +1,5 @@
 use Rattle.std.proofs.Common.{◌≡◌, ◌⊎◌, ◌∙◌, inl, inr, sym, false, IsTrue, ◌&&◌, true}
-use Rattle.std.proofs.Common.{◌↔◌, refl, true≢false}
+use Rattle.std.proofs.Common.{◌↔◌, refl}
 use Rattle.config_edit.specs.declared.setting.Insertion.{Insertion}
 use Rattle.config_edit.specs.declared.setting.Places.{Places}
 use Rattle.config_file.specs.KeyView.{key_of}

@@ -1,4 +1,4 @@
-use Rattle.std.proofs.Common.{◌≡◌, ◌≢◌, ◌++◌, ◌∙◌, ap, sym, []}
+use Rattle.std.proofs.Common.{◌≡◌, ◌++◌, ◌∙◌, ap, sym}
 use Rattle.std.proofs.Common.{option_map, is_some, true≢false, append_assoc}
 use Rattle.config_edit.specs.declared.setting.Found.{Found}
 use Rattle.config_file.specs.KeyView.{key_of}
