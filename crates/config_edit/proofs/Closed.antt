@@ -131,13 +131,9 @@ alone_before {key = key} {at = at} front line_end begins (alone takes end) is =
     (line_end_stops is_space rest ends refl refl) in
     (rw front_is (alone key_takes ends), letter_in_front front at rest begins end)
 
-nothing_or : (text : List ℕ) → (text ≡ []) ⊎ (text ≢ [])
-nothing_or [] = inl refl
-nothing_or (b ∷ text) = inr (not_empty b text)
-
-ends_before : (text more : List ℕ) → text ≢ [] → EndsValue text → EndsValue (text ++ more)
-ends_before [] more some ends = absurd (some refl)
-ends_before (b ∷ text) more some ends = ends
+ends_or : (text more : List ℕ) → EndsValue text → (text ≡ []) ⊎ EndsValue (text ++ more)
+ends_or [] more ends = inl refl
+ends_or (b ∷ text) more ends = inr ends
 
 -- with these bytes, the text holds entries that are the same as those of these contents
 abbrev Closing : Option Section → List ℕ → List Content → Option Section → Type 0
@@ -198,12 +194,11 @@ module _ {key at blanks bytes rest : List ℕ} {was : Option (List ℕ)} {lines 
   closed_value {raw = raw} held text spells =
       let hold = can_hold e.front refl held e.begins e.takes in
       let (return, line_is, return_is) = return_of line_end is in
-      elim (nothing_or e.tail) [
+      elim (ends_or e.tail line_end (subst EndsValue at_is hold.ends)) [
         | inl nothing ↦ rw line_is
             (longer held [] return text outside nothing spells
             (spells_before return (return_blank return return_is) spells))
-        | inr some ↦
-            let ends = ends_before e.tail line_end some (subst EndsValue at_is hold.ends) in
+        | inr ends ↦
             let (takes, begins) = hold.holds raw text (e.tail ++ line_end) spells ends in
             unchanged (Some raw) (hold.start ++ raw) (line_feeds raw) held hold.joined takes begins
       ]
@@ -282,7 +277,8 @@ closes (held.Entry parts) bytes rest blanks all made section line_end is = (
 )
 closes (held.Header new) bytes rest blanks all made section line_end is =
     let ended = end_holds (Some (section_of new)) line_end (inr is) in
-    (λ other. ([], holds_join bytes line_end (header_holds all made section) ended, tt), λ opened. absurd opened)
+    let holds = holds_join bytes line_end (header_holds all made section) ended in
+    (λ other. ([], holds, tt), λ opened. absurd opened)
 closes held.Nothing bytes rest blanks all (tail, joined, t, none) section line_end is =
     (λ other. line_closes blanks all joined t section line_end is, λ opened. absurd opened)
 closes held.Comment bytes rest blanks all (tail, joined, t) section line_end is =
@@ -295,7 +291,8 @@ line_holds (held.Entry parts) bytes rest blanks all made section = entry_holds b
 line_holds (held.Header new) bytes rest blanks all made section = header_holds all made section
 line_holds held.Nothing bytes rest blanks all (tail, joined, t, none) section =
     line_at_holds blanks all joined t section
-line_holds held.Comment bytes rest blanks all (tail, joined, t) section = line_at_holds blanks all joined t section
+line_holds held.Comment bytes rest blanks all (tail, joined, t) section =
+    line_at_holds blanks all joined t section
 
 pub piece_closes : {text : List ℕ} {e : End} (piece : Piece) → IsPiece text piece → IsEndOf piece e
     → (section : Option Section)

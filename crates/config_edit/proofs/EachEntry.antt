@@ -266,8 +266,7 @@ none_left (change ∷ more) count some (from, below, order) = omega arith
 
 pub some_after : {A : Type 0} (count : ℕ) (xs : List A) → count < length xs → drop count xs ≢ []
 some_after count xs more none =
-    let rest : length (drop count xs) ≡ 0 = ap (λ l. length l) none in
-    let size = length-drop count xs in omega arith
+    let size = simp length-drop at (ap (λ l. length l) none) in omega arith
 
 one_longer : {A : Type 0} (xs : List A) (x : A) → length (xs ++ x ∷ []) ≡ length xs + 1
 one_longer xs x = length-append xs (x ∷ [])

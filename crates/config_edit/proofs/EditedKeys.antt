@@ -9,7 +9,8 @@ use Rattle.config_file.specs.declared.key.KeyError.{KeyError}
 use Rattle.config_file.specs.Key.{Key, IsKey, RefusesKey}
 use Rattle.config_file.specs.Spelling.{HasNoHeader}
 use Rattle.config_file.specs.Header.{Section}
-use Rattle.config_edit.specs.Edit.{Content, content, HasContents, Becomes, Changes, ChangesAt, SetsBytes, ChangesKey}
+use Rattle.config_edit.specs.Edit.{Content, content, HasContents, Becomes, Changes, ChangesAt, SetsBytes}
+use Rattle.config_edit.specs.Edit.{ChangesKey}
 use Rattle.config_edit.specs.Edit.{AddsKey, PutsLine, ReachesBehind, IsApart}
 use Rattle.config_edit.specs.Edit.{NamesSection, RemovesSection}
 use Rattle.config_edit.specs.Edit.{RenamesSection, NoneIn, LacksSection, LacksHeader, ChangesEntries}

@@ -61,7 +61,8 @@ set_keeps key others is has are less reaches begins takes (k, also, contents, ha
     | inr (differs, ch) ↦
         let of = subst (λ k. IsOf k r.x) (cut_same also.cut is.cut) r.is_of in
         let none = only_first key r.x others r.before r.after are of (contents_once has has_too ∙ r.old_is) in
-        let (same, sections) = reached_once ch.reaches reaches ch.may.begins begins (ap (λ b. length b) none) in
+        let (same, sections) = reached_once ch.reaches reaches ch.may.begins begins
+        (ap (λ b. length b) none) in
         let (keys, values, counts, rests) = taken_once (rw same at ch.may.takes) takes in
         (ch.front ++ ch.put, rw append_assoc (rw rests at ch.new_is))
   ]

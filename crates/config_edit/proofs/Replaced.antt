@@ -170,7 +170,8 @@ replacing_passes key text rest start new section several (Some f) piece r is sho
       many = r.many;
     }
 
-found_past : {key : Key} {text rest start new : List ℕ} {section : Option Section} {f : Found} {several : Bool}
+found_past : {key : Key} {text rest start new : List ℕ} {section : Option Section} {f : Found}
+    {several : Bool}
     (r : IsFound key text rest start new section f several)
     → IsPast text rest (r.front ++ (f.piece.bytes.now ++ r.between))
     (r.before ++ content_of r.at f.parts ∷ r.after) section
@@ -180,14 +181,16 @@ found_past {rest = rest} {f = f} r =
     let entry = rw follows at (entry_passed f.piece.blanks.now f.piece.is_line r.blank r.is_entry r.at) in
     record {
       joined = simp (r.joined, r.cut, append_assoc);
-      passed = holds_then r.front (bytes ++ r.between) r.before_is (passed_then bytes r.between entry r.between_is);
+      passed = holds_then r.front (bytes ++ r.between) r.before_is
+          (passed_then bytes r.between entry r.between_is);
       listable = r.listable;
     }
 
 pub looked_past : (key : Key) (text rest start new : List ℕ) (section : Option Section) (several : Bool)
     (found : Option Found) → Replacing key text rest start new section found several
     → (front : List ℕ) × (contents : List Content) × IsPast text rest front contents section
-looked_past key text rest start new section several None (front, contents, past, nothing, s, n, o) = (front, contents, past)
+looked_past key text rest start new section several None (front, contents, past, nothing, s, n, o) =
+    (front, contents, past)
 looked_past key text rest start new section several (Some f) r = (_, _, found_past r)
 
 -- an entry of the key goes

@@ -7,7 +7,8 @@ pub returns-in_ok-marked-in-Done : goal.returns-in_ok-marked-in-Done
 returns-in_ok-marked-in-Done c =
     let split = c.split_mark.ensures in
     let (contents, ends, r) = rw c.in-Done.is at c.in_ok-replaced.ensures in
-    edit c.in_ok-key.ensures.0 split ends (inl (made split ends r.ends r.replaces r.changes c.in_ok-marked-in-Done.ensures))
+    edit c.in_ok-key.ensures.0 split ends
+    (inl (made split ends r.ends r.replaces r.changes c.in_ok-marked-in-Done.ensures))
 
 pub returns-in_ok-marked-in-Nothing : goal.returns-in_ok-marked-in-Nothing
 returns-in_ok-marked-in-Nothing c =

@@ -1,4 +1,4 @@
-use Rattle.std.proofs.Common.{◌≡◌, ◌++◌, ◌∙◌, None, Some, ap, inl, inr, option_copied}
+use Rattle.std.proofs.Common.{◌≡◌, None, Some, ap, inl, inr, option_copied}
 use Rattle.config_edit.specs.Edit.{name_after}
 use Rattle.config_edit.proofs.EachEntry.{no_comment, changed_plain}
 use Rattle.config_edit.proofs.Commented.{changed_commented, writable_comment}
@@ -19,16 +19,16 @@ returns-in_default c =
 pub push_commented-requires-clause-shaped : goal.push_commented-requires-clause-shaped
 push_commented-requires-clause-shaped c =
     let (line, pushed, named) = c.in_ok-push_named-2.ensures in
-    let line_is : c.as_slice.result.now ≡ line =
-    c.as_slice.ensures.value ∙ pushed ∙ ap (λ l. l ++ line) c.new-line.ensures.items in
-    (name_after (option_copied c.args.change.now.name) c.args.parts.now.key.now, rw line_is named.shaped)
+    let same : c.as_slice.result.now ≡ line =
+    simp (c.as_slice.ensures.value, pushed, c.new-line.ensures.items) in
+    (name_after (option_copied c.args.change.now.name) c.args.parts.now.key.now, rw same named.shaped)
 
 pub returns : goal.returns
 returns c =
     let change = c.args.change.now in
     let (line, pushed_line, named) = c.in_ok-push_named-2.ensures in
     let line_is : c.as_slice.result.now ≡ line =
-    c.as_slice.ensures.value ∙ pushed_line ∙ ap (λ l. l ++ line) c.new-line.ensures.items in
+    simp (c.as_slice.ensures.value, pushed_line, c.new-line.ensures.items) in
     let value = c.in-Some-Some.value.now in
     let comment = c.in-Some-Some.comment.now in
     let (put, pushed, commented) = c.in_ok-push_commented.ensures in

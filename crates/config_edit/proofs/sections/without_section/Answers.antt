@@ -72,7 +72,7 @@ returns c = λ contents ends.
             let (end, is_end, pushed) = w.in_ok-push_between.ensures in
             let (r, found) = rw w.in-Some-lost.is at p.invariant in
             let new_is : c.match-lost.new.items ≡ p.new.items ++ end =
-            ap (λ n. n.items) w.new-is ∙ pushed ∙ ap (λ e. p.new.items ++ e) (append-nil end) in
+            simp (w.new-is, pushed, append-nil) in
             rw new_is (lost_ends end r ends left is_end)
         | in_default-lost w ↦ rw w.new-is (kept_ends (rw w.in_default-lost.is at p.invariant) ends left)
       ])

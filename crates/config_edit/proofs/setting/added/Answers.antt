@@ -1,7 +1,4 @@
-use Rattle.std.proofs.Common.{◌∙◌, ap, ◌∷◌, ◌++◌}
 use Rattle.config_file.specs.KeyView.{key_of}
-use Rattle.config_edit.specs.Reading.{line_ends, new_line}
-use Rattle.config_file.specs.Spelling.{spelled_section}
 use Rattle.config_edit.proofs.Added.{added_inside, added_behind}
 use Rattle.config_edit.proofs.setting.added.Goals as goal
 use Rattle.config_edit.proofs.setting.added.Goals.{in-Some+in_ok-push_inside-in-Some}
@@ -21,15 +18,15 @@ returns c = λ contents ends.
       | in-Some+in_ok-push_inside-in-Some w ↦
           let (front, feed, is_feed, cut, pushed) = w.in_ok-push_inside-in-Some.ensures in
           let place = w.in-Some.place in
-          let put = front ++ (line_ends place.end feed ++ (new_line key.name value feed ++ place.rest.now)) in
           let is_place = rw w.in-Some.is at p.inside in
-          added_inside value text c.match-places.new.items feed front {section = p.section} {place = place} c.requires.name c.requires.spellable is_place is_feed cut (ap (λ n. n.items) w.new-is ∙ pushed ∙ ap (λ n. n ++ put) c.in_ok-new.ensures.items)
+          added_inside value text c.match-places.new.items feed front {section = p.section}
+          {place = place} c.requires.name c.requires.spellable is_place is_feed cut
+          (simp (w.new-is, pushed, c.in_ok-new.ensures.items))
       | in-None+in_ok-push_behind-in-None w ↦
           let (feed, is_feed, pushed) = w.in_ok-push_behind-in-None.ensures in
-          let put =
-          text ++ (line_ends c.find_places-places.result.end feed ++
-          ((91 ∷ spelled_section key.section key.subsection) ++
-          (feed ++ new_line key.name value feed))) in
           let nothing = rw w.in-None.is at p.inside in
-          added_behind key value text c.match-places.new.items feed contents p.section c.find_places-places.result.end c.requires.name c.requires.spellable c.requires.section nothing p.closes is_feed ends (ap (λ n. n.items) w.new-is ∙ pushed ∙ ap (λ n. n ++ put) c.in_ok-new.ensures.items)
+          added_behind key value text c.match-places.new.items feed contents p.section
+          c.find_places-places.result.end c.requires.name c.requires.spellable c.requires.section nothing
+          p.closes is_feed ends
+          (simp (w.new-is, pushed, c.in_ok-new.ensures.items))
     ]

@@ -39,7 +39,8 @@ pieces-preserved c =
           (rw w.in-Header.is at (passes other))
       | in-Entry+then-is_of+in_ok-push_before-in-Entry w ↦
           let f : Found = record { piece = piece; parts = w.in-Entry.parts; in_line = p.in_line } in
-          let listable = (looked_past key text rest start new section p.several p.found p.invariant).2.listable in
+          let listable = (looked_past key text rest start new section p.several p.found
+          p.invariant).2.listable in
           let (left, left_is, pushed) = w.in_ok-push_before-in-Entry.ensures in
           let between = w.before-then-is_of.result.now in
           let step =
@@ -50,7 +51,8 @@ pieces-preserved c =
           let new_is : m.new.items ≡ new ++ (left ++ between) = ap (λ n. n.items) w.new-is ∙ pushed in
           rw (new_is, w.start-is, w.section-is, w.found-is, several_is) step
       | in-Entry+else-is_of w ↦
-          let listable = (looked_past key text rest start new section p.several p.found p.invariant).2.listable in
+          let listable = (looked_past key text rest start new section p.several p.found
+          p.invariant).2.listable in
           let other : ¬ (IsEntryHeld key section piece.held) = λ held.
           true≢false (sym ((w.is_of.ensures listable).1 (rw w.in-Entry.is at held)) ∙ w.if-is_of.false) in
           rw (w.new-is, w.start-is, w.found-is, w.several-is, w.section-is)
