@@ -12,18 +12,20 @@ use Rattle.config_file.specs.declared.entry.EntryParts.{EntryParts}
 use Rattle.config_file.specs.Bytes.{BeginsWithLetter}
 use Rattle.config_file.specs.Header.{Section}
 use Rattle.config_file.specs.File.{TakesKey, TakesEntry, alone, valued}
-use Rattle.config_file.specs.Value.{TakesValue, closed, open_end}
 use Rattle.config_file.specs.Key.{is_name}
 use Rattle.config_edit.specs.Edit as spec
 use Rattle.config_edit.specs.Edit.{Content, Becomes, ChangesEach, ChangesValueTo, ChangesEntry, MayChange, AreInOrder, IsChanged, IsEntry}
 use Rattle.config_edit.specs.Edit.{Has, HasValue, PutsValue, name_after, value_bytes}
-use Rattle.config_edit.specs.Reading.{Ends, HasHow, Passed, anywhere, IsRead, IsPiece, IsSet, IsChangedIn, IsNamed, IsValued}
+use Rattle.config_edit.specs.Reading.{Ends, HasHow, anywhere, IsRead, IsPiece, IsSet, IsChangedIn, IsNamed}
+use Rattle.config_edit.specs.Reading.{IsValued}
 use Rattle.config_edit.specs.Reading.{IsWritableComment}
 use Rattle.config_edit.specs.Reading.{AreLater, AreWritable, Changing, IsEachChanged, contents_in}
 use Rattle.config_edit.specs.Reading.{section_after, content_of, Comes, IsShaped, IsGiven}
 use Rattle.config_file.specs.Views.{value_of}
 use Rattle.config_edit.proofs.Added.{name_parts}
-use Rattle.config_edit.proofs.Pieces.{entry_passed, made_passed, key_joined}
+use Rattle.config_edit.proofs.Pieces.{entry_passed, key_joined}
+use Rattle.config_edit.proofs.Changed.{IsEntryIn, value_ends}
+use Rattle.config_edit.proofs.Replaced.{piece_passed}
 use Rattle.config_edit.proofs.Edits.{holds_nothing, passed_join, passed_ends, all_passed, some_left}
 use Rattle.config_edit.proofs.Edits.{joined_more, passed_holds, comes_blanks}
 use Rattle.config_edit.proofs.Becomes.{becomes_before, becomes_piece}
@@ -44,31 +46,18 @@ begins_named name rest is =
     let (b, more, name_is, letter, all) = name_parts name is in
     (b, more ++ rest, ap (λ n. n ++ rest) name_is, letter)
 
-value_joined : {after raw rest : List ℕ} {lines : ℕ} → TakesValue after raw lines rest → after ≡ raw ++ rest
-value_joined (closed joined spells ends) = joined
-value_joined (open_end {raw = raw} spells) = sym (append-nil raw)
-
 pub entry_named : {text key rest : List ℕ} {value : Option (List ℕ)} {lines : ℕ} (name : List ℕ)
     → is_name name ≡ true → TakesEntry text key value lines rest
     → (more : List ℕ) × (text ≡ (key ++ more) ++ rest) × TakesEntry ((name ++ more) ++ rest) name value lines rest
-entry_named name is (alone {key = key} {rest = rest} t end) =
-    let spaced_is : t.spaced ≡ t.spaces ++ rest = t.space_run.joined in (
-      t.spaces,
-      key_joined rest t,
-      subst (λ x. TakesEntry x name None 0 rest)
-          (ap (λ s. name ++ s) spaced_is ∙ sym (append_assoc name t.spaces rest))
-          (alone (takes_named name is t) end),
-    )
-entry_named name is (valued {b = b} {lines = lines} {key = key} {after = after} {raw = raw} {rest = rest} t is_sign value) =
+entry_named name is (alone {rest = rest} t end) =
+    (t.spaces, key_joined rest t, rw (append_assoc, ← t.space_run.joined) (alone (takes_named name is t) end))
+entry_named name is (valued {b = b} {key = key} {raw = raw} {rest = rest} t is_sign value) =
     let more = t.spaces ++ b ∷ raw in
-    let spaced_is : t.spaced ≡ more ++ rest =
-    t.space_run.joined ∙ ap (λ a. t.spaces ++ b ∷ a) (value_joined value)
-    ∙ sym (append_assoc t.spaces (b ∷ raw) rest) in (
+    let joined = (value_ends value).0 in
+    let spaced_is : t.spaced ≡ more ++ rest = simp (t.space_run.joined, joined, append_assoc) in (
       more,
-      t.key_run.joined ∙ ap (λ s. key ++ s) spaced_is ∙ sym (append_assoc key more rest),
-      subst (λ x. TakesEntry x name (Some raw) lines rest)
-          (ap (λ s. name ++ s) spaced_is ∙ sym (append_assoc name more rest))
-          (valued (takes_named name is t) is_sign value),
+      t.key_run.joined ∙ rw spaced_is (sym (append_assoc key more rest)),
+      rw (append_assoc, ← spaced_is) (valued (takes_named name is t) is_sign value),
     )
 
 pub named : {key at blanks bytes rest : List ℕ} {value : Option (List ℕ)} {lines : ℕ} {is_line : Bool}
@@ -78,37 +67,29 @@ named {key = key} {at = at} {blanks = blanks} name is e =
     let (more, text_is, takes) = entry_named name is e.takes in
     let front_is : e.front ≡ key ++ more = append_cancel_right e.front (key ++ more) at text_is in (
       more ++ e.tail,
-      e.joined ∙ ap (λ f. blanks ++ (f ++ e.tail)) front_is
-          ∙ ap (λ x. blanks ++ x) (append_assoc key more e.tail),
+      e.joined ∙ ap (λ f. blanks ++ (f ++ e.tail)) front_is ∙ simp append_assoc,
       record {
         front = name ++ more;
         tail = e.tail;
-        begins = subst BeginsWithLetter (sym (append_assoc name more at)) (begins_named name (more ++ at) is);
+        begins = rw append_assoc (begins_named name (more ++ at) is);
         takes = takes;
         left = e.left;
         is_tail = e.is_tail;
-        joined = ap (λ x. blanks ++ x) (sym (append_assoc name more e.tail));
+        joined = simp append_assoc;
       },
     )
 
 -- what precedes the value of an entry, and its bytes
 value_at_end : {text key rest : List ℕ} {value : Option (List ℕ)} {lines : ℕ} → TakesEntry text key value lines rest
     → (between : List ℕ) × (text ≡ (key ++ (between ++ value_bytes value)) ++ rest)
-value_at_end (alone {key = key} {rest = rest} t end) = (
-  t.spaces,
-  key_joined rest t ∙ ap (λ s. (key ++ s) ++ rest) (sym (append-nil t.spaces)),
-)
-value_at_end (valued {b = b} {key = key} {after = after} {raw = raw} {rest = rest} t is_sign value) =
-    let before = t.spaces ++ b ∷ [] in
-    let bytes_are : t.spaces ++ b ∷ raw ≡ before ++ raw = sym (append_assoc t.spaces (b ∷ []) raw) in
-    let whole : t.spaced ≡ (before ++ raw) ++ rest =
-    t.space_run.joined ∙ ap (λ a. t.spaces ++ b ∷ a) (value_joined value)
-    ∙ sym (append_assoc t.spaces (b ∷ raw) rest) ∙ ap (λ x. x ++ rest) bytes_are in
-    (before, t.key_run.joined ∙ ap (λ s. key ++ s) whole ∙ sym (append_assoc key (before ++ raw) rest))
+value_at_end (alone {rest = rest} t end) = (t.spaces, key_joined rest t ∙ simp append-nil)
+value_at_end (valued {b = b} t is_sign value) =
+    let joined = (value_ends value).0 in
+    (t.spaces ++ b ∷ [], simp (t.key_run.joined, t.space_run.joined, joined, append_assoc))
 
 -- an entry whose bytes stay
 shaped_old : {value : Option (List ℕ)} {parts : EntryParts} {piece : Piece}
-    → IsEntry parts.key.now (value_of parts.value) parts.lines parts.rest.now piece.blanks.now piece.bytes.now piece.rest.now piece.is_line
+    → IsEntryIn parts piece
     → MatchOption value (value_bytes (value_of parts.value) ≡ value_bytes (value_of parts.value))
     (λ new. ChangesValueTo new (value_of parts.value) (value_bytes (value_of parts.value)))
     → MatchOption value ⊤ (λ new. HasValue (value_of parts.value) new → HasHow parts new)
@@ -126,10 +107,8 @@ shaped_old {parts = parts} {piece = piece} e is_valued how =
       bytes = raw;
       tail = e.tail;
       left = e.left;
-      begins = subst (λ f. BeginsWithLetter (f ++ (e.tail ++ piece.rest.now))) front_is
-          (subst (λ a. BeginsWithLetter (e.front ++ a)) e.left e.begins);
-      takes = subst (λ f. TakesEntry (f ++ (e.tail ++ piece.rest.now)) key (value_of parts.value) parts.lines (e.tail ++ piece.rest.now)) front_is
-          (subst (λ a. TakesEntry (e.front ++ a) key (value_of parts.value) parts.lines a) e.left e.takes);
+      begins = rw (e.left, front_is) at e.begins;
+      takes = rw (e.left, front_is) at e.takes;
       bytes_are = joined;
       put_is = joined;
       is_valued = is_valued;
@@ -151,40 +130,35 @@ shaped_new {parts = parts} {piece = piece} other g =
     let front_is : g.gives.front ≡ key ++ between =
     append_cancel_right g.gives.front (key ++ between) raw
     (sym g.gives.gone_is ∙ gone_is ∙ sym (append_assoc key between raw)) in
-    let now_is : g.now ≡ key ++ (between ++ g.gives.bytes) =
-    g.gives.put_is ∙ ap (λ f. f ++ g.gives.bytes) front_is ∙ append_assoc key between g.gives.bytes in
     record {
       lines = g.gives.lines;
       between = between;
       bytes = g.gives.bytes;
       tail = g.tail;
       left = g.left;
-      begins = subst (λ f. BeginsWithLetter (f ++ rest)) gone_is g.gives.begins;
-      takes = subst (λ f. TakesEntry (f ++ rest) key was g.gives.lines rest) gone_is g.gives.takes;
-      bytes_are = g.bytes_are ∙ ap (λ f. piece.blanks.now ++ (f ++ g.tail)) gone_is;
-      put_is = g.put_is ∙ ap (λ f. piece.blanks.now ++ (f ++ g.tail)) now_is;
+      begins = rw gone_is at g.gives.begins;
+      takes = rw gone_is at g.gives.takes;
+      bytes_are = rw gone_is at g.bytes_are;
+      put_is = g.put_is ∙ rw (g.gives.put_is, front_is) (simp append_assoc);
       is_valued = inr (other, g.gives.puts);
       how = λ has. absurd (other has);
     }
 
 shaped_set : {value : List ℕ} {parts : EntryParts} {piece : Piece} {put : List ℕ}
-    → IsEntry parts.key.now (value_of parts.value) parts.lines parts.rest.now piece.blanks.now piece.bytes.now piece.rest.now piece.is_line
-    → IsSet parts piece value put → IsShaped parts.key.now (Some value) parts piece put
-shaped_set {value = value} {parts = parts} {piece = piece} e s = elim s.given [
-  | inl same ↦ subst (λ p. IsShaped parts.key.now (Some value) parts piece p) (sym same.1)
-      (shaped_old {value = Some value} e (inl (same.0, refl)) (λ has. same.2))
+    → IsEntryIn parts piece → IsSet parts piece value put
+    → IsShaped parts.key.now (Some value) parts piece put
+shaped_set {value = value} e s = elim s.given [
+  | inl same ↦ rw same.1 (shaped_old {value = Some value} e (inl (same.0, refl)) (λ has. same.2))
   | inr other ↦ shaped_new other.0 other.1
 ]
 
 pub valued_new : {value : List ℕ} {parts : EntryParts} {piece : Piece} {put : List ℕ}
-    → IsEntry parts.key.now (value_of parts.value) parts.lines parts.rest.now piece.blanks.now piece.bytes.now piece.rest.now piece.is_line
-    → IsSet parts piece value put → IsValued (Some value) parts piece put
+    → IsEntryIn parts piece → IsSet parts piece value put → IsValued (Some value) parts piece put
 valued_new e s =
     record { raw = Some s.raw; lines = s.lines; at = s.at; value_is = s.has_value; entry = s.entry; shaped = shaped_set e s }
 
 pub valued_old : {parts : EntryParts} {piece : Piece}
-    → IsEntry parts.key.now (value_of parts.value) parts.lines parts.rest.now piece.blanks.now piece.bytes.now piece.rest.now piece.is_line
-    → IsValued None parts piece piece.bytes.now
+    → IsEntryIn parts piece → IsValued None parts piece piece.bytes.now
 valued_old {parts = parts} e =
     record { raw = value_of parts.value; lines = parts.lines; at = parts.rest.now; value_is = refl; entry = e; shaped = shaped_old {value = None} e refl tt }
 
@@ -197,18 +171,17 @@ pub named_new : {value : Option (List ℕ)} {parts : EntryParts} {piece : Piece}
     → is_name name ≡ true → IsValued value parts piece line
     → line ≡ piece.blanks.now ++ (parts.key.now ++ more)
     → IsNamed (Some name) value parts piece (piece.blanks.now ++ (name ++ more))
-named_new {parts = parts} {piece = piece} {line = line} name more is v line_is =
+named_new {parts = parts} {piece = piece} name more is v line_is =
     let (m, joined, entry) = named name is v.entry in
     let blanks = piece.blanks.now in
-    let same : m ≡ more = append_cancel_left (blanks ++ parts.key.now) m more
-    (append_assoc blanks parts.key.now m ∙ sym joined ∙ line_is ∙ sym (append_assoc blanks parts.key.now more)) in
+    let key = parts.key.now in
+    let same : m ≡ more =
+    append_cancel_left (blanks ++ key) m more (simp append_assoc (sym joined ∙ line_is)) in
     let shape = v.shaped in
     let after = (shape.between ++ shape.bytes) ++ shape.tail in
     let more_is : more ≡ after =
-    append_cancel_left (blanks ++ parts.key.now) more after
-    (append_assoc blanks parts.key.now more ∙ sym line_is ∙ shape.put_is
-    ∙ ap (λ x. blanks ++ x) (append_assoc parts.key.now (shape.between ++ shape.bytes) shape.tail)
-    ∙ sym (append_assoc blanks parts.key.now after)) in
+    append_cancel_left (blanks ++ key) more after
+    (simp append_assoc (sym line_is ∙ simp append_assoc at shape.put_is)) in
     record {
       raw = v.raw;
       lines = v.lines;
@@ -224,8 +197,7 @@ named_new {parts = parts} {piece = piece} {line = line} name more is v line_is =
         begins = shape.begins;
         takes = shape.takes;
         bytes_are = shape.bytes_are;
-        put_is = ap (λ m. blanks ++ (name ++ m)) more_is
-            ∙ ap (λ x. blanks ++ x) (sym (append_assoc name (shape.between ++ shape.bytes) shape.tail));
+        put_is = rw more_is (simp append_assoc);
         is_valued = shape.is_valued;
         how = shape.how;
       };
@@ -234,9 +206,8 @@ named_new {parts = parts} {piece = piece} {line = line} name more is v line_is =
 -- a change without a comment
 pub no_comment : (value comment : Option (List ℕ)) → IsWritableComment value comment → (value ≡ None) ⊎ (comment ≡ None)
     → comment ≡ None
-no_comment None None is either = refl
+no_comment value None is either = refl
 no_comment None (Some comment) is either = absurd is
-no_comment (Some value) None is either = refl
 no_comment (Some value) (Some comment) is (inl none) = cc
 no_comment (Some value) (Some comment) is (inr none) = none
 
@@ -295,8 +266,7 @@ none_left (change ∷ more) count some (from, below, order) = omega arith
 
 pub some_after : {A : Type 0} (count : ℕ) (xs : List A) → count < length xs → drop count xs ≢ []
 some_after count xs more none =
-    let rest : length (drop count xs) ≡ 0 = ap (λ l. length l) none in
-    let size = length-drop count xs in omega arith
+    let size = simp length-drop at (ap (λ l. length l) none) in omega arith
 
 one_longer : {A : Type 0} (xs : List A) (x : A) → length (xs ++ x ∷ []) ≡ length xs + 1
 one_longer xs x = length-append xs (x ∷ [])
@@ -305,22 +275,12 @@ each_kept : {done : List Change} {old now : List Content} (h : Held) (section : 
     → ChangesEach done old now
     → ChangesEach done (old ++ contents_in h section) (now ++ contents_in h section)
 each_kept (held.Entry parts) section each = spec.kept (content_of section parts) each
-each_kept {done = done} {old = old} {now = now} (held.Header new) section each =
-    subst (λ o. ChangesEach done o (now ++ [])) (sym (append-nil old))
-    (subst (λ n. ChangesEach done old n) (sym (append-nil now)) each)
-each_kept {done = done} {old = old} {now = now} held.Nothing section each =
-    subst (λ o. ChangesEach done o (now ++ [])) (sym (append-nil old))
-    (subst (λ n. ChangesEach done old n) (sym (append-nil now)) each)
-each_kept {done = done} {old = old} {now = now} held.Comment section each =
-    subst (λ o. ChangesEach done o (now ++ [])) (sym (append-nil old))
-    (subst (λ n. ChangesEach done old n) (sym (append-nil now)) each)
+each_kept h section each = simp append-nil each
 
 none_held : (h : Held) (section : Option Section) → ((parts : EntryParts) → h ≡ held.Entry parts → ⊥)
     → contents_in h section ≡ []
 none_held (held.Entry parts) section other = absurd (other parts refl)
-none_held (held.Header new) section other = refl
-none_held held.Nothing section other = refl
-none_held held.Comment section other = refl
+none_held h section other = refl
 
 name_is : (name : Option (List ℕ)) (key : List ℕ) → MatchOption name (name_after name key ≡ key) (λ n. name_after name key ≡ n)
 name_is None key = refl
@@ -347,15 +307,14 @@ changing_begins changes text writable =
       room = omega arith;
     }
 
--- a piece that is no entry
-pub changing_passes : {changes left : List Change} {text rest new : List ℕ} {index : ℕ} (piece : Piece)
-    → Changing changes text rest left new index → IsPiece rest piece → length piece.rest.now < length rest
-    → ((parts : EntryParts) → piece.held ≡ held.Entry parts → ⊥)
-    → Changing changes text piece.rest.now left (new ++ piece.bytes.now) index
-changing_passes {text = text} {rest = rest} {new = new} {index = index} piece r is shorter other =
+-- a piece that stays
+changing_stays : {changes left : List Change} {text rest new : List ℕ} {index : ℕ} (later : ℕ) (piece : Piece)
+    (r : Changing changes text rest left new index) → IsPiece rest piece → length piece.rest.now < length rest
+    → later ≤ index + 1 → later ≡ length (r.old ++ contents_in piece.held r.section)
+    → ((count : ℕ) → AreInOrder index left count → AreInOrder later left count)
+    → Changing changes text piece.rest.now left (new ++ piece.bytes.now) later
+changing_stays {text = text} {rest = rest} {index = index} later piece r is shorter next later_is ordered =
     let some = some_left rest piece.rest.now shorter in
-    let made = made_passed piece.held piece.blanks.now piece.is_line is.blank is.made r.section in
-    let none = none_held piece.held r.section other in
     record {
       front = r.front ++ piece.bytes.now;
       done = r.done;
@@ -363,44 +322,35 @@ changing_passes {text = text} {rest = rest} {new = new} {index = index} piece r 
       now = r.now ++ contents_in piece.held r.section;
       section = section_after piece.held r.section;
       joined = joined_more text r.front rest piece.bytes.now piece.rest.now r.joined is.joined;
-      passed = passed_join some r.passed made;
-      passed_now = passed_join some r.passed_now made;
+      passed = passed_join some r.passed (piece_passed piece is r.section);
+      passed_now = passed_join some r.passed_now (piece_passed piece is r.section);
       split = r.split;
       each = each_kept piece.held r.section r.each;
-      index_is = r.index_is ∙ sym (ap (λ c. length (r.old ++ c)) none ∙ ap (λ o. length o) (append-nil r.old));
+      index_is = later_is;
       bytes = spec.kept piece.bytes.now (becomes_before r.bytes is.joined);
-      ordered = r.ordered;
+      ordered = λ count order. ordered count (r.ordered count order);
       writable = r.writable;
       room = let room = r.room in omega arith;
     }
+
+-- a piece that is no entry
+pub changing_passes : {changes left : List Change} {text rest new : List ℕ} {index : ℕ} (piece : Piece)
+    → Changing changes text rest left new index → IsPiece rest piece → length piece.rest.now < length rest
+    → ((parts : EntryParts) → piece.held ≡ held.Entry parts → ⊥)
+    → Changing changes text piece.rest.now left (new ++ piece.bytes.now) index
+changing_passes {index = index} piece r is shorter other =
+    changing_stays index piece r is shorter (omega arith)
+    (rw (none_held piece.held r.section other, append-nil) r.index_is) (λ count order. order)
 
 -- an entry that stays
 pub changing_keeps : {changes left : List Change} {text rest new : List ℕ} {index : ℕ} (piece : Piece) (parts : EntryParts)
     → Changing changes text rest left new index → IsPiece rest piece → length piece.rest.now < length rest
     → piece.held ≡ held.Entry parts → AreLater left index
     → Changing changes text piece.rest.now left (new ++ piece.bytes.now) (index + 1)
-changing_keeps {left = left} {text = text} {rest = rest} {new = new} {index = index} piece parts r is shorter entry later =
-    let some = some_left rest piece.rest.now shorter in
-    let made = made_passed piece.held piece.blanks.now piece.is_line is.blank is.made r.section in
-    let one : contents_in piece.held r.section ≡ content_of r.section parts ∷ [] = ap (λ h. contents_in h r.section) entry in
-    record {
-      front = r.front ++ piece.bytes.now;
-      done = r.done;
-      old = r.old ++ contents_in piece.held r.section;
-      now = r.now ++ contents_in piece.held r.section;
-      section = section_after piece.held r.section;
-      joined = joined_more text r.front rest piece.bytes.now piece.rest.now r.joined is.joined;
-      passed = passed_join some r.passed made;
-      passed_now = passed_join some r.passed_now made;
-      split = r.split;
-      each = each_kept piece.held r.section r.each;
-      index_is = ap (λ i. i + 1) r.index_is
-          ∙ sym (ap (λ c. length (r.old ++ c)) one ∙ one_longer r.old (content_of r.section parts));
-      bytes = spec.kept piece.bytes.now (becomes_before r.bytes is.joined);
-      ordered = λ count order. order_kept left index count later (r.ordered count order);
-      writable = r.writable;
-      room = let room = r.room in omega arith;
-    }
+changing_keeps {left = left} {index = index} piece parts r is shorter entry later =
+    changing_stays (index + 1) piece r is shorter (omega arith)
+    (rw (entry, one_longer) (ap (λ i. i + 1) r.index_is))
+    (λ count order. order_kept left index count later order)
 
 -- an entry that changes
 pub changing_changes : {changes left more : List Change} {change : Change} {text rest new put : List ℕ} {index : ℕ}
@@ -414,21 +364,14 @@ changing_changes {changes = changes} {left = left} {more = more} {change = chang
     let name = name_after (option_copied change.name) parts.key.now in
     let x = content_of r.section parts in
     let y : Content = (r.section, name, c.raw) in
-    let made : Passed r.section piece.bytes.now (x ∷ []) r.section piece.rest.now =
-    subst (λ s. Passed r.section piece.bytes.now (x ∷ []) s piece.rest.now) (ap (λ h. section_after h r.section) entry)
-    (subst (λ xs. Passed r.section piece.bytes.now xs (section_after piece.held r.section) piece.rest.now)
-    (ap (λ h. contents_in h r.section) entry)
-    (made_passed piece.held piece.blanks.now piece.is_line is.blank is.made r.section)) in
-    let made_now : Passed r.section put (y ∷ []) r.section piece.rest.now =
-    entry_passed piece.blanks.now piece.is_line is.blank c.entry r.section in
-    let split : changes ≡ r.done ++ change ∷ more = r.split ∙ ap (λ l. r.done ++ l) left_is in
+    let made = rw entry at (piece_passed piece is r.section) in
+    let made_now = entry_passed piece.blanks.now piece.is_line is.blank c.entry r.section in
+    let split : changes ≡ r.done ++ change ∷ more = rw left_is at r.split in
     let cut : rest ≡ (piece.blanks.now ++ (c.gone ++ c.kept)) ++ piece.rest.now =
     is.joined ∙ ap (λ b. b ++ piece.rest.now) c.bytes_are in
-    let inner : rest ≡ piece.blanks.now ++ (c.gone ++ (c.kept ++ piece.rest.now)) =
-    cut ∙ append_assoc piece.blanks.now (c.gone ++ c.kept) piece.rest.now
-    ∙ ap (λ x. piece.blanks.now ++ x) (append_assoc c.gone c.kept piece.rest.now) in
     let place : Comes text r.old r.section (c.gone ++ (c.kept ++ piece.rest.now)) =
-    comes_blanks r.front piece.blanks.now (c.gone ++ (c.kept ++ piece.rest.now)) r.joined inner is.blank (passed_holds some r.passed) in
+    comes_blanks r.front piece.blanks.now (c.gone ++ (c.kept ++ piece.rest.now)) r.joined
+    (cut ∙ simp append_assoc) is.blank (passed_holds some r.passed) in
     let may : MayChange changes r.old r.section c.gone c.now (c.kept ++ piece.rest.now) =
     (change, parts.key.now, value_of parts.value, (r.done, more, split), due ∙ r.index_is, c.changes) in
     record {
@@ -443,13 +386,11 @@ changing_changes {changes = changes} {left = left} {more = more} {change = chang
       split = split ∙ sym (append_assoc r.done (change ∷ []) more);
       each = spec.changed change x y r.each (due ∙ r.index_is) (refl, name_is (option_copied change.name) parts.key.now, c.value_is);
       index_is = ap (λ i. i + 1) r.index_is ∙ sym (one_longer r.old x);
-      bytes = subst (λ b. Becomes (Comes text) (MayChange changes) (r.front ++ b) piece.rest.now (new ++ put)) (sym c.bytes_are)
-          (subst (λ p. Becomes (Comes text) (MayChange changes) (r.front ++ (piece.blanks.now ++ (c.gone ++ c.kept))) piece.rest.now (new ++ p))
-          (sym c.put_is)
-          (becomes_piece piece.blanks.now c.gone c.now c.kept piece.rest.now (becomes_before r.bytes cut) place may));
-      ordered = λ count order.
-          order_done change more index count due (subst (λ l. AreInOrder index l count) left_is (r.ordered count order));
-      writable = (subst AreWritable left_is r.writable).1;
+      bytes = rw (c.bytes_are, c.put_is)
+          (becomes_piece piece.blanks.now c.gone c.now c.kept piece.rest.now
+          (becomes_before r.bytes cut) place may);
+      ordered = λ count order. order_done change more index count due (rw left_is at (r.ordered count order));
+      writable = (rw left_is at r.writable).1;
       room = let room = r.room in omega arith;
     }
 
@@ -457,15 +398,14 @@ changing_changes {changes = changes} {left = left} {more = more} {change = chang
 pub each_changed : {changes left : List Change} {text rest new : List ℕ} {index : ℕ} {contents : List Content}
     → Changing changes text rest left new index → Ends None text contents
     → (rest ≡ []) ⊎ (¬ (IsRead rest)) → left ≡ [] → IsEachChanged changes text contents new
-each_changed {changes = changes} {text = text} {new = new} {contents = contents} r whole end none =
+each_changed r whole end none =
     let (rest_is, text_is, contents_are) = all_passed r.joined r.passed whole end in
-    let done_is : r.done ≡ changes = sym (r.split ∙ ap (λ l. r.done ++ l) none ∙ append-nil r.done) in
+    let done_is = sym (rw (none, append-nil) at r.split) in
     record {
       now = r.now;
       ends = passed_ends rest_is r.passed_now;
-      each = subst (λ c. ChangesEach changes c r.now) contents_are
-          (subst (λ d. ChangesEach d r.old r.now) done_is r.each);
-      bytes = subst (λ t. Becomes (Comes text) (MayChange changes) t [] new) (sym text_is) (becomes_before r.bytes rest_is);
+      each = rw (contents_are, done_is) at r.each;
+      bytes = rw (← text_is) at (becomes_before r.bytes rest_is);
     }
 
 pub not_in_order : {changes left : List Change} {text rest new : List ℕ} {index : ℕ} {contents : List Content}
@@ -474,4 +414,4 @@ pub not_in_order : {changes left : List Change} {text rest new : List ℕ} {inde
 not_in_order {left = left} {index = index} {contents = contents} r whole end some = λ order.
     let (rest_is, text_is, contents_are) = all_passed r.joined r.passed whole end in
     let count_is : length contents ≡ index = sym (r.index_is ∙ ap (λ c. length c) contents_are) in
-    none_left left index some (subst (λ n. AreInOrder index left n) count_is (r.ordered (length contents) order))
+    none_left left index some (rw count_is at (r.ordered (length contents) order))

@@ -1,21 +1,17 @@
 -- The reading of a text comes at most once to an entry behind as many others.
-use Rattle.std.proofs.Common.{◌≡◌, ℕ, ◌+◌, List, ◌∷◌, Option, Some, None, Result, Ok, length, refl, sym, ap, ◌∙◌, subst, arith, true}
-use Rattle.std.specs.Char.{is_ascii_alphabetic}
+use Rattle.std.proofs.Common.{◌≡◌, ℕ, List, [], ◌∷◌, Option, Result, Ok, length, refl, sym, ap, ◌∙◌, arith}
 use Rattle.std.proofs.lemmas.List.{length-map}
 use Rattle.config_file.specs.Bytes.{BeginsWithLetter}
 use Rattle.config_file.specs.Header.{Section, Header}
 use Rattle.config_file.specs.File.{Entry, TakesEntry}
 use Rattle.config_edit.specs.Reached as reached
 use Rattle.config_edit.specs.Reached.{Leads}
-use Rattle.config_edit.specs.Edit.{Content, content, Reaches}
+use Rattle.config_edit.specs.Edit.{Content, Reaches}
 use Rattle.config_file.proofs.OneRun.{run_only}
 use Rattle.config_file.proofs.OneHeader.{header_only}
 use Rattle.config_file.proofs.OneEntry.{entry_only}
 use Rattle.config_file.proofs.OneReading as one
 use Rattle.config_file.proofs.OneReading.{Kind, kind, kind_blank, kind_line_end, kind_comment, kind_header, kind_entry, begins_only}
-
-begins_kind : {b : ℕ} {text : List ℕ} → BeginsWithLetter (b ∷ text) → kind b ≡ one.entry
-begins_kind {b = b} (c, more, e, letter) = let same : b ≡ c = cc in kind_entry b (subst (λ x. is_ascii_alphabetic x ≡ true) (sym same) letter)
 
 ok_same : {A B : Type 0} {x y : A} → ◌≡◌ {A = Result A B} (Ok x) (Ok y) → x ≡ y
 ok_same e = cc
@@ -34,105 +30,72 @@ header_once {text = text} {rest = rest} {left = left} {new = new} {next = next} 
     let same = header_only text (Ok (new, rest)) (Ok (next, left)) first second in
     let all = ok_same same in (ap (λ p. p.0) all, ap (λ p. p.1) all)
 
-pub moved : {section n : Option Section} {line f : ℕ} {text also other : List ℕ} {ys : List Entry} → text ≡ also
-    → Leads section line text ys n f other → Leads section line also ys n f other
-moved {section = section} {n = n} {line = line} {f = f} {other = other} {ys = ys} e h =
-    subst (λ t. Leads section line t ys n f other) e h
+-- the kind of the first byte
+abbrev pub first_kind : List ℕ → Kind
+first_kind [] = one.nothing
+first_kind (b ∷ text) = kind b
 
-pub moved_in : {section next n : Option Section} {line f : ℕ} {text other : List ℕ} {ys : List Entry} → section ≡ next
-    → Leads section line text ys n f other → Leads next line text ys n f other
-moved_in {n = n} {line = line} {f = f} {text = text} {other = other} {ys = ys} e h =
-    subst (λ s. Leads s line text ys n f other) e h
+-- the kind of what a reading reads first, or of what it comes to if it reads nothing
+abbrev pub step : {section next : Option Section} {line end : ℕ} {text rest : List ℕ} {entries : List Entry}
+    → Leads section line text entries next end rest → Kind
+step {rest = rest} reached.here = first_kind rest
+step (reached.blank is h) = one.blank
+step (reached.line_end is h) = one.line_end
+step (reached.comment is ran h) = one.comment
+step (reached.header is takes h) = one.header
+step (reached.entry is takes h) = one.entry
 
-pub moved_to : {section n : Option Section} {line more f : ℕ} {text other : List ℕ} {ys : List Entry} → line ≡ more
-    → Leads section line text ys n f other → Leads section more text ys n f other
-moved_to {section = section} {n = n} {f = f} {text = text} {other = other} {ys = ys} e h =
-    subst (λ l. Leads section l text ys n f other) e h
+pub step_is : {section next : Option Section} {line end : ℕ} {text rest : List ℕ} {entries : List Entry}
+    (h : Leads section line text entries next end rest) → step h ≡ first_kind text
+step_is reached.here = refl
+step_is (reached.blank {b = b} is h) = sym (kind_blank b is)
+step_is (reached.line_end {b = b} is h) = sym (kind_line_end b is)
+step_is (reached.comment {b = b} is ran h) = sym (kind_comment b is)
+step_is (reached.header {b = b} is takes h) = sym (kind_header b is)
+step_is (reached.entry {b = b} is takes h) = sym (kind_entry b is)
 
-pub one_place : {section m n : Option Section} {line e f : ℕ} {text at other : List ℕ} {xs ys : List Entry}
-    → Leads section line text xs m e at → Leads section line text ys n f other
-    → BeginsWithLetter at → BeginsWithLetter other → length xs ≡ length ys → (at ≡ other) × (m ≡ n)
-one_place reached.here reached.here at_letter other_letter same = (refl, refl)
-one_place reached.here (reached.blank {b = c} so k) at_letter other_letter same =
-    let e : one.entry ≡ one.blank = sym (begins_kind at_letter) ∙ kind_blank c so in cc
-one_place (reached.blank {b = b} is h) reached.here at_letter other_letter same =
-    let e : one.entry ≡ one.blank = sym (begins_kind other_letter) ∙ kind_blank b is in cc
-one_place reached.here (reached.line_end {b = c} so k) at_letter other_letter same =
-    let e : one.entry ≡ one.line_end = sym (begins_kind at_letter) ∙ kind_line_end c so in cc
-one_place (reached.line_end {b = b} is h) reached.here at_letter other_letter same =
-    let e : one.entry ≡ one.line_end = sym (begins_kind other_letter) ∙ kind_line_end b is in cc
-one_place reached.here (reached.comment {b = c} so ran_two k) at_letter other_letter same =
-    let e : one.entry ≡ one.comment = sym (begins_kind at_letter) ∙ kind_comment c so in cc
-one_place (reached.comment {b = b} is ran_one h) reached.here at_letter other_letter same =
-    let e : one.entry ≡ one.comment = sym (begins_kind other_letter) ∙ kind_comment b is in cc
-one_place reached.here (reached.header {b = c} so takes_two k) at_letter other_letter same =
-    let e : one.entry ≡ one.header = sym (begins_kind at_letter) ∙ kind_header c so in cc
-one_place (reached.header {b = b} is takes_one h) reached.here at_letter other_letter same =
-    let e : one.entry ≡ one.header = sym (begins_kind other_letter) ∙ kind_header b is in cc
-one_place reached.here (reached.entry so takes_two k) at_letter other_letter same = absurd (omega arith)
-one_place (reached.entry is takes_one h) reached.here at_letter other_letter same = absurd (omega arith)
-one_place (reached.blank {b = b} is h) (reached.line_end {b = _} so k) at_letter other_letter same =
-    let e : one.blank ≡ one.line_end = sym (kind_blank b is) ∙ kind_line_end b so in cc
-one_place (reached.blank {b = b} is h) (reached.comment {b = _} so ran_two k) at_letter other_letter same =
-    let e : one.blank ≡ one.comment = sym (kind_blank b is) ∙ kind_comment b so in cc
-one_place (reached.blank {b = b} is h) (reached.header {b = _} so takes_two k) at_letter other_letter same =
-    let e : one.blank ≡ one.header = sym (kind_blank b is) ∙ kind_header b so in cc
-one_place (reached.blank {b = b} is h) (reached.entry {b = _} so takes_two k) at_letter other_letter same =
-    let e : one.blank ≡ one.entry = sym (kind_blank b is) ∙ kind_entry b so in cc
-one_place (reached.line_end {b = b} is h) (reached.blank {b = _} so k) at_letter other_letter same =
-    let e : one.line_end ≡ one.blank = sym (kind_line_end b is) ∙ kind_blank b so in cc
-one_place (reached.line_end {b = b} is h) (reached.comment {b = _} so ran_two k) at_letter other_letter same =
-    let e : one.line_end ≡ one.comment = sym (kind_line_end b is) ∙ kind_comment b so in cc
-one_place (reached.line_end {b = b} is h) (reached.header {b = _} so takes_two k) at_letter other_letter same =
-    let e : one.line_end ≡ one.header = sym (kind_line_end b is) ∙ kind_header b so in cc
-one_place (reached.line_end {b = b} is h) (reached.entry {b = _} so takes_two k) at_letter other_letter same =
-    let e : one.line_end ≡ one.entry = sym (kind_line_end b is) ∙ kind_entry b so in cc
-one_place (reached.comment {b = b} is ran_one h) (reached.blank {b = _} so k) at_letter other_letter same =
-    let e : one.comment ≡ one.blank = sym (kind_comment b is) ∙ kind_blank b so in cc
-one_place (reached.comment {b = b} is ran_one h) (reached.line_end {b = _} so k) at_letter other_letter same =
-    let e : one.comment ≡ one.line_end = sym (kind_comment b is) ∙ kind_line_end b so in cc
-one_place (reached.comment {b = b} is ran_one h) (reached.header {b = _} so takes_two k) at_letter other_letter same =
-    let e : one.comment ≡ one.header = sym (kind_comment b is) ∙ kind_header b so in cc
-one_place (reached.comment {b = b} is ran_one h) (reached.entry {b = _} so takes_two k) at_letter other_letter same =
-    let e : one.comment ≡ one.entry = sym (kind_comment b is) ∙ kind_entry b so in cc
-one_place (reached.header {b = b} is takes_one h) (reached.blank {b = _} so k) at_letter other_letter same =
-    let e : one.header ≡ one.blank = sym (kind_header b is) ∙ kind_blank b so in cc
-one_place (reached.header {b = b} is takes_one h) (reached.line_end {b = _} so k) at_letter other_letter same =
-    let e : one.header ≡ one.line_end = sym (kind_header b is) ∙ kind_line_end b so in cc
-one_place (reached.header {b = b} is takes_one h) (reached.comment {b = _} so ran_two k) at_letter other_letter same =
-    let e : one.header ≡ one.comment = sym (kind_header b is) ∙ kind_comment b so in cc
-one_place (reached.header {b = b} is takes_one h) (reached.entry {b = _} so takes_two k) at_letter other_letter same =
-    let e : one.header ≡ one.entry = sym (kind_header b is) ∙ kind_entry b so in cc
-one_place (reached.entry {b = b} is takes_one h) (reached.blank {b = _} so k) at_letter other_letter same =
-    let e : one.entry ≡ one.blank = sym (kind_entry b is) ∙ kind_blank b so in cc
-one_place (reached.entry {b = b} is takes_one h) (reached.line_end {b = _} so k) at_letter other_letter same =
-    let e : one.entry ≡ one.line_end = sym (kind_entry b is) ∙ kind_line_end b so in cc
-one_place (reached.entry {b = b} is takes_one h) (reached.comment {b = _} so ran_two k) at_letter other_letter same =
-    let e : one.entry ≡ one.comment = sym (kind_entry b is) ∙ kind_comment b so in cc
-one_place (reached.entry {b = b} is takes_one h) (reached.header {b = _} so takes_two k) at_letter other_letter same =
-    let e : one.entry ≡ one.header = sym (kind_entry b is) ∙ kind_header b so in cc
-one_place (reached.blank is h) (reached.blank so k) at_letter other_letter same = one_place h k at_letter other_letter same
-one_place (reached.line_end is h) (reached.line_end so k) at_letter other_letter same = one_place h k at_letter other_letter same
-one_place (reached.comment is ran_one h) (reached.comment so ran_two k) at_letter other_letter same =
-    one_place h (moved (run_only ran_two ran_one).1 k) at_letter other_letter same
-one_place (reached.header is takes_one h) (reached.header so takes_two k) at_letter other_letter same =
+pub same_step : {section m n : Option Section} {line e f : ℕ} {text at other : List ℕ} {xs ys : List Entry}
+    (h : Leads section line text xs m e at) (k : Leads section line text ys n f other) → step h ≡ step k
+same_step h k = step_is h ∙ sym (step_is k)
+
+one_place : {section m n : Option Section} {line e f : ℕ} {text at other : List ℕ} {xs ys : List Entry}
+    (h : Leads section line text xs m e at) (k : Leads section line text ys n f other) → step h ≡ step k
+    → first_kind at ≡ one.entry → first_kind other ≡ one.entry → length xs ≡ length ys
+    → (at ≡ other) × (m ≡ n)
+one_place reached.here reached.here e at_letter other_letter same = (refl, refl)
+one_place reached.here (reached.entry so takes_two k) e at_letter other_letter same = absurd (omega arith)
+one_place (reached.entry is takes_one h) reached.here e at_letter other_letter same = absurd (omega arith)
+one_place (reached.blank is h) (reached.blank so k) e at_letter other_letter same =
+    one_place h k (same_step h k) at_letter other_letter same
+one_place (reached.line_end is h) (reached.line_end so k) e at_letter other_letter same =
+    one_place h k (same_step h k) at_letter other_letter same
+one_place (reached.comment is ran_one h) (reached.comment so ran_two k) e at_letter other_letter same =
+    let there = rw (run_only ran_two ran_one).1 at k in
+    one_place h there (same_step h there) at_letter other_letter same
+one_place (reached.header is takes_one h) (reached.header so takes_two k) e at_letter other_letter same =
     let (news, rests) = header_once takes_two takes_one in
-    one_place h (moved rests (moved_in (ap (λ s. Some s) news) k)) at_letter other_letter same
-one_place (reached.entry {line = line} {entries = xs} is takes_one h) (reached.entry {entries = ys} so takes_two k) at_letter other_letter same =
+    let there = rw (news, rests) at k in
+    one_place h there (same_step h there) at_letter other_letter same
+one_place (reached.entry {entries = xs} is takes_one h)
+    (reached.entry {entries = ys} so takes_two k) e at_letter other_letter same =
     let (keys, values, lines, rests) = taken_once takes_two takes_one in
+    let there = rw (lines, rests) at k in
     let fewer : length xs ≡ length ys = omega arith in
-    one_place h (moved rests (moved_to (ap (λ l. line + l) lines) k)) at_letter other_letter fewer
+    one_place h there (same_step h there) at_letter other_letter fewer
+one_place h k e at_letter other_letter same = cc
+
+letter_kind : {text : List ℕ} → BeginsWithLetter text → first_kind text ≡ one.entry
+letter_kind (b, more, begins, letter) = rw begins (kind_entry b letter)
 
 -- the reading of a text comes to an entry behind as many others at one place
 pub reached_once : {text at other : List ℕ} {before also : List Content} {section next : Option Section}
     → Reaches text before section at → Reaches text also next other → BeginsWithLetter at → BeginsWithLetter other
     → length before ≡ length also → (at ≡ other) × (section ≡ next)
-reached_once {other = other} {next = next} first second at_letter other_letter same =
+reached_once first second at_letter other_letter same =
     let (lines, bodies) = begins_only second.begins first.begins in
-    let moved : Leads None first.line first.body second.entries next second.end other =
-    subst (λ b. Leads None first.line b second.entries next second.end other) bodies
-    (subst (λ l. Leads None l second.body second.entries next second.end other) lines second.leads) in
-    let count : length first.entries ≡ length second.entries =
-    sym (length-map first.entries content) ∙ ap (λ c. length c) first.contents_are ∙ same
-    ∙ ap (λ c. length c) (sym second.contents_are) ∙ length-map second.entries content in
-    one_place first.leads moved at_letter other_letter count
+    let there = rw (lines, bodies) at second.leads in
+    let count = simp length-map at (ap (λ c. length c) first.contents_are) in
+    let also = simp length-map at (ap (λ c. length c) second.contents_are) in
+    one_place first.leads there (same_step first.leads there) (letter_kind at_letter)
+    (letter_kind other_letter)
+    (count ∙ same ∙ sym also)

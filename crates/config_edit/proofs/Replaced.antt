@@ -1,5 +1,5 @@
 -- Texts in which an entry has another value.
-use Rattle.std.proofs.Common.{◌≡◌, ◌≢◌, ℕ, ◌+◌, ◌<◌, Bool, false, List, [], ◌∷◌, ◌++◌, Option, Some}
+use Rattle.std.proofs.Common.{◌≡◌, ℕ, ◌+◌, ◌<◌, Bool, false, List, [], ◌∷◌, ◌++◌, Option, Some}
 use Rattle.std.proofs.Common.{None, is_some, length, refl, sym, ap, ◌∙◌, subst, append_assoc, append-nil, inl}
 use Rattle.std.proofs.Common.{inr, ◌⊎◌, true≢false}
 use Rattle.config_file.specs.declared.entry.EntryParts.{EntryParts}
@@ -19,18 +19,17 @@ use Rattle.config_edit.specs.Edit.{Content, content, Becomes, LosesEntry, MayRep
 use Rattle.config_edit.specs.Edit.{HasNone, HasSeveral, Replaces, GivesValue}
 use Rattle.config_edit.specs.Edit.{HasValue}
 use Rattle.config_edit.specs.Reached as reached
-use Rattle.config_edit.specs.Reading.{Holds, Ends, Passed, anywhere, at_end, IsRead, IsMade, IsPiece}
+use Rattle.config_edit.specs.Reading.{Holds, Ends, Passed, anywhere, at_end, IsMade, IsPiece}
 use Rattle.config_edit.specs.Reading.{IsSet, contents_in, section_after, IsListable, IsPast, content_of}
 use Rattle.config_edit.specs.Reading.{IsEntryHeld, IsFound, Replacing, IsReplaced, IsLeft}
 use Rattle.config_edit.specs.Edit.{AreBlank, IsEntry, IsEnd}
-use Rattle.config_edit.specs.Reading.{IsGiven, ChangesIn, SetsIn, Comes, MayLose}
+use Rattle.config_edit.specs.Reading.{IsGiven, ChangesIn, Comes, MayLose}
 use Rattle.config_file.specs.Views.{value_of}
 use Rattle.std.proofs.lemmas.List.{append_cancel_right}
 use Rattle.config_file.proofs.EachReading.{not_empty}
-use Rattle.config_file.proofs.LineEnds.{rest_none}
 use Rattle.config_edit.proofs.Pieces.{entry_passed, made_passed}
 use Rattle.config_edit.proofs.Edits.{holds_nothing, holds_join, holds_end, passed_holds, passed_join}
-use Rattle.config_edit.proofs.Edits.{passed_ends, ends_once, not_read, some_left, joined_more}
+use Rattle.config_edit.proofs.Edits.{passed_ends, ends_once, some_left, joined_more}
 use Rattle.config_edit.proofs.Edits.{header_listed, holds_blanks, comes_blanks}
 use Rattle.config_edit.proofs.Becomes.{becomes_before, becomes_more, becomes_end, becomes_piece}
 
@@ -49,13 +48,8 @@ pub passed_then : {section middle next : Option Section} {rest : List ℕ} (a b 
     → Passed section a xs middle (b ++ rest) → Passed middle b ys next rest
     → Passed section (a ++ b) (xs ++ ys) next rest
 passed_then a b (anywhere first) second = holds_then a b first second
-passed_then {section = section} {next = next} {rest = rest} a [] {xs = xs} {ys = ys} (at_end none first) second =
-    let nothing : ys ≡ [] = nothing_more none second in
-    let contents_are : xs ++ ys ≡ xs = ap (λ y. xs ++ y) nothing ∙ append-nil xs in
-    let text_is : a ++ [] ≡ a = append-nil a in
-    let whole : Passed section a xs next rest = at_end none first in
-    subst (λ t. Passed section t (xs ++ ys) next rest) (sym text_is)
-    (subst (λ c. Passed section a c next rest) (sym contents_are) whole)
+passed_then a [] (at_end none first) second =
+    let nothing = nothing_more none second in simp (nothing, append-nil) (at_end none first)
 passed_then {rest = rest} a (b ∷ more) (at_end none first) second = absurd (not_empty b (more ++ rest) none)
 
 pub end_holds : (section : Option Section) (bytes : List ℕ) → IsEnd bytes → Holds section bytes [] section
@@ -87,23 +81,17 @@ has_key entry key (is_in, same) =
 -- contents without those of a key
 pub without_both : {key : Key} (a b : List Content) {c d : List Content} → Without key None a b → Without key None c d
     → Without key None (a ++ c) (b ++ d)
-without_both {key = key} a b first spec.none =
-    subst (λ x. Without key None x (b ++ [])) (sym (append-nil a))
-    (subst (λ y. Without key None a y) (sym (append-nil b)) first)
-without_both {key = key} a b first (spec.lost x {old = old} {new = new} second is at) =
-    subst (λ o. Without key None o (b ++ new)) (append_assoc a old (x ∷ []))
-    (spec.lost x (without_both a b first second) is at)
-without_both {key = key} a b first (spec.kept x {old = old} {new = new} second other) =
-    subst (λ o. Without key None o (b ++ (new ++ x ∷ []))) (append_assoc a old (x ∷ []))
-    (subst (λ n. Without key None ((a ++ old) ++ x ∷ []) n) (append_assoc b new (x ∷ []))
-    (spec.kept x (without_both a b first second) other))
+without_both a b first spec.none = simp append-nil first
+without_both a b first (spec.lost x {old = old} second is at) =
+    rw (← append_assoc a old (x ∷ [])) (spec.lost x (without_both a b first second) is at)
+without_both a b first (spec.kept x {old = old} {new = new} second other) =
+    rw (← append_assoc a old (x ∷ []), ← append_assoc b new (x ∷ []))
+    (spec.kept x (without_both a b first second) other)
 
 pub none_in : {key : Key} (h : Held) (section : Option Section) → ¬ (IsEntryHeld key section h)
     → HasNone key (contents_in h section)
 none_in (held.Entry parts) section other = spec.kept (content_of section parts) spec.none (λ is. other is.0)
-none_in (held.Header new) section other = spec.none
-none_in held.Nothing section other = spec.none
-none_in held.Comment section other = spec.none
+none_in h section other = spec.none
 
 -- one piece more
 pub listable_after : (h : Held) (blanks bytes rest : List ℕ) (is_line : Bool)
@@ -111,19 +99,20 @@ pub listable_after : (h : Held) (blanks bytes rest : List ℕ) (is_line : Bool)
     → IsListable (section_after h section)
 listable_after (held.Header new) blanks bytes rest is_line made section is =
     header_listed (held.Header new) blanks bytes rest is_line made new refl
-listable_after (held.Entry parts) blanks bytes rest is_line made section is = is
-listable_after held.Nothing blanks bytes rest is_line made section is = is
-listable_after held.Comment blanks bytes rest is_line made section is = is
+listable_after h blanks bytes rest is_line made section is = is
 
 pub other_after : (h : Held) (section : Option Section) → ((new : code.Section) → h ≡ held.Header new → ⊥)
     → section_after h section ≡ section
 other_after (held.Header new) section other = absurd (other new refl)
-other_after (held.Entry parts) section other = refl
-other_after held.Nothing section other = refl
-other_after held.Comment section other = refl
+other_after h section other = refl
 
 pub past_begins : (text : List ℕ) → IsPast text text [] [] None
 past_begins text = record { joined = refl; passed = anywhere (holds_nothing None); listable = tt }
+
+pub piece_passed : {text : List ℕ} (piece : Piece) → IsPiece text piece → (section : Option Section)
+    → Passed section piece.bytes.now (contents_in piece.held section)
+    (section_after piece.held section) piece.rest.now
+piece_passed piece is section = made_passed piece.held piece.blanks.now piece.is_line is.blank is.made section
 
 pub past_more : {text rest front : List ℕ} {contents : List Content} {section : Option Section}
     (piece : Piece)
@@ -134,7 +123,7 @@ past_more {text = text} {rest = rest} {front = front} {section = section} piece 
     record {
       joined = joined_more text front rest piece.bytes.now piece.rest.now past.joined is.joined;
       passed = passed_join (some_left rest piece.rest.now shorter) past.passed
-          (made_passed piece.held piece.blanks.now piece.is_line is.blank is.made section);
+          (piece_passed piece is section);
       listable = listable_after piece.held piece.blanks.now piece.bytes.now piece.rest.now piece.is_line is.made section past.listable;
     }
 
@@ -174,20 +163,43 @@ replacing_passes key text rest start new section several (Some f) piece r is sho
       others = r.others;
       changes = r.changes;
       between_is = passed_join (some_left rest piece.rest.now shorter) r.between_is
-          (made_passed piece.held piece.blanks.now piece.is_line is.blank is.made section);
+          (piece_passed piece is section);
       last = without_both r.after r.after r.last (none_in piece.held section other);
       listable = listable_after piece.held piece.blanks.now piece.bytes.now piece.rest.now piece.is_line is.made section r.listable;
       single = r.single;
       many = r.many;
     }
 
--- one entry of the key more
-is_entry_held : (h : Held) {blanks bytes rest : List ℕ} {is_line : Bool} (f : Found) → h ≡ held.Entry f.parts
-    → IsMade h blanks bytes rest is_line
-    → IsEntry f.parts.key.now (value_of f.parts.value) f.parts.lines f.parts.rest.now blanks bytes rest is_line
-is_entry_held h {blanks = blanks} {bytes = bytes} {rest = rest} {is_line = is_line} f e made =
-    subst (λ x. IsMade x blanks bytes rest is_line) e made
+found_past : {key : Key} {text rest start new : List ℕ} {section : Option Section} {f : Found}
+    {several : Bool}
+    (r : IsFound key text rest start new section f several)
+    → IsPast text rest (r.front ++ (f.piece.bytes.now ++ r.between))
+    (r.before ++ content_of r.at f.parts ∷ r.after) section
+found_past {rest = rest} {f = f} r =
+    let bytes = f.piece.bytes.now in
+    let follows : f.piece.rest.now ≡ r.between ++ rest = sym r.start_is ∙ r.cut in
+    let entry = rw follows at (entry_passed f.piece.blanks.now f.piece.is_line r.blank r.is_entry r.at) in
+    record {
+      joined = simp (r.joined, r.cut, append_assoc);
+      passed = holds_then r.front (bytes ++ r.between) r.before_is
+          (passed_then bytes r.between entry r.between_is);
+      listable = r.listable;
+    }
 
+pub looked_past : (key : Key) (text rest start new : List ℕ) (section : Option Section) (several : Bool)
+    (found : Option Found) → Replacing key text rest start new section found several
+    → (front : List ℕ) × (contents : List Content) × IsPast text rest front contents section
+looked_past key text rest start new section several None (front, contents, past, nothing, s, n, o) =
+    (front, contents, past)
+looked_past key text rest start new section several (Some f) r = (_, _, found_past r)
+
+-- an entry of the key goes
+loses_entry : {name at blanks gone rest : List ℕ} {value : Option (List ℕ)} {lines : ℕ} {is_line : Bool}
+    (key : Key) (section : Option Section) (put : List ℕ) → IsOf key (section, name, value) → AreBlank blanks
+    → IsEntry name value lines at blanks gone rest is_line → IsEnd put → LosesEntry key section gone put rest
+loses_entry key section put is_of all entry is_end = (_, _, _, _, _, _, is_of, all, entry, is_end)
+
+-- one entry of the key more
 pub replacing_finds : (key : Key) (text rest start new : List ℕ) (section : Option Section) (several : Bool)
     (found : Option Found) (f : Found) (left between : List ℕ)
     → Replacing key text rest start new section found several → IsPiece rest f.piece
@@ -195,12 +207,10 @@ pub replacing_finds : (key : Key) (text rest start new : List ℕ) (section : Op
     → IsOf key (content_of section f.parts) → IsLeft found left → start ≡ between ++ rest
     → Replacing key text f.piece.rest.now f.piece.rest.now (new ++ (left ++ between)) section (Some f) (is_some found)
 replacing_finds key text rest start new section several None f left between (front, contents, past, nothing, start_is, new_is, several_is) is shorter e is_of left_is cut =
-    let some = some_left rest f.piece.rest.now shorter in
     let between_is : between ≡ front =
     append_cancel_right between front rest (sym cut ∙ start_is ∙ past.joined) in
-    let new_now : new ++ (left ++ between) ≡ front = rw (new_is, left_is) between_is in
-    let holds = passed_holds some past.passed in
-    record {
+    let holds = passed_holds (some_left rest f.piece.rest.now shorter) past.passed in
+    rw (new_is, left_is, between_is) (record {
       front = front;
       between = [];
       before = contents;
@@ -211,92 +221,54 @@ replacing_finds key text rest start new section several None f left between (fro
       start_is = refl;
       cut = refl;
       before_is = holds;
-      now_is = subst (λ n. Holds None n contents section) (sym new_now) holds;
+      now_is = holds;
       blank = is.blank;
-      is_entry = is_entry_held f.piece.held f e is.made;
+      is_entry = rw e at is.made;
       is_of = is_of;
       others = nothing;
-      changes = subst (λ n. Becomes (Comes text) (MayLose key) front (f.piece.bytes.now ++ f.piece.rest.now) n)
-          (sym new_now) (spec.kept front spec.none);
+      changes = spec.kept front spec.none;
       between_is = anywhere (holds_nothing section);
       last = spec.none;
       listable = past.listable;
-      single = λ one. (new_now, refl);
+      single = λ one. (refl, refl);
       many = λ yes. absurd (true≢false (sym yes));
-    }
+    })
 replacing_finds key text rest start new section several (Some g) f left between r is shorter e is_of left_is cut =
     let some = some_left rest f.piece.rest.now shorter in
     let x = content_of r.at g.parts in
     let y = content_of section f.parts in
+    let bytes = g.piece.bytes.now in
     let between_is : between ≡ r.between = append_cancel_right between r.between rest (sym cut ∙ r.cut) in
-    let goes_on : g.piece.rest.now ≢ [] =
-    λ none. some (rest_none r.between rest (sym r.cut ∙ r.start_is ∙ none)) in
-    let entry : Holds r.at g.piece.bytes.now (x ∷ []) r.at =
-    passed_holds goes_on (entry_passed g.piece.blanks.now g.piece.is_line r.blank r.is_entry r.at) in
-    let gap : Holds r.at r.between r.after section = passed_holds some r.between_is in
-    let before_text = g.piece.bytes.now ++ r.between in
-    let put = left ++ between in
-    let put_is : Holds r.at put r.after section =
-    holds_join left between (end_holds r.at left left_is)
-    (subst (λ b. Holds r.at b r.after section) (sym between_is) gap) in
-    let left_over = f.piece.bytes.now ++ f.piece.rest.now in
-    let loses : LosesEntry key r.at g.piece.bytes.now left start = (
-      g.parts.key.now,
-      value_of g.parts.value,
-      g.parts.lines,
-      g.parts.rest.now,
-      g.piece.blanks.now,
-      g.piece.is_line,
-      r.is_of,
-      r.blank,
-      subst (λ s. IsEntry g.parts.key.now (value_of g.parts.value) g.parts.lines g.parts.rest.now g.piece.blanks.now g.piece.bytes.now s g.piece.is_line)
-          (sym r.start_is) r.is_entry,
-      left_is,
-    ) in
-    record {
-      front = r.front ++ before_text;
+    let gap = passed_holds some r.between_is in
+    let loses = loses_entry key r.at left r.is_of r.blank (rw (← r.start_is) at r.is_entry) left_is in
+    let goes : Becomes (Comes text) (MayLose key) (r.front ++ bytes) start (new ++ left) =
+    spec.changed r.changes (r.front, r.joined, r.before_is) loses in
+    rw between_is (record {
+      front = r.front ++ (bytes ++ r.between);
       between = [];
       before = r.before ++ x ∷ r.after;
       left = r.left ++ r.after;
       after = [];
       at = section;
-      joined = r.joined
-          ∙ ap (λ s. r.front ++ (g.piece.bytes.now ++ s)) (r.cut ∙ ap (λ s. r.between ++ s) is.joined)
-          ∙ ap (λ s. r.front ++ s) (sym
-          (append_assoc g.piece.bytes.now r.between (f.piece.bytes.now ++ f.piece.rest.now)))
-          ∙ sym (append_assoc r.front before_text (f.piece.bytes.now ++ f.piece.rest.now));
+      joined = simp (r.joined, r.cut, is.joined, append_assoc);
       start_is = refl;
       cut = refl;
-      before_is = holds_join r.front before_text r.before_is
-          (holds_join g.piece.bytes.now r.between entry gap);
-      now_is = holds_join new put r.now_is put_is;
+      before_is = passed_holds some (found_past r).passed;
+      now_is = holds_join new (left ++ r.between) r.now_is
+          (holds_join left r.between (end_holds r.at left left_is) gap);
       blank = is.blank;
-      is_entry = is_entry_held f.piece.held f e is.made;
+      is_entry = rw e at is.made;
       is_of = is_of;
       others = without_both r.before r.left r.others
           (without_both (x ∷ []) [] (spec.lost x spec.none r.is_of tt) r.last);
-      changes = subst (λ f. Becomes (Comes text) (MayLose key) f left_over (new ++ put))
-          (append_assoc r.front g.piece.bytes.now r.between)
-          (subst (λ n. Becomes (Comes text) (MayLose key) ((r.front ++ g.piece.bytes.now) ++ r.between) left_over n)
-          (ap (λ b. (new ++ left) ++ b) (sym between_is) ∙ append_assoc new left between)
-          (spec.kept r.between (becomes_before (spec.changed r.changes (r.front, r.joined, r.before_is) loses)
-          (r.cut ∙ ap (λ s. r.between ++ s) is.joined))));
+      changes = rw (← append_assoc r.front bytes r.between, ← append_assoc new left r.between)
+          (spec.kept r.between (becomes_before goes (r.cut ∙ ap (λ s. r.between ++ s) is.joined)));
       between_is = anywhere (holds_nothing section);
       last = spec.none;
       listable = r.listable;
       single = λ one. absurd (true≢false one);
-      many = λ yes. (
-        r.before,
-        r.after,
-        [],
-        x,
-        y,
-        append_assoc r.before (x ∷ r.after)
-            (y ∷ []),
-        r.is_of,
-        is_of,
-      );
-    }
+      many = λ m. (r.before, r.after, [], x, y, append_assoc r.before (x ∷ r.after) (y ∷ []), r.is_of, is_of);
+    })
 
 -- only the bytes of a value change
 pub given_in : {value put start : List ℕ} {before : List Content} {section : Option Section} {parts : EntryParts}
@@ -305,21 +277,16 @@ pub given_in : {value put start : List ℕ} {before : List Content} {section : O
     → start ≡ piece.rest.now
     → ChangesIn (GivesValue value parts.key.now (value_of parts.value)) before section
     (front ++ (piece.bytes.now ++ start)) (front ++ (put ++ start))
-given_in {value = value} {put = put} {start = start} {parts = parts} {piece = piece} front holds g start_is =
-    let blanks = piece.blanks.now in
-    let moved : (bytes : List ℕ) → front ++ ((blanks ++ (bytes ++ g.tail)) ++ start) ≡ (front ++ blanks) ++ (bytes ++ (g.tail ++ start)) =
-    λ bytes. ap (λ x. front ++ x) (append_assoc blanks (bytes ++ g.tail) start ∙ ap (λ x. blanks ++ x)
-    (append_assoc bytes g.tail start))
-    ∙ sym (append_assoc front blanks (bytes ++ (g.tail ++ start))) in
+given_in {start = start} {piece = piece} front holds g start_is =
     record {
-      front = front ++ blanks;
+      front = front ++ piece.blanks.now;
       gone = g.gone;
       put = g.now;
       rest = g.tail ++ start;
-      old_is = ap (λ b. front ++ (b ++ start)) g.bytes_are ∙ moved g.gone;
-      new_is = ap (λ p. front ++ (p ++ start)) g.put_is ∙ moved g.now;
+      old_is = rw g.bytes_are (simp append_assoc);
+      new_is = rw g.put_is (simp append_assoc);
       holds = holds;
-      may = subst (λ r. GivesValue value parts.key.now (value_of parts.value) g.gone g.now (g.tail ++ r)) (sym start_is) g.gives;
+      may = rw start_is g.gives;
     }
 
 -- at the end of the text
@@ -327,79 +294,54 @@ pub none_replaced : (key : Key) (text rest start new : List ℕ) (section : Opti
     → Replacing key text rest start new section None several → rest ≡ []
     → (contents : List Content) × Ends None text contents × HasNone key contents
 none_replaced key text rest start new section several (front, contents, past, nothing, start_is, new_is, several_is) none =
-    let text_is : text ≡ front = past.joined ∙ ap (λ r. front ++ r) none ∙ append-nil front in
-    (contents, subst (λ t. Ends None t contents) (sym text_is) (passed_ends none past.passed), nothing)
+    let text_is = rw (none, append-nil) at past.joined in
+    (contents, rw text_is (passed_ends none past.passed), nothing)
 
 -- the piece of the last entry of the key stays, or only the bytes of its value change
 replaced_here : {key : Key} {text rest start new value put : List ℕ} {section : Option Section} {several : Bool} {f : Found}
     (r : IsFound key text rest start new section f several)
     → (put ≡ f.piece.bytes.now) ⊎ (IsGiven f.parts f.piece value put)
     → Becomes (Comes text) (MayReplace key value) (r.front ++ (f.piece.bytes.now ++ start)) [] (new ++ (put ++ start))
-replaced_here {key = key} {text = text} {start = start} {new = new} {value = value} {put = put} {f = f} r (inl same) =
-    subst (λ p. Becomes (Comes text) (MayReplace key value) (r.front ++ (f.piece.bytes.now ++ start)) [] (new ++ (p ++ start)))
-    (sym same)
-    (becomes_end (f.piece.bytes.now ++ start)
-    (becomes_more (λ before at left place. place) (λ before at gone now left loses. inl loses) r.changes))
-replaced_here {key = key} {text = text} {start = start} {new = new} {value = value} {put = put} {f = f} r (inr g) =
-    let blanks = f.piece.blanks.now in
-    let before : Becomes (Comes text) (MayReplace key value) r.front ((blanks ++ (g.gone ++ g.tail)) ++ start) new =
-    becomes_before (becomes_more (λ before at left place. place) (λ before at gone now left loses. inl loses) r.changes)
-    (ap (λ b. b ++ start) g.bytes_are) in
-    let inner : (blanks ++ (g.gone ++ g.tail)) ++ start ≡ blanks ++ (g.gone ++ (g.tail ++ start)) =
-    append_assoc blanks (g.gone ++ g.tail) start ∙ ap (λ x. blanks ++ x) (append_assoc g.gone g.tail start) in
-    let place : Comes text r.before r.at (g.gone ++ (g.tail ++ start)) =
-    comes_blanks r.front blanks (g.gone ++ (g.tail ++ start)) r.joined (ap (λ b. b ++ start) g.bytes_are ∙ inner) r.blank r.before_is in
-    let gives : MayReplace key value r.before r.at g.gone g.now (g.tail ++ start) = inr (
-      f.parts.key.now,
-      value_of f.parts.value,
-      r.is_of,
-      subst (λ s. GivesValue value f.parts.key.now (value_of f.parts.value) g.gone g.now (g.tail ++ s)) (sym r.start_is) g.gives,
-    ) in
-    let step = becomes_piece blanks g.gone g.now g.tail start before place gives in
-    let whole = becomes_end start step in
-    let old_is : (r.front ++ (blanks ++ (g.gone ++ g.tail))) ++ start ≡ r.front ++ (f.piece.bytes.now ++ start) =
-    append_assoc r.front (blanks ++ (g.gone ++ g.tail)) start ∙ ap (λ b. r.front ++ (b ++ start)) (sym g.bytes_are) in
-    let new_is : (new ++ (blanks ++ (g.now ++ g.tail))) ++ start ≡ new ++ (put ++ start) =
-    append_assoc new (blanks ++ (g.now ++ g.tail)) start ∙ ap (λ p. new ++ (p ++ start)) (sym g.put_is) in
-    subst (λ o. Becomes (Comes text) (MayReplace key value) o [] (new ++ (put ++ start))) old_is
-    (subst (λ n. Becomes (Comes text) (MayReplace key value) ((r.front ++ (blanks ++ (g.gone ++ g.tail))) ++ start) [] n) new_is whole)
+replaced_here {key = key} {text = text} {start = start} {new = new} {value = value} {f = f} r either =
+    let bytes = f.piece.bytes.now in
+    let loses : Becomes (Comes text) (MayReplace key value) r.front (bytes ++ start) new =
+    becomes_more (λ before at left place. place) (λ before at gone now left loses. inl loses) r.changes in
+    elim either [
+      | inl same ↦ rw same (becomes_end (bytes ++ start) loses)
+      | inr g ↦
+          let blanks = f.piece.blanks.now in
+          let was = blanks ++ (g.gone ++ g.tail) in
+          let is = blanks ++ (g.now ++ g.tail) in
+          let place = comes_blanks r.front blanks (g.gone ++ (g.tail ++ start)) r.joined
+          (rw g.bytes_are (simp append_assoc)) r.blank r.before_is in
+          let gives : MayReplace key value r.before r.at g.gone g.now (g.tail ++ start) =
+          inr (f.parts.key.now, value_of f.parts.value, r.is_of, rw r.start_is g.gives) in
+          let step = becomes_piece blanks g.gone g.now g.tail start (rw g.bytes_are at loses) place gives in
+          rw (g.bytes_are, g.put_is, ← append_assoc r.front was start, ← append_assoc new is start)
+          (becomes_end start step)
+    ]
 
 pub one_replaced : {key : Key} {text rest start new value put : List ℕ}
     {section : Option Section} {several : Bool} {f : Found}
     → IsFound key text rest start new section f several
     → rest ≡ [] → IsSet f.parts f.piece value put
     → (contents : List Content) × Ends None text contents × IsReplaced key value text contents (new ++ (put ++ start)) several
-one_replaced {key = key} {text = text} {rest = rest} {start = start} {new = new} {value = value} {put = put} {section = section} {f = f} r rest_is set =
+one_replaced {key = key} {text = text} {start = start} {new = new} {value = value} {put = put}
+    {section = section} {f = f} found rest_is set =
+    let r = rw rest_is at found in
     let x : Content = content_of r.at f.parts in
     let now_x : Content = (r.at, f.parts.key.now, Some set.raw) in
-    let rest_now : f.piece.rest.now ≡ r.between ++ rest = sym r.start_is ∙ r.cut in
-    let entry : Passed r.at f.piece.bytes.now (x ∷ []) r.at (r.between ++ rest) =
-    subst (λ t. Passed r.at f.piece.bytes.now (x ∷ []) r.at t) rest_now
-    (entry_passed f.piece.blanks.now f.piece.is_line r.blank r.is_entry r.at) in
-    let entry_now : Passed r.at put (now_x ∷ []) r.at (r.between ++ rest) =
-    subst (λ t. Passed r.at put (now_x ∷ []) r.at t) rest_now
-    (entry_passed f.piece.blanks.now f.piece.is_line r.blank set.entry r.at) in
-    let front = r.front ++ (f.piece.bytes.now ++ r.between) in
-    let passed : Passed None front (r.before ++ x ∷ r.after) section rest =
-    holds_then r.front (f.piece.bytes.now ++ r.between) r.before_is
-    (passed_then f.piece.bytes.now r.between entry r.between_is) in
-    let passed_now : Passed None (new ++ (put ++ r.between)) (r.left ++ now_x ∷ r.after) section rest =
-    holds_then new (put ++ r.between) r.now_is (passed_then put r.between entry_now r.between_is) in
-    let joined : text ≡ front ++ rest =
-    r.joined ∙ ap (λ s. r.front ++ (f.piece.bytes.now ++ s)) r.cut
-    ∙ ap (λ s. r.front ++ s) (sym (append_assoc f.piece.bytes.now r.between rest))
-    ∙ sym (append_assoc r.front (f.piece.bytes.now ++ r.between) rest) in
-    let text_is : text ≡ front = joined ∙ ap (λ t. front ++ t) rest_is ∙ append-nil front in
-    let contents : List Content = r.before ++ x ∷ r.after in
-    let start_is : r.between ≡ start =
-    sym (r.cut ∙ ap (λ s. r.between ++ s) rest_is ∙ append-nil r.between) in (
-      contents,
-      subst (λ t. Ends None t contents) (sym text_is) (passed_ends rest_is passed),
+    let start_is : start ≡ r.between = r.cut ∙ append-nil r.between in
+    let past = found_past r in
+    let follows : f.piece.rest.now ≡ r.between ++ [] = sym r.start_is ∙ r.cut in
+    let entry_now = rw follows at (entry_passed f.piece.blanks.now f.piece.is_line r.blank set.entry r.at) in
+    let passed_now = holds_then new (put ++ r.between) r.now_is
+    (passed_then put r.between entry_now r.between_is) in (
+      r.before ++ x ∷ r.after,
+      rw (past.joined, append-nil) (passed_ends refl past.passed),
       record {
         now = r.left ++ now_x ∷ r.after;
-        ends = passed_ends rest_is
-            (subst (λ s. Passed None (new ++ (put ++ s))
-            (r.left ++ now_x ∷ r.after) section rest) start_is passed_now);
+        ends = rw start_is (passed_ends refl passed_now);
         replaces = record {
           before = r.before;
           left = r.left;
@@ -413,58 +355,28 @@ one_replaced {key = key} {text = text} {rest = rest} {start = start} {new = new}
           has_value = set.has_value;
           new_is = refl;
         };
-        changes = subst (λ t. Becomes (Comes text) (MayReplace key value) t [] (new ++ (put ++ start))) (sym r.joined)
-            (replaced_here r (elim set.given [
-              | inl same ↦ inl same.1
-              | inr other ↦ inr other.1
-            ]));
+        changes = rw (← r.joined) at (replaced_here r (elim set.given [
+          | inl same ↦ inl same.1
+          | inr other ↦ inr other.1
+        ]));
         single = λ one.
             let (new_is, left_is) = r.single one in (
-              subst (λ l. Without key None r.before l) left_is r.others,
-              subst (λ n. SetsIn value r.before x text (n ++ (put ++ start))) (sym new_is)
-                  (subst (λ t. SetsIn value r.before x t (r.front ++ (put ++ start))) (sym r.joined)
-                  (elim set.given [
-                    | inl same ↦ inl (same.0, ap (λ p. r.front ++ (p ++ start)) same.1)
-                    | inr other ↦ inr (
-                      other.0,
-                      given_in r.front (holds_blanks r.front f.piece.blanks.now r.blank r.before_is) other.1
-                          r.start_is,
-                    )
-                  ])),
+              rw left_is at r.others,
+              rw (new_is, r.joined) (elim set.given [
+                | inl same ↦ inl (same.0, ap (λ p. r.front ++ (p ++ start)) same.1)
+                | inr other ↦ inr (
+                  other.0,
+                  given_in r.front (holds_blanks r.front f.piece.blanks.now r.blank r.before_is) other.1
+                      r.start_is,
+                )
+              ]),
             );
         many = λ yes.
             let (before, between, after, a, b, e, is_a, is_b) = r.many yes in
-            let all_is : r.before ++ x ∷ r.after ≡ before ++ a ∷ (between ++ b ∷ (after ++ r.after)) =
-            sym (append_assoc r.before (x ∷ []) r.after) ∙ ap (λ c. c ++ r.after) e
-            ∙ append_assoc before (a ∷ (between ++ b ∷ after)) r.after
-            ∙ ap (λ c. before ++ a ∷ c) (append_assoc between (b ∷ after) r.after) in
+            let all_is = simp append_assoc at (ap (λ c. c ++ r.after) e) in
             (before, between, after ++ r.after, a, b, all_is, is_a, is_b);
       },
     )
-
-pub not_replaced : (key : Key) (text rest start new : List ℕ) (section : Option Section) (several : Bool)
-    (found : Option Found) → Replacing key text rest start new section found several
-    → rest ≢ [] → (rest ≡ []) ⊎ (¬ (IsRead rest)) → (contents : List Content) → ¬ (Ends None text contents)
-not_replaced key text rest start new section several None (front, xs, past, nothing, start_is, new_is, several_is) some end contents =
-    not_read past.joined past.passed some end
-not_replaced key text rest start new section several (Some f) r some end contents =
-    let piece = f.piece in
-    let goes_on : piece.rest.now ≢ [] = λ none. some (rest_none r.between rest (sym r.cut ∙ r.start_is ∙ none)) in
-    let entry = passed_holds goes_on (entry_passed piece.blanks.now piece.is_line r.blank r.is_entry r.at) in
-    let passed = holds_then r.front (piece.bytes.now ++ r.between) r.before_is
-    (holds_then piece.bytes.now r.between entry r.between_is) in
-    let joined : text ≡ (r.front ++ (piece.bytes.now ++ r.between)) ++ rest =
-    r.joined ∙ ap (λ s. r.front ++ (piece.bytes.now ++ s)) r.cut
-    ∙ ap (λ s. r.front ++ s) (sym (append_assoc piece.bytes.now r.between rest))
-    ∙ sym (append_assoc r.front (piece.bytes.now ++ r.between) rest) in
-    not_read joined passed some end
-
--- what the code needs to know on its way
-pub replacing_listable : (key : Key) (text rest start new : List ℕ) (section : Option Section)
-    (several : Bool) (found : Option Found)
-    → Replacing key text rest start new section found several → IsListable section
-replacing_listable key text rest start new section several None (front, contents, past, nothing, start_is, new_is, several_is) = past.listable
-replacing_listable key text rest start new section several (Some f) r = r.listable
 
 pub no_entry_held : (key : Key) (section : Option Section) (h : Held)
     → (h ≡ held.Nothing) ⊎ (h ≡ held.Comment) → ¬ (IsEntryHeld key section h)

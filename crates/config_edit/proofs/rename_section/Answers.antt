@@ -1,7 +1,6 @@
-use Rattle.std.proofs.Common.{rules, ◌∙◌, subst, map}
-use Rattle.config_file.specs.Key.{IsKey}
+use Rattle.std.proofs.Common.{rules, ◌∙◌, map}
 use Rattle.config_file.specs.KeyView.{key_of}
-use Rattle.config_edit.specs.Edit.{content, NamesSection, NoneIn}
+use Rattle.config_edit.specs.Edit.{content}
 use Rattle.config_edit.proofs.Edits.{body_ends, section_renamed}
 use Rattle.config_edit.proofs.EditedKeys.{same_name, lacks, lacks_any, lacks_header}
 use Rattle.config_edit.proofs.rename_section.Goals as goal
@@ -24,24 +23,18 @@ returns-in-Some c =
 
 pub returns-in-Some-2 : goal.returns-in-Some-2
 returns-in-Some-2 c =
-    let from = key_of c.in-Ok-parse.from in
-    let to = key_of c.in-Ok.to in
     let (entries, is_file) = c.in_ok-check_file.ensures in
     let split = c.split_mark.ensures in
-    let names : NamesSection c.args.old.now from =
-    subst (λ t. IsKey t from) (c.as_slice-2.ensures.value ∙ c.in_ok-old_key.ensures) c.in-Ok-parse.ensures in
-    let names_now : NamesSection c.args.new.now to =
-    subst (λ t. IsKey t to) (c.as_slice.ensures.value ∙ c.in_ok-new_key.ensures) c.in-Ok.ensures.0 in
-    let found = c.in_ok-renamed.ensures (map content entries) (body_ends is_file split) in
-    let here = rw c.in-Some.is at found in
-    section_renamed entries from to is_file split names names_now here c.in_ok-marked-in-Some-2.ensures
+    let names = rw (c.as_slice-2.ensures.value ∙ c.in_ok-old_key.ensures) at c.in-Ok-parse.ensures in
+    let names_now = rw (c.as_slice.ensures.value ∙ c.in_ok-new_key.ensures) at c.in-Ok.ensures.0 in
+    let here = rw c.in-Some.is at (c.in_ok-renamed.ensures (map content entries) (body_ends is_file split)) in
+    section_renamed entries (key_of c.in-Ok-parse.from)
+    (key_of c.in-Ok.to) is_file split names names_now here c.in_ok-marked-in-Some-2.ensures
 
 pub returns : goal.returns
 returns c =
-    let from = key_of c.in-Ok-parse.from in
     let (entries, is_file) = c.in_ok-check_file.ensures in
-    let names : NamesSection c.args.old.now from =
-    subst (λ t. IsKey t from) (c.as_slice-2.ensures.value ∙ c.in_ok-old_key.ensures) c.in-Ok-parse.ensures in
-    let found = c.in_ok-renamed.ensures (map content entries) (body_ends is_file c.split_mark.ensures) in
-    let nothing : NoneIn from (map content entries) = rw c.in-None.is at found in
-    lacks c.args.old.now entries from is_file names nothing
+    let names = rw (c.as_slice-2.ensures.value ∙ c.in_ok-old_key.ensures) at c.in-Ok-parse.ensures in
+    let ends = body_ends is_file c.split_mark.ensures in
+    lacks c.args.old.now entries (key_of c.in-Ok-parse.from) is_file names
+    (rw c.in-None.is at (c.in_ok-renamed.ensures (map content entries) ends))

@@ -1,8 +1,5 @@
-use Rattle.std.proofs.Common.{◌≡◌, ◌++◌, ◌∙◌, ◌+◌, ◌<◌, ap, sym, subst, [], ◌∷◌, drop, length}
-use Rattle.std.proofs.Common.{MatchOption}
+use Rattle.std.proofs.Common.{◌≡◌, ◌++◌, ◌∙◌, ap}
 use Rattle.std.proofs.Math.ListN.{drop_of_length-le}
-use Rattle.config_edit.specs.declared.Change.{Change}
-use Rattle.config_edit.specs.Reading.{AreLater, Changing}
 use Rattle.config_edit.proofs.EachEntry.{changing_begins, changing_passes, changing_keeps, changing_changes}
 use Rattle.config_edit.proofs.EachEntry.{each_changed, not_in_order, some_after}
 use Rattle.config_edit.proofs.each.change_each.Goals as goal
@@ -11,10 +8,7 @@ use Rattle.config_edit.proofs.each.change_each.Goals.{in-None+in_ok-extend_from_
 
 pub pieces-init : goal.pieces-init
 pieces-init c =
-    let empty : c.in_ok-new.new.items ≡ [] = c.in_ok-new.ensures.items in
-    let changes = c.args.changes.now in
-    let text = c.args.text.now in
-    subst (λ n. Changing changes text text changes n 0) (sym empty) (changing_begins changes text c.requires)
+    rw c.in_ok-new.ensures.items (changing_begins c.args.changes.now c.args.text.now c.requires)
 
 pub pieces-preserved-in_default-held : goal.pieces-preserved-in_default-held
 pieces-preserved-in_default-held c =
@@ -27,32 +21,22 @@ pieces-preserved c =
     let is = c.in-Some.ensures.piece in
     let shorter = c.in-Some.ensures.shorter in
     let parts = c.in-Entry.parts in
-    let changes = c.args.changes.now in
-    let left = drop c.pieces.made changes in
-    let later = drop (c.pieces.made + 1) changes in
     let m = c.match-due in
-    let whole : Changing changes c.args.text.now piece.rest.now (drop m.made changes) m.new.items (c.pieces.index + 1) =
     elim c.match-due.branch [
       | in-Some-due+in_ok-push_change-in-Some-due w ↦
-          let change : Change = w.in-Some-due.change.now in
           let (put, pushed, changed) = w.in_ok-push_change-in-Some-due.ensures in
-          let (left_is, is_due, below) =
-          subst (λ d. MatchOption d (AreLater left c.pieces.index)
-          (λ change. (left ≡ change.now ∷ later) × (change.now.entry ≡ c.pieces.index) × (c.pieces.made < length changes)))
-          w.in-Some-due.is c.due.ensures in
+          let (left_is, is_due, below) = rw w.in-Some-due.is at c.due.ensures in
           let new_is : m.new.items ≡ c.pieces.new.items ++ put = ap (λ n. n.items) w.new-is ∙ pushed in
           rw (new_is, w.made-is)
-          (changing_changes {change = change} piece parts c.pieces.invariant is shorter c.in-Entry.is left_is is_due changed)
+          (changing_changes {change = w.in-Some-due.change.now} piece parts c.pieces.invariant is shorter
+          c.in-Entry.is left_is is_due changed)
       | in-None+in_ok-extend_from_slice-in-None w ↦
-          let is_later : AreLater left c.pieces.index =
-          subst (λ d. MatchOption d (AreLater left c.pieces.index)
-          (λ change. (left ≡ change.now ∷ later) × (change.now.entry ≡ c.pieces.index) × (c.pieces.made < length changes)))
-          w.in-None.is c.due.ensures in
           let new_is : m.new.items ≡ c.pieces.new.items ++ piece.bytes.now =
           ap (λ n. n.items) w.new-is ∙ w.in_ok-extend_from_slice-in-None.ensures.items in
           rw (new_is, w.made-is)
-          (changing_keeps piece parts c.pieces.invariant is shorter c.in-Entry.is is_later)
-    ] in whole
+          (changing_keeps piece parts c.pieces.invariant is shorter c.in-Entry.is
+          (rw w.in-None.is at c.due.ensures))
+    ]
 
 pub returns-then-made-changes : goal.returns-then-made-changes
 returns-then-made-changes c = λ contents ends.

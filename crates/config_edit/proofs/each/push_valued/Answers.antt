@@ -1,22 +1,12 @@
-use Rattle.std.proofs.Common.{ap, sym, subst, option_copied}
-use Rattle.config_edit.specs.Reading.{IsValued}
 use Rattle.config_edit.proofs.EachEntry.{valued_new, valued_old}
 use Rattle.config_edit.proofs.each.push_valued.Goals as goal
 
 pub returns-in_ok-push_changed-in-Some : goal.returns-in_ok-push_changed-in-Some
 returns-in_ok-push_changed-in-Some c =
     let (put, pushed, set) = c.in_ok-push_changed-in-Some.ensures in
-    let value_is = ap (λ v. option_copied v) c.in-Some.is in (
-      put,
-      pushed,
-      subst (λ v. IsValued v c.args.parts.now c.args.piece.now put) (sym value_is) (valued_new c.requires.entry set),
-    )
+    (put, pushed, rw c.in-Some.is (valued_new c.requires.entry set))
 
 pub returns-in_ok-extend_from_slice-in-None : goal.returns-in_ok-extend_from_slice-in-None
 returns-in_ok-extend_from_slice-in-None c =
-    let value_is = ap (λ v. option_copied v) c.in-None.is in (
-      c.args.piece.now.bytes.now,
-      c.in_ok-extend_from_slice-in-None.ensures.items,
-      subst (λ v. IsValued v c.args.parts.now c.args.piece.now c.args.piece.now.bytes.now) (sym value_is)
-          (valued_old c.requires.entry),
-    )
+    let kept = valued_old c.requires.entry in
+    (c.args.piece.now.bytes.now, c.in_ok-extend_from_slice-in-None.ensures.items, rw c.in-None.is kept)

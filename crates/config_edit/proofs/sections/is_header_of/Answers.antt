@@ -1,6 +1,4 @@
-use Rattle.std.proofs.Common.{subst, sym}
 use Rattle.config_file.specs.KeyView.{key_of}
-use Rattle.config_edit.specs.Reading.{IsHeaderHeld}
 use Rattle.config_edit.proofs.Edits.{header_listed}
 use Rattle.config_edit.proofs.sections.is_header_of.Goals as goal
 
@@ -10,7 +8,4 @@ returns-in-Header c = λ text is.
     let from = key_of c.args.key.now in
     let (listed, spelled) =
     header_listed piece.held piece.blanks.now piece.bytes.now piece.rest.now piece.is_line is.made c.in-Header.section c.in-Header.is in
-    let (there, back) = c.is_in.ensures listed spelled in (
-      λ yes. subst (λ h. IsHeaderHeld from h) (sym c.in-Header.is) (there yes),
-      λ held. back (subst (λ h. IsHeaderHeld from h) c.in-Header.is held),
-    )
+    rw c.in-Header.is (c.is_in.ensures listed spelled)

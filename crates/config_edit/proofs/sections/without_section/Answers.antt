@@ -1,9 +1,10 @@
-use Rattle.std.proofs.Common.{rules, ◌≡◌, ◌++◌, ◌∙◌, sym, ap, subst, [], None}
-use Rattle.std.proofs.Common.{false, true, true≢false, append-nil}
+use Rattle.std.proofs.Common.{◌≡◌, ◌++◌, ◌∙◌, sym, ap}
+use Rattle.std.proofs.Common.{true≢false, append-nil}
 use Rattle.config_file.specs.KeyView.{key_of}
-use Rattle.config_edit.specs.Reading.{Clearing, ClearsPiece, IsKept, IsLost}
-use Rattle.config_edit.proofs.Edits.{header_listed}
-use Rattle.config_edit.proofs.Cleared.{clearing_begins, header_clears, piece_clears, left_is_cut, still_lost}
+use Rattle.config_edit.specs.Reading.{Clearing, ClearsPiece}
+use Rattle.config_edit.proofs.Edits.{header_listed, some_left}
+use Rattle.config_edit.proofs.Cleared.{clearing_begins, at_header, then_header, piece_clears, left_is_cut}
+use Rattle.config_edit.proofs.Cleared.{still_lost}
 use Rattle.config_edit.proofs.Cleared.{nothing_lost, kept_ends, lost_ends, none_cleared}
 use Rattle.config_edit.proofs.sections.without_section.Goals as goal
 use Rattle.config_edit.proofs.sections.without_section.Goals.{in-Header+in_ok-in_line, in_default-held}
@@ -15,10 +16,7 @@ use Rattle.config_edit.proofs.sections.without_section.Goals.{else-is_found}
 
 pub pieces-init : goal.pieces-init
 pieces-init c =
-    let empty : c.in_ok-new.new.items ≡ [] = search rules in
-    let key = key_of c.args.key.now in
-    subst (λ n. Clearing key c.args.text.now c.args.text.now n false None) (sym empty)
-    (clearing_begins key c.args.text.now)
+    rw c.in_ok-new.ensures.items (clearing_begins (key_of c.args.key.now) c.args.text.now)
 
 pub push_left-requires : goal.push_left-requires
 push_left-requires c =
@@ -40,8 +38,10 @@ pieces-preserved c =
           let (listed, spelled) =
           header_listed piece.held piece.blanks.now piece.bytes.now piece.rest.now piece.is_line is.made header w.in-Header.is in
           rw (w.new-is, w.lost-is)
-          (header_clears key text p.rest.now p.new.items w.push_left.new.new.items p.is_found p.lost w.lost_from-lost.result piece p.invariant is shorter header w.in-Header.is
-          w.in_ok-in_line.ensures (w.lost_from-lost.ensures listed spelled))
+          (then_header key text p.rest.now w.push_left.new.new.items p.is_found w.lost_from-lost.result piece
+          (at_header key text p.rest.now p.new.items w.push_left.new.new.items p.is_found p.lost
+          (some_left p.rest.now piece.rest.now shorter) p.invariant w.in_ok-in_line.ensures)
+          is shorter header w.in-Header.is (w.lost_from-lost.ensures listed spelled))
       | in_default-held w ↦ rw (w.new-is, w.lost-is)
           (piece_clears key text p.rest.now p.new.items p.is_found p.lost w.lost_with-lost.result piece p.invariant is shorter w.in_default-held.not-Header w.lost_with-lost.ensures)
     ] in
@@ -60,41 +60,26 @@ pieces-preserved c =
     ] in whole
 
 pub push_between-requires : goal.push_between-requires
-push_between-requires c =
-    let key = key_of c.args.key.now in
-    let p = c.pieces in
-    let r : IsLost key c.args.text.now p.rest.now p.new.items c.in-Some-lost.last =
-    (subst (λ l. Clearing key c.args.text.now p.rest.now p.new.items p.is_found l) c.in-Some-lost.is p.invariant).0 in
-    r.is_end
+push_between-requires c = (rw c.in-Some-lost.is at c.pieces.invariant).0.is_end
 
 pub returns : goal.returns
 returns c = λ contents ends.
-    let key = key_of c.args.key.now in
-    let text = c.args.text.now in
     let p = c.pieces in
     let left = c.in_default.ensures.piece in
     elim c.if-is_found.branch [
       | then-is_found v ↦ rw v.result-is (elim c.match-lost.branch [
         | in-Some-lost+in_ok-push_between w ↦
             let (end, is_end, pushed) = w.in_ok-push_between.ensures in
-            let r : IsLost key text p.rest.now p.new.items w.in-Some-lost.last =
-            (subst (λ l. Clearing key text p.rest.now p.new.items p.is_found l) w.in-Some-lost.is p.invariant).0 in
+            let (r, found) = rw w.in-Some-lost.is at p.invariant in
             let new_is : c.match-lost.new.items ≡ p.new.items ++ end =
-            ap (λ n. n.items) w.new-is ∙ pushed ∙ ap (λ e. p.new.items ++ e) (append-nil end) in
+            simp (w.new-is, pushed, append-nil) in
             rw new_is (lost_ends end r ends left is_end)
-        | in_default-lost w ↦
-            let r : IsKept key text p.rest.now p.new.items p.is_found =
-            subst (λ l. Clearing key text p.rest.now p.new.items p.is_found l) w.in_default-lost.is p.invariant in
-            rw w.new-is (kept_ends r ends left)
+        | in_default-lost w ↦ rw w.new-is (kept_ends (rw w.in_default-lost.is at p.invariant) ends left)
       ])
       | else-is_found v ↦ rw v.result-is (elim c.match-lost.branch [
         | in-Some-lost+in_ok-push_between w ↦
-            let found : p.is_found ≡ true =
-            (subst (λ l. Clearing key text p.rest.now p.new.items p.is_found l) w.in-Some-lost.is p.invariant).1 in
-            absurd (true≢false (sym found ∙ v.if-is_found.false))
-        | in_default-lost w ↦
-            let r : IsKept key text p.rest.now p.new.items p.is_found =
-            subst (λ l. Clearing key text p.rest.now p.new.items p.is_found l) w.in_default-lost.is p.invariant in
-            none_cleared r v.if-is_found.false ends left
+            absurd (true≢false (sym (rw w.in-Some-lost.is at p.invariant).1 ∙ v.if-is_found.false))
+        | in_default-lost w ↦ none_cleared
+            (rw w.in_default-lost.is at p.invariant) v.if-is_found.false ends left
       ])
     ]

@@ -1,15 +1,13 @@
-use Rattle.std.proofs.Common.{rules, ◌≡◌, ◌≢◌, ◌++◌, ◌∙◌, ap, sym, subst, [], None}
-use Rattle.std.proofs.Common.{option_map, is_some, false, true≢false, append_assoc}
+use Rattle.std.proofs.Common.{◌≡◌, ◌++◌, ◌∙◌, ap, sym}
+use Rattle.std.proofs.Common.{option_map, is_some, true≢false, append_assoc}
 use Rattle.config_edit.specs.declared.setting.Found.{Found}
 use Rattle.config_file.specs.KeyView.{key_of}
 use Rattle.config_file.specs.Views.{section_of}
-use Rattle.config_edit.specs.Edit.{IsOf}
-use Rattle.config_edit.specs.Reading.{Replacing, IsEntryHeld, IsFound, content_of}
-use Rattle.config_edit.specs.Reading.{section_after}
+use Rattle.config_edit.specs.Reading.{IsEntryHeld}
 use Rattle.config_edit.proofs.Replaced.{replacing_begins, replacing_passes, replacing_finds}
-use Rattle.config_edit.proofs.Replaced.{replacing_listable, no_entry_held, no_header_after}
-use Rattle.config_edit.proofs.Replaced.{none_replaced, one_replaced, not_replaced}
-use Rattle.config_edit.proofs.Edits.{is_none_left, is_some_left}
+use Rattle.config_edit.proofs.Replaced.{looked_past, no_entry_held, no_header_after}
+use Rattle.config_edit.proofs.Replaced.{none_replaced, one_replaced}
+use Rattle.config_edit.proofs.Edits.{is_none_left, is_some_left, not_read}
 use Rattle.config_edit.proofs.setting.replace.Goals as goal
 use Rattle.config_edit.proofs.setting.replace.Goals.{in-Header}
 use Rattle.config_edit.proofs.setting.replace.Goals.{in-Entry+then-is_of+in_ok-push_before-in-Entry}
@@ -17,10 +15,7 @@ use Rattle.config_edit.proofs.setting.replace.Goals.{in-Entry+else-is_of, in-Not
 
 pub pieces-init : goal.pieces-init
 pieces-init c =
-    let empty : c.in_ok-new.new.items ≡ [] = search rules in
-    let key = key_of c.args.key.now in
-    let text = c.args.text.now in
-    subst (λ n. Replacing key text text text n None None false) (sym empty) (replacing_begins key text)
+    rw c.in_ok-new.ensures.items (replacing_begins (key_of c.args.key.now) c.args.text.now)
 
 pub pieces-preserved : goal.pieces-preserved
 pieces-preserved c =
@@ -37,77 +32,59 @@ pieces-preserved c =
     let passes =
     replacing_passes key text rest start new section p.several p.found piece p.invariant is shorter in
     let m = c.match-piece in
-    let whole : Replacing key text piece.rest.now m.start.now m.new.items
-    (option_map section_of m.section) m.found m.several =
     elim c.match-piece.branch [
       | in-Header w ↦
-          let other : ¬ (IsEntryHeld key section piece.held) =
-          λ held. subst (IsEntryHeld key section) w.in-Header.is held in
-          let after : section_after piece.held section ≡ option_map section_of m.section =
-          ap (λ h. section_after h section) w.in-Header.is ∙ ap (λ s. option_map section_of s)
-          (sym w.section-is) in
-          rw (w.new-is, w.start-is, w.found-is, w.several-is)
-          (subst (λ s. Replacing key text piece.rest.now start new s p.found p.several) after (passes other))
+          let other : ¬ (IsEntryHeld key section piece.held) = rw w.in-Header.is (λ held. held) in
+          rw (w.new-is, w.start-is, w.found-is, w.several-is, w.section-is)
+          (rw w.in-Header.is at (passes other))
       | in-Entry+then-is_of+in_ok-push_before-in-Entry w ↦
           let f : Found = record { piece = piece; parts = w.in-Entry.parts; in_line = p.in_line } in
-          let listable = replacing_listable key text rest start new section p.several p.found p.invariant in
-          let of : IsOf key (content_of section w.in-Entry.parts) =
-          (w.is_of.ensures listable).0 w.if-is_of.true in
+          let listable = (looked_past key text rest start new section p.several p.found
+          p.invariant).2.listable in
           let (left, left_is, pushed) = w.in_ok-push_before-in-Entry.ensures in
           let between = w.before-then-is_of.result.now in
-          let cut : start ≡ between ++ rest = w.before-then-is_of.ensures in
           let step =
-          replacing_finds key text rest start new section p.several p.found f left between p.invariant is shorter w.in-Entry.is of left_is cut in
+          replacing_finds key text rest start new section p.several p.found f left between p.invariant is
+          shorter w.in-Entry.is
+          ((w.is_of.ensures listable).0 w.if-is_of.true) left_is w.before-then-is_of.ensures in
           let several_is : m.several ≡ is_some p.found = w.several-is ∙ w.is_some-several.ensures in
           let new_is : m.new.items ≡ new ++ (left ++ between) = ap (λ n. n.items) w.new-is ∙ pushed in
           rw (new_is, w.start-is, w.section-is, w.found-is, several_is) step
       | in-Entry+else-is_of w ↦
-          let listable = replacing_listable key text rest start new section p.several p.found p.invariant in
+          let listable = (looked_past key text rest start new section p.several p.found
+          p.invariant).2.listable in
           let other : ¬ (IsEntryHeld key section piece.held) = λ held.
-          true≢false (sym ((w.is_of.ensures listable).1 (subst (IsEntryHeld key section) w.in-Entry.is held))
-          ∙ w.if-is_of.false) in
-          let after : section_after piece.held section ≡ option_map section_of m.section =
-          ap (λ h. section_after h section) w.in-Entry.is ∙ ap (λ s. option_map section_of s)
-          (sym w.section-is) in
-          rw (w.new-is, w.start-is, w.found-is, w.several-is)
-          (subst (λ s. Replacing key text piece.rest.now start new s p.found p.several) after (passes other))
+          true≢false (sym ((w.is_of.ensures listable).1 (rw w.in-Entry.is at held)) ∙ w.if-is_of.false) in
+          rw (w.new-is, w.start-is, w.found-is, w.several-is, w.section-is)
+          (rw w.in-Entry.is at (passes other))
       | in-Nothing w ↦
-          let after : section_after piece.held section ≡ option_map section_of m.section =
-          no_header_after piece.held section w.in-Nothing.is ∙ ap (λ s. option_map section_of s)
-          (sym w.section-is) in
-          rw (w.new-is, w.start-is, w.found-is, w.several-is)
-          (subst (λ s. Replacing key text piece.rest.now start new s p.found p.several) after
-          (passes (no_entry_held key section piece.held w.in-Nothing.is)))
-    ] in whole
+          let step = passes (no_entry_held key section piece.held w.in-Nothing.is) in
+          rw (w.new-is, w.start-is, w.found-is, w.several-is, w.section-is)
+          (rw (no_header_after piece.held section w.in-Nothing.is) at step)
+    ]
 
 pub returns-then-not-is_empty : goal.returns-then-not-is_empty
 returns-then-not-is_empty c =
     let p = c.pieces in
-    let some : p.rest.now ≢ [] = is_some_left p.rest.now (sym c.if-not-is_empty.true ∙ c.is_empty.ensures) in
-    not_replaced (key_of c.args.key.now) c.args.text.now p.rest.now p.start.now p.new.items (option_map section_of p.section) p.several p.found p.invariant some c.in_default.ensures.piece
+    let (front, contents, past) =
+    looked_past (key_of c.args.key.now) c.args.text.now p.rest.now p.start.now p.new.items
+    (option_map section_of p.section) p.several p.found p.invariant in
+    let some = is_some_left p.rest.now (sym c.if-not-is_empty.true ∙ c.is_empty.ensures) in
+    λ contents. not_read past.joined past.passed some c.in_default.ensures.piece
 
 pub returns-in-None : goal.returns-in-None
 returns-in-None c =
-    let key = key_of c.args.key.now in
     let p = c.pieces in
-    let section = option_map section_of p.section in
-    let none : Replacing key c.args.text.now p.rest.now p.start.now p.new.items section None p.several =
-    subst (λ f. Replacing key c.args.text.now p.rest.now p.start.now p.new.items section f p.several) c.in-None.is p.invariant in
-    none_replaced key c.args.text.now p.rest.now p.start.now p.new.items section p.several none
+    none_replaced (key_of c.args.key.now) c.args.text.now p.rest.now p.start.now p.new.items
+    (option_map section_of p.section) p.several (rw c.in-None.is at p.invariant)
     (is_none_left p.rest.now c.if-not-is_empty.ensures)
 
 pub returns : goal.returns
 returns c =
-    let key = key_of c.args.key.now in
     let p = c.pieces in
-    let text = c.args.text.now in
-    let value = c.args.value.now in
-    let last = c.in-Some-found.last in
-    let section = option_map section_of p.section in
-    let found : IsFound key text p.rest.now p.start.now p.new.items section last p.several =
-    subst (λ f. Replacing key text p.rest.now p.start.now p.new.items section f p.several) c.in-Some-found.is p.invariant in
+    let found = rw c.in-Some-found.is at p.invariant in
     let (put, pushed, set) = c.in_ok-push_changed.ensures in
     let whole : c.extend_from_slice.new.self.items ≡ p.new.items ++ (put ++ p.start.now) =
-    c.in_ok-extend_from_slice.ensures.items ∙ ap (λ x. x ++ p.start.now) pushed
-    ∙ append_assoc p.new.items put p.start.now in
-    rw whole (one_replaced {f = last} found (is_none_left p.rest.now c.if-not-is_empty.ensures) set)
+    simp (c.in_ok-extend_from_slice.ensures.items, pushed, append_assoc) in
+    rw whole (one_replaced {f = c.in-Some-found.last} found
+    (is_none_left p.rest.now c.if-not-is_empty.ensures) set)

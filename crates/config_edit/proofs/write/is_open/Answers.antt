@@ -13,15 +13,11 @@ are_other a b other = grind (arith, nat_tests)
 
 pub returns-in-Some : goal.returns-in-Some
 returns-in-Some c =
-    let parts = c.args.parts.now in
-    let value_is : value_of parts.value ≡ Some c.in-Some.value.raw.now = ap (λ v. value_of v) c.in-Some.is in
-    let count : c.line_feeds.result ≡ line_feeds c.in-Some.value.raw.now = c.line_feeds.ensures.count in (
-      λ is. (
-        c.in-Some.value.raw.now,
-        value_is,
-        λ same. differ c.line_feeds.result parts.lines is
-            (count ∙ same),
-      ),
-      λ (raw, held, differs). are_other c.line_feeds.result parts.lines
+    let lines = c.args.parts.now.lines in
+    let raw = c.in-Some.value.raw.now in
+    let value_is : value_of c.args.parts.now.value ≡ Some raw = ap (λ v. value_of v) c.in-Some.is in
+    let count = c.line_feeds.ensures.count in (
+      λ is. (raw, value_is, λ same. differ c.line_feeds.result lines is (count ∙ same)),
+      λ (own, held, differs). are_other c.line_feeds.result lines
           (λ same. differs (ap line_feeds (some_same (sym held ∙ value_is)) ∙ sym count ∙ same)),
     )

@@ -1,61 +1,36 @@
-use Rattle.std.proofs.Common.{◌≡◌, ◌++◌, ◌∷◌, ◌∙◌, refl, ap, sym, subst, List, ℕ, Some, None}
-use Rattle.std.proofs.Common.{append_assoc, inl, inr, true≢false}
-use Rattle.config_file.specs.Value.{outside, at_backslash, SpellsValue}
-use Rattle.config_edit.specs.Edit.{HasValue}
+use Rattle.std.proofs.Common.{◌≡◌, ◌++◌, ◌∷◌, ◌∙◌, refl, ap, Some, None}
+use Rattle.std.proofs.Common.{append_assoc}
 use Rattle.config_file.specs.Spelling.{git_spelled}
 use Rattle.config_file.specs.Views.{value_of}
 use Rattle.config_edit.proofs.Changed.{can_hold, tail_cut, front_cut, value_changed, value_given, value_kept}
-use Rattle.config_edit.proofs.Changed.{spelled_of}
+use Rattle.config_edit.proofs.Changed.{how_spelled, not_spelled}
 use Rattle.config_edit.proofs.write.push_changed.Goals as goal
 use Rattle.config_edit.proofs.write.push_changed.Goals.{in-Some+in_ok-extend_from_slice-in-Some+in_ok-push_in_place-in-Some}
 use Rattle.config_edit.proofs.write.push_changed.Goals.{in-None+in_ok-extend_from_slice-in-None+in_ok-push_given-in-None}
 
 pub returns-then-branch : goal.returns-then-branch
 returns-then-branch c =
-    let e = c.requires.entry in (
-      c.args.piece.now.bytes.now,
-      c.in_ok-extend_from_slice.ensures.items,
-      elim (spelled_of (value_of c.args.parts.now.value) e.takes) [
-        | inl none ↦ absurd (true≢false (sym c.if-branch.true ∙ c.in_ok-has_value.ensures.alone none))
-        | inr (raw, spelled, held, how) ↦ elim how [
-          | inl closed ↦
-              let same = (c.in_ok-has_value.ensures.spelled raw spelled outside held closed.0).0 c.if-branch.true in
-              let spells = subst (λ v. SpellsValue raw v outside) same closed.0 in
-              value_kept held spells (raw, held, inl (spells, closed.1)) e
-          | inr broken ↦
-              let same = (c.in_ok-has_value.ensures.spelled raw spelled at_backslash held broken.0).0 c.if-branch.true in
-              let spells = subst (λ v. SpellsValue raw v at_backslash) same broken.0 in
-              value_kept held spells (raw, held, inr (spells, broken.1)) e
-        ]
-      ],
-    )
+    let e = c.requires.entry in
+    let known = c.in_ok-has_value.ensures in
+    let how = how_spelled (value_of c.args.parts.now.value) e.takes known.alone known.spelled
+    c.if-branch.true in
+    (c.args.piece.now.bytes.now, c.in_ok-extend_from_slice.ensures.items, value_kept how e)
 
 pub before-front-requires : goal.before-front-requires
 before-front-requires c =
     let e = c.requires.entry in
-    let blanks = c.args.piece.now.blanks.now in
-    let tail = c.before-tail.result.now in (
-      blanks ++ e.front,
-      e.joined ∙ sym (append_assoc blanks e.front e.tail) ∙ ap
-          (λ t. (blanks ++ e.front) ++ t) (sym (tail_cut e tail c.before-tail.ensures)),
-    )
+    let tail_is = tail_cut e c.before-tail.result.now c.before-tail.ensures in
+    (c.args.piece.now.blanks.now ++ e.front, rw (tail_is, append_assoc) e.joined)
 
 pub before-start-requires : goal.before-start-requires
 before-start-requires c =
     let e = c.requires.entry in
     let blanks = c.args.piece.now.blanks.now in
     let tail = c.before-tail.result.now in
-    let front_is =
-    front_cut e c.before-front.result.now tail c.before-front.ensures
+    let front_is = front_cut e c.before-front.result.now tail c.before-front.ensures
     (tail_cut e tail c.before-tail.ensures) in
-    let hold = can_hold e.front refl (ap (λ v. value_of v) c.in-Some.is) e.begins e.takes in (
-      blanks ++ hold.start,
-      front_is ∙ ap (λ f. blanks ++ f) hold.joined ∙ sym
-          (append_assoc blanks hold.start c.in-Some.old.raw.now),
-    )
-
-three : (text a b d : List ℕ) → ((text ++ a) ++ b) ++ d ≡ text ++ (a ++ (b ++ d))
-three text a b d = append_assoc (text ++ a) b d ∙ append_assoc text a (b ++ d)
+    let hold = can_hold e.front refl (ap (λ v. value_of v) c.in-Some.is) e.begins e.takes in
+    (blanks ++ hold.start, front_is ∙ ap (λ f. blanks ++ f) hold.joined ∙ simp append_assoc)
 
 pub returns : goal.returns
 returns c =
@@ -72,31 +47,20 @@ returns c =
           let start = w.before-start.result.now in
           let held : was ≡ Some raw = ap (λ v. value_of v) w.in-Some.is in
           let (put, pushed, is_put) = w.in_ok-push_in_place-in-Some.ensures in
-          let other : ¬ (HasValue was value) = λ has.
-          let (ending, spells) = subst (λ v. HasValue v value) held has in
-          true≢false (sym ((c.in_ok-has_value.ensures.spelled raw value ending held spells).1 refl)
-          ∙ c.if-branch.false) in
-          let bytes_is : c.args.piece.now.bytes.now ≡ (start ++ raw) ++ e.tail =
-          c.before-front.ensures ∙ ap (λ f. f ++ tail) w.before-start.ensures ∙ ap
-          (λ t. (start ++ raw) ++ t) tail_is in
-          let whole : c.extend_from_slice-2.new.self.items ≡ text ++ (start ++ (put ++ e.tail)) =
-          c.in_ok-extend_from_slice-2.ensures.items
-          ∙ ap (λ x. x ++ tail) (ap (λ x. x.items) w.text-is ∙ pushed ∙ ap
-          (λ x. x ++ put) w.in_ok-extend_from_slice-in-Some.ensures.items)
-          ∙ three text start put tail ∙ ap (λ t. text ++ (start ++ (put ++ t))) tail_is in
-          (start ++ (put ++ e.tail), whole, value_changed raw value put start held e bytes_is is_put other)
+          let other = not_spelled was c.in_ok-has_value.ensures.spelled c.if-branch.false in
+          let bytes_is = rw (w.before-start.ensures, tail_is) at c.before-front.ensures in
+          let pushes = w.in_ok-extend_from_slice-in-Some.ensures.items in
+          let whole : c.extend_from_slice-2.new.self.items ≡ text ++ (start ++ (put ++ tail)) =
+          simp (c.in_ok-extend_from_slice-2.ensures.items, w.text-is, pushed, pushes, append_assoc) in
+          let set = value_changed raw value put start held e bytes_is is_put other in
+          (start ++ (put ++ tail), whole, rw tail_is set)
       | in-None+in_ok-extend_from_slice-in-None+in_ok-push_given-in-None w ↦
           let (gap, is, pushed) = w.in_ok-push_given-in-None.ensures in
           let put = gap ++ 61 ∷ 32 ∷ git_spelled value in
-          let blanks = c.args.piece.now.blanks.now in
-          let front_is : front ≡ blanks ++ e.front = front_cut e front tail c.before-front.ensures tail_is in
+          let front_is = front_cut e front tail c.before-front.ensures tail_is in
           let held : was ≡ None = ap (λ v. value_of v) w.in-None.is in
-          let whole : c.extend_from_slice-2.new.self.items ≡ text ++
-          ((blanks ++ e.front) ++ (put ++ e.tail)) =
-          c.in_ok-extend_from_slice-2.ensures.items
-          ∙ ap (λ x. x ++ tail) (ap (λ x. x.items) w.text-is ∙ pushed ∙ ap
-          (λ x. x ++ put) w.in_ok-extend_from_slice-in-None.ensures.items)
-          ∙ three text front put tail ∙ ap (λ t. text ++ (front ++ (put ++ t))) tail_is ∙ ap
-          (λ f. text ++ (f ++ (put ++ e.tail))) front_is in
-          ((blanks ++ e.front) ++ (put ++ e.tail), whole, value_given held e c.requires.spellable is)
+          let pushes = w.in_ok-extend_from_slice-in-None.ensures.items in
+          let whole : c.extend_from_slice-2.new.self.items ≡ text ++ (front ++ (put ++ tail)) =
+          simp (c.in_ok-extend_from_slice-2.ensures.items, w.text-is, pushed, pushes, append_assoc) in
+          (front ++ (put ++ tail), whole, rw (front_is, tail_is) (value_given held e c.requires.spellable is))
     ]

@@ -1,10 +1,10 @@
-use Rattle.std.proofs.Common.{◌≡◌, ◌++◌, ◌∷◌, ◌∙◌, [], List, ℕ, refl, ap, sym, subst, append_assoc, append-nil, inl, inr, ◌⊎◌, true≢false}
+use Rattle.std.proofs.Common.{◌≡◌, ◌++◌, ◌∷◌, ◌∙◌, [], List, ℕ, refl, ap, sym, append_assoc, append-nil}
+use Rattle.std.proofs.Common.{inl, inr, ◌⊎◌, true≢false}
 use Rattle.std.proofs.lemmas.List.{append_cancel_right}
-use Rattle.config_file.specs.Value.{outside, at_backslash, SpellsValue}
 use Rattle.config_edit.specs.Edit.{HasValue}
 use Rattle.config_edit.specs.Reading.{IsOpen}
 use Rattle.config_file.specs.Views.{value_of}
-use Rattle.config_edit.proofs.Changed.{spelled_of}
+use Rattle.config_edit.proofs.Changed.{has_of, how_spelled, not_spelled}
 use Rattle.config_edit.proofs.write.push_commented.Goals as goal
 use Rattle.config_edit.proofs.write.push_commented.Goals.{then-is_open+in_ok-has_value+then-branch+in_ok-push, else-is_open}
 use Rattle.config_edit.proofs.write.push_commented.Goals.{else-is_open-via-then-is_open+in_ok-has_value+else-branch}
@@ -17,7 +17,7 @@ before-requires c =
     let blanks = c.args.piece.now.blanks.now in
     let inner = name ++ (s.between ++ s.bytes) in
     let tail_is : s.tail ≡ tail = append_cancel_right s.tail tail c.args.piece.now.rest.now (sym s.left ∙ c.before-tail.ensures) in
-    (blanks ++ inner, s.put_is ∙ sym (append_assoc blanks inner s.tail) ∙ ap (λ t. (blanks ++ inner) ++ t) tail_is)
+    (blanks ++ inner, s.put_is ∙ ap (λ t. blanks ++ (inner ++ t)) tail_is ∙ simp append_assoc)
 
 pub returns : goal.returns
 returns c =
@@ -37,39 +37,26 @@ returns c =
     × ((IsOpen parts × HasValue was value × (feed ≡ 10 ∷ [])) ⊎ (¬ (IsOpen parts × HasValue was value) × (feed ≡ []))) =
     elim c.if-is_open.branch [
       | then-is_open+in_ok-has_value+then-branch+in_ok-push w ↦
-          let has : HasValue was value =
-          elim (spelled_of was e.takes) [
-            | inl none ↦ absurd (true≢false (sym w.if-branch.true ∙ w.in_ok-has_value.ensures.alone none))
-            | inr (raw, spelled, held, how) ↦ subst (λ v. HasValue v value) (sym held) (elim how [
-              | inl closed ↦
-                  (outside, subst (λ v. SpellsValue raw v outside) ((w.in_ok-has_value.ensures.spelled raw spelled outside held closed.0).0 w.if-branch.true) closed.0)
-              | inr broken ↦
-                  (at_backslash, subst (λ v. SpellsValue raw v at_backslash) ((w.in_ok-has_value.ensures.spelled raw spelled at_backslash held broken.0).0 w.if-branch.true) broken.0)
-            ])
-          ] in (
+          let known = w.in_ok-has_value.ensures in
+          let has = has_of parts (how_spelled was e.takes known.alone known.spelled w.if-branch.true) in (
             10 ∷ [],
-            ap (λ t. t.items) w.text-is ∙ w.in_ok-push.ensures.items ∙ ap (λ t. t ++ 10 ∷ []) first ∙ append_assoc text core (10 ∷ []),
+            simp (w.text-is, w.in_ok-push.ensures.items, first, append_assoc),
             inl (c.is_open.ensures.0 w.if-is_open.true, has, refl),
           )
       | else-is_open w ↦
           let closed : ¬ (IsOpen parts × HasValue was value) = λ (opened, has).
           elim w.else-is_open.branch [
             | else-is_open-via-then-is_open+in_ok-has_value+else-branch w' ↦
-                let (ending, spells) = subst (λ v. HasValue v value) opened.1 has in
-                true≢false (sym ((w'.in_ok-has_value.ensures.spelled opened.0 value ending opened.1 spells).1 refl) ∙ w'.if-branch.false)
+                not_spelled was w'.in_ok-has_value.ensures.spelled w'.if-branch.false has
             | else-is_open-via-else-is_open w' ↦
                 true≢false (sym (c.is_open.ensures.1 opened) ∙ w'.if-is_open.false)
-          ] in (
-            [],
-            ap (λ t. t.items) w.text-is ∙ first ∙ ap (λ x. text ++ x) (sym (append-nil core)),
-            inr (closed, refl),
-          )
+          ] in
+          ([], simp (w.text-is, first, append-nil), inr (closed, refl))
     ] in
+    let second = c.in_ok-extend_from_slice-2.ensures.items in
+    let third = c.in_ok-extend_from_slice-3.ensures.items in
     let whole : c.extend_from_slice-4.new.self.items ≡ text ++ (core ++ (feed ++ ((front ++ comment) ++ end))) =
-    c.in_ok-extend_from_slice-4.ensures.items
-    ∙ ap (λ t. t ++ end) (c.in_ok-extend_from_slice-3.ensures.items ∙ ap (λ t. t ++ comment)
-    (c.in_ok-extend_from_slice-2.ensures.items ∙ ap (λ t. t ++ front) fed))
-    ∙ simp append_assoc in (
+    simp (c.in_ok-extend_from_slice-4.ensures.items, third, second, fed, append_assoc) in (
       core ++ (feed ++ ((front ++ comment) ++ end)),
       whole,
       record {

@@ -1,4 +1,4 @@
-use Rattle.std.proofs.Common.{◌≡◌, ◌≢◌, ◌++◌, ◌∙◌, ap, [], length, append_assoc, arith}
+use Rattle.std.proofs.Common.{◌≡◌, ◌≢◌, ◌++◌, ap, [], length, append_assoc, arith}
 use Rattle.std.proofs.lemmas.Bool.Decides.{nat_tests}
 use Rattle.config_file.specs.Spelling.{git_spelled}
 use Rattle.config_edit.proofs.Changed.{put_between}
@@ -17,8 +17,7 @@ returns c =
     let zero : length rest ≡ 0 = ap length none in
     let is = c.is_empty.ensures in
     let no = c.if-is_empty.false in grind (arith, nat_tests) in
+    let first = c.in_ok-extend_from_slice.ensures.items in
     let whole : c.extend_from_slice-2.new.self.items ≡ text ++ (lead ++ (git ++ trail)) =
-    c.in_ok-extend_from_slice-2.ensures.items ∙ ap (λ x. x ++ trail)
-    (c.in_ok-push_as_git.ensures ∙ ap (λ x. x ++ git) c.in_ok-extend_from_slice.ensures.items)
-    ∙ append_assoc (text ++ lead) git trail ∙ append_assoc text lead (git ++ trail) in
+    simp (c.in_ok-extend_from_slice-2.ensures.items, c.in_ok-push_as_git.ensures, first, append_assoc) in
     (lead ++ (git ++ trail), whole, put_between lead rest core trail value c.requires c.run.ensures some c.trimmed.ensures.joined c.trimmed.ensures.blank c.trimmed.ensures.last)

@@ -1,4 +1,4 @@
-use Rattle.std.proofs.Common.{◌≡◌, ◌++◌, ◌∙◌, ap, inl, inr, append_assoc}
+use Rattle.std.proofs.Common.{◌≡◌, ◌++◌, ap, inl, inr, append_assoc}
 use Rattle.config_edit.specs.Reading as edit
 use Rattle.config_edit.proofs.removal.Group.finish.Goals as goal
 
@@ -7,18 +7,13 @@ returns c =
     let g = c.args.self.now in
     let new = c.args.new.now.items in
     let left = c.head_left.result.now in
+    let first = c.in_ok-extend_from_slice.ensures.items in
     let whole : c.extend_from_slice-2.new.self.items ≡ new ++ (left ++ g.body.items) =
-    c.in_ok-extend_from_slice-2.ensures.items ∙ ap
-    (λ b. c.extend_from_slice.new.self.items ++ b) c.as_slice.ensures.value
-    ∙ ap (λ n. n ++ g.body.items) c.in_ok-extend_from_slice.ensures.items
-    ∙ append_assoc new left g.body.items in
+    simp (c.in_ok-extend_from_slice-2.ensures.items, c.as_slice.ensures.value, first, append_assoc) in
     elim c.head_left.ensures [
-      | inl same ↦ (
-        g.head.items ++ g.body.items,
-        whole ∙ ap
-            (λ l. new ++ (l ++ g.body.items)) same,
-        edit.whole,
-      )
+      | inl same ↦
+          let all = ap (λ l. new ++ (l ++ g.body.items)) same in
+          (g.head.items ++ g.body.items, rw whole all, edit.whole)
       | inr (not_kept, has_lost, is_end) ↦
           (left ++ g.body.items, whole, edit.without_head not_kept has_lost is_end)
     ]

@@ -23,9 +23,9 @@ returns-else-is_open c =
 not_open : (h : Held)
     → (h ≡ held.Nothing) ⊎ (h ≡ held.Comment) ⊎ ((section : code.Section) × (h ≡ held.Header section))
     → IsOpenHeld h → ⊥
-not_open h (inl e) is = subst IsOpenHeld e is
-not_open h (inr (inl e)) is = subst IsOpenHeld e is
-not_open h (inr (inr (section, e))) is = subst IsOpenHeld e is
+not_open h (inl e) is = rw e at is
+not_open h (inr (inl e)) is = rw e at is
+not_open h (inr (inr (section, e))) is = rw e at is
 
 pub returns-in-Nothing : goal.returns-in-Nothing
 returns-in-Nothing c = edit.unended c.if-piece.false (not_open c.args.piece.now.held c.in-Nothing.is)
