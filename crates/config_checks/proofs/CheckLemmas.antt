@@ -1,20 +1,19 @@
 -- A check, setting by setting.
 use Rattle.std.proofs.Common.{◌≡◌, ◌+◌, ◌^◌, ◌≤◌, ◌<◌, ℕ, List, [], ◌∷◌, ◌++◌, Option, None, Some, refl}
-use Rattle.std.proofs.Common.{append_assoc, append-nil, arith, Result, Ok, Err, length, option_map}
-use Rattle.std.proofs.Common.{OnErr}
+use Rattle.std.proofs.Common.{append_assoc, append-nil, arith, Result, Ok, Err, length, option_map, OnErr}
+use Rattle.std.proofs.Common.{true, false}
 use Rattle.config_file.specs.declared.errors.FileError as errors
 use Rattle.config_checks.specs.declared.options.Options.{Options}
 use Rattle.config_checks.specs.declared.row.Row.{Row}
 use Rattle.config_checks.specs.declared.setting.Setting.{Setting}
 use Rattle.config_checks.specs.declared.check.Counts.{Counts}
 use Rattle.config_checks.specs.Findings.{Finding}
-use Rattle.config_checks.specs.Report.{unknown, misspelled, right, found, nothing, next}
-use Rattle.config_checks.specs.Report.{HasSettings, HasFirstSettings, Receives, Completes, Fails, counted, no_counts}
-use Rattle.config_checks.specs.Reading.Steps.{Reports, ReportsAll, ReportsEntries, ReportsError}
-use Rattle.config_checks.specs.Reading.Steps.{AreWithin, HasRoomForFinding, IsSaidAs, findings_as, is_some}
+use Rattle.config_checks.specs.Report.{unknown, misspelled, right, found, nothing, next, HasSettings}
+use Rattle.config_checks.specs.Report.{HasFirstSettings, Receives, Completes, Fails, counted, no_counts}
 use Rattle.config_checks.specs.Report.{ReportsSetting}
+use Rattle.config_checks.specs.Reading.Steps.{Reports, ReportsAll, ReportsEntries, ReportsError, AreWithin}
+use Rattle.config_checks.specs.Reading.Steps.{HasRoomForFinding, IsSaidAs, findings_as, is_some}
 use Rattle.config_checks.specs.Rows.{IsUnknown}
-use Rattle.std.proofs.Common.{true, false}
 use Rattle.config_checks.specs.Settings.{IsSettingOf}
 use Rattle.config_checks.specs.Reasons.{severity_of}
 use Rattle.config_checks.specs.declared.reason.Severity.{Severity}

@@ -1,14 +1,13 @@
 -- A text that lacks bytes of another one is at least as many edits away.
-use Rattle.std.proofs.Common.{◌≡◌, ◌+◌, ◌≤◌, ℕ, zero, suc, List, [], ◌∷◌, ◌++◌, length, nat_eq, refl, sym, ap, ◌∙◌, arith, append_assoc}
-use Rattle.std.proofs.Common.{Bool, true, inl, inr, ◌==◌}
+use Rattle.std.proofs.Common.{◌≡◌, ◌+◌, ◌≤◌, ℕ, zero, suc, List, [], ◌∷◌, ◌++◌, length, nat_eq, refl, sym, ap}
+use Rattle.std.proofs.Common.{◌∙◌, arith, append_assoc, Bool, true, inl, inr, ◌==◌}
 use Rattle.std.proofs.lemmas.Int.{clamps}
 use Rattle.std.proofs.lemmas.List.Folds.{list_any-append}
 use Rattle.std.proofs.lemmas.Bool.Decides.{nat_tests}
 use Rattle.std.proofs.lemmas.Bool.{cases_Bool, eq-eqb}
 use Rattle.std.specs.Char.{to_ascii_lowercase}
-use Rattle.std.specs.List.{filter, list_any}
+use Rattle.std.specs.List.{filter, list_any, prefix_len, zip}
 use Rattle.std.specs.Prelude.{not, ◌||◌, ◌-◌, drop, take}
-use Rattle.std.specs.List.{prefix_len, zip}
 use Rattle.std.proofs.lemmas.List.{length-append, length-map, drop-map, take-append-drop, map-append}
 use Rattle.std.proofs.Math.Seq.{drop-append_seam}
 use Rattle.config_text.specs.SameWord.{SameWord}

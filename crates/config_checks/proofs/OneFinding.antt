@@ -1,7 +1,6 @@
 -- A setting has at most one reason, and at most one finding.
-use Rattle.std.proofs.Common.{◌≡◌, ℕ, inl, inr, List, Bool, true, false}
-use Rattle.std.proofs.Common.{Option, None, Some, refl, sym, ap, subst, ◌∙◌, arith}
-use Rattle.std.proofs.Common.{Bor}
+use Rattle.std.proofs.Common.{◌≡◌, ℕ, inl, inr, List, Bool, true, false, Option, None, Some, refl, sym, ap}
+use Rattle.std.proofs.Common.{subst, ◌∙◌, arith, Bor}
 use Rattle.config_text.specs.declared.errors.Fault.{Fault}
 use Rattle.config_text.specs.declared.errors.Fault.TheVariants as faults
 use Rattle.config_text.specs.Refusals.{OnlyFault}
@@ -23,15 +22,15 @@ use Rattle.config_checks.specs.declared.row.Row.{Row}
 use Rattle.config_checks.specs.declared.reason.Reason.{Reason}
 use Rattle.config_checks.specs.declared.reason.Reason.TheVariants.{Refused, OutOfRange, NoWord, NotCanonical}
 use Rattle.config_checks.specs.Kinds.{IsWord, IsFirstWord}
-use Rattle.config_checks.specs.Reasons.{IsJudged, IsJudgedWithin, IsJudgedBool, IsJudgedByWords}
-use Rattle.config_checks.specs.Reasons.{WordEdits, IsMeant, IsJudgedPath, IsJudgedText, IsComparedTo, IsJudgedAlone, IsJudgedByRow, HasReason}
+use Rattle.config_checks.specs.Reasons.{IsJudged, IsJudgedWithin, IsJudgedBool, IsJudgedByWords, WordEdits}
+use Rattle.config_checks.specs.Reasons.{IsMeant, IsJudgedPath, IsJudgedText, IsComparedTo, IsJudgedAlone}
+use Rattle.config_checks.specs.Reasons.{IsJudgedByRow, HasReason, IsRespelled, IsRespelledAs}
+use Rattle.config_checks.specs.Reasons.{IsRespelledByForm, IsRespelledByWords, HasSpelling, IsOutside}
+use Rattle.config_checks.specs.Reasons.{IsRemarkBy, HasFinding, IsSameFinding}
 use Rattle.config_checks.specs.Reasons.IsJudgedByRow.{refused, taken}
-use Rattle.config_checks.specs.Reasons.{IsRespelled, IsRespelledAs, IsRespelledByForm, IsRespelledByWords}
-use Rattle.config_checks.specs.Reasons.{HasSpelling, IsOutside, IsRemarkBy}
 use Rattle.config_checks.specs.Reasons.HasFinding.{outside, wrong, right}
 use Rattle.config_checks.specs.declared.version.Version.{Version}
 use Rattle.config_checks.specs.Versions.{IsOf}
-use Rattle.config_checks.specs.Reasons.{HasFinding, IsSameFinding}
 use Rattle.config_checks.proofs.NearestLemmas.{nearest_once, no_far}
 use Rattle.config_checks.proofs.WordLemmas.{no_first}
 use Rattle.config_checks.proofs.FirstLemmas.{IsFirst, first_once}

@@ -1,7 +1,6 @@
 -- The rows of a text, line by line.
 use Rattle.std.proofs.Common.{◌≡◌, ◌<◌, ◌+◌, ◌++◌, ℕ, List, [], ◌∷◌, length, map, take, drop, get_or, Bor}
-use Rattle.std.proofs.Common.{Bool, true, false, All, suc}
-use Rattle.std.proofs.Common.{refl, sym, ap, ◌∙◌, take-append-drop}
+use Rattle.std.proofs.Common.{Bool, true, false, All, suc, refl, sym, ap, ◌∙◌, take-append-drop, arith}
 use Rattle.std.proofs.lemmas.List.{append-nil, at_drop_more, length-map}
 use mathlib.Core.List.{map-append}
 use denote.Param.Members.{Mut}
@@ -13,14 +12,14 @@ use Rattle.std.specs.Slice.Iter.{split_steps, split_rest, split_done, split_call
 use Rattle.std.proofs.lemmas.Iterator.{YieldsList}
 use Rattle.std.proofs.lemmas.Iterator.Splits.{YieldsList-from_slice_split}
 use Rattle.std.proofs.lemmas.Iterator.Consumers.{YieldsList-at}
-use Rattle.std.proofs.Common.{arith}
 use Rattle.config_file.specs.Key.{Key, IsCut}
 use Rattle.config_checks.specs.declared.row.Row.{Row}
 use Rattle.config_checks.specs.declared.table.RowFault.{RowFault}
 use Rattle.config_checks.specs.declared.table.RowFault.TheVariants.{NoVersion}
 use Rattle.config_checks.specs.declared.table.BadRow.{BadRow}
 use Rattle.config_checks.specs.declared.table.Marks.{Marks}
-use Rattle.config_checks.specs.Rows.{lines_of, fields_of, is_no_comment, HasMarks, HasBadVersion, IsBadKind, IsBadRow, IsBadLine, AddsRow, AddsRows}
+use Rattle.config_checks.specs.Rows.{lines_of, fields_of, is_no_comment, HasMarks, HasBadVersion, IsBadKind}
+use Rattle.config_checks.specs.Rows.{IsBadRow, IsBadLine, AddsRow, AddsRows}
 
 -- a `for` over the parts of a text takes them in order
 pub parts_of : {F : Type 0} {g : Mut F (Bor ℕ × Unit {0}) Bool} {f : F} (s u t : _) (taken : List (Bor (List ℕ)))

@@ -8,8 +8,7 @@ use Rattle.base64.specs.Engines.{standard}
 use Rattle.base64.specs.GeneralPurpose.{encode_of}
 use Rattle.hex.specs.Hex.{encode_lower}
 use Rattle.sha2.specs.Sha256.{sha256}
-use Rattle.serde_json.specs.Data.{Data, Members, null, number, unsigned, string, object}
-use Rattle.serde_json.specs.Data.{member, no_members}
+use Rattle.serde_json.specs.Data.{Data, Members, null, number, unsigned, string, object, member, no_members}
 use Rattle.config_checks.specs.declared.reason.Severity.{Severity}
 use Rattle.config_checks.specs.declared.reason.Severity.TheVariants.{Error, Warning, Note}
 use Rattle.config_checks.specs.Codes.{code_name}

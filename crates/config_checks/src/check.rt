@@ -1,15 +1,14 @@
 //! Checks the settings of a file, and hands on each finding.
-ghost use Rattle.std.specs.Prelude.{◌≡◌, ◌==◌, ◌∷◌, [], List, Option, if◌then◌else◌, OnOk, OnErr, IfOk, IfSome, Some};
-ghost use Rattle.std.specs.Prelude.{option_copied};
+ghost use Rattle.std.specs.Prelude.{◌≡◌, ◌==◌, ◌∷◌, [], List, Option, if◌then◌else◌, OnOk, OnErr, IfOk};
+ghost use Rattle.std.specs.Prelude.{IfSome, Some, option_copied};
 ghost use Rattle.config_file.specs.Key.{IsCut};
 ghost use Rattle.config_file.specs.KeyView.{key_of};
 ghost use Rattle.config_checks.specs.Findings.{Finding, finding_of};
-ghost use Rattle.config_checks.specs.Report.{counted, counts_shown, reason_finding};
-ghost use Rattle.config_checks.specs.Report.{IsAbout, Receives, Completes, Fails};
+ghost use Rattle.config_checks.specs.Report.{counted, counts_shown, reason_finding, IsAbout, Receives};
+ghost use Rattle.config_checks.specs.Report.{Completes, Fails};
 ghost use Rattle.config_checks.specs.Rows.{rows_of, IsUnknown};
-ghost use Rattle.config_checks.specs.Reading.Steps.{HasRoom, HasRoomForFinding, Reports};
-ghost use Rattle.config_checks.specs.Reading.Steps.{IsKept, IsSection, said_findings, is_reported};
-ghost use Rattle.config_checks.specs.Reading.Steps.{ReportsError, ReportsEntries};
+ghost use Rattle.config_checks.specs.Reading.Steps.{HasRoom, HasRoomForFinding, Reports, IsKept, IsSection};
+ghost use Rattle.config_checks.specs.Reading.Steps.{said_findings, is_reported, ReportsError, ReportsEntries};
 
 use crate::code::Code;
 use crate::finding::{

@@ -6,12 +6,11 @@ ghost use Rattle.std.specs.Fmt.{signed_decimal};
 ghost use Rattle.config_file.specs.Key.{written};
 ghost use Rattle.config_file.specs.KeyView.{key_of};
 ghost use Rattle.config_file.specs.Shown.{hex, is_control};
-ghost use Rattle.config_checks.specs.Findings.{piece_shown, shown};
-ghost use Rattle.config_checks.specs.Findings.{range_text, version_text, words_text, more_text, few_words_text};
-ghost use Rattle.config_checks.specs.Findings.{no_word_front, list_text, word_asked, meant_text, no_word_text};
-ghost use Rattle.config_checks.specs.Findings.{reason_text};
-ghost use Rattle.config_checks.specs.Report.{value_meant, instead_of, fault_of_form, fault_of};
-ghost use Rattle.config_checks.specs.Report.{key_meant, file_fault_shown};
+ghost use Rattle.config_checks.specs.Findings.{piece_shown, shown, range_text, version_text, words_text};
+ghost use Rattle.config_checks.specs.Findings.{more_text, few_words_text, no_word_front, list_text};
+ghost use Rattle.config_checks.specs.Findings.{word_asked, meant_text, no_word_text, reason_text};
+ghost use Rattle.config_checks.specs.Report.{value_meant, instead_of, fault_of_form, fault_of, key_meant};
+ghost use Rattle.config_checks.specs.Report.{file_fault_shown};
 ghost use Rattle.config_checks.specs.Settings.{value_of};
 
 use crate::code::Code;

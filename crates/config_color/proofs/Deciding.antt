@@ -1,8 +1,8 @@
 -- What tests of variables tell of them: each test is of a value that may be missing.
-use Rattle.std.proofs.Common.{◌≡◌, ◌↔◌, ◌++◌, ℕ, ◌+◌, ◌<◌, List, Option, None, Some, IsTrue, Bool, true, false, eqb}
-use Rattle.std.proofs.Common.{length, take, drop, option_copied, arith, sym, ap, ◌∙◌}
+use Rattle.std.proofs.Common.{◌≡◌, ◌↔◌, ◌++◌, ℕ, ◌+◌, ◌<◌, List, Option, None, Some, IsTrue, Bool, true}
+use Rattle.std.proofs.Common.{false, eqb, length, take, drop, option_copied, arith, sym, ap, ◌∙◌}
 use Rattle.std.proofs.Common.{length-append, length-drop, length-take-le, ext_get_or, get_or-take}
-use Rattle.std.proofs.Common.{get_or-drop}
+use Rattle.std.proofs.Common.{get_or-drop, [], ◌∷◌, inl, inr}
 use Rattle.std.specs.Borrow.{Bor}
 use Rattle.std.specs.List.{ends_with}
 use Rattle.std.specs.Option.{IsSomeAnd}
@@ -11,7 +11,6 @@ use Rattle.std.proofs.lemmas.Bool.Decides.{Decides-eqb}
 use Rattle.std.proofs.lemmas.Slice.Eq.{ends_is}
 use Rattle.bstr.specs.Text.{Contains}
 use Rattle.bstr.specs.Find.{OccursAt}
-use Rattle.std.proofs.Common.{[], ◌∷◌, inl, inr}
 use Rattle.config_color.specs.Laws.Split.{three_parts}
 use Rattle.config_color.specs.declared.depth.Depth.{Depth}
 use Rattle.config_color.specs.Terminal.{DecidesFirst, EndsIn, HasWord}

@@ -1,8 +1,7 @@
 -- Lemmas for one color over another: which bits are set in the opposites of bits.
-use Rattle.std.proofs.Common.{◌≡◌, ◌≢◌, ℕ, ◌-◌, ◌^◌, ◌<◌, ◌⊎◌, ◌↔◌, inl, inr, Bool, true}
-use Rattle.std.proofs.Common.{false}
-use Rattle.std.proofs.Common.{Option, None, Some, List, [], ◌∷◌, map, refl, sym, ap, ◌∙◌, arith, ◌==◌}
-use Rattle.std.proofs.Common.{bit_and, max, min, w32}
+use Rattle.std.proofs.Common.{◌≡◌, ◌≢◌, ℕ, ◌-◌, ◌^◌, ◌<◌, ◌⊎◌, ◌↔◌, inl, inr, Bool, true, false, Option, None}
+use Rattle.std.proofs.Common.{Some, List, [], ◌∷◌, map, refl, sym, ap, ◌∙◌, arith, ◌==◌, bit_and, max, min}
+use Rattle.std.proofs.Common.{w32}
 use Rattle.std.specs.Prelude.{if◌then◌else◌}
 use Rattle.bitflags.specs.Sets.{without}
 use Rattle.std.proofs.lemmas.Bool.Decides.{Decides-eqb, eqb_tells, leb_tells}

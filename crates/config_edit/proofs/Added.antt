@@ -1,7 +1,7 @@
 -- Texts with one entry more.
-use Rattle.std.proofs.Common.{◌≡◌, ℕ, ◌<◌, Bool, true, false, List, [], ◌∷◌, ◌++◌, Option, Some}
-use Rattle.std.proofs.Common.{None, IsTrue, IfSome, MatchOption, ◌↔◌, length, map, refl, sym, ap, ◌∙◌, subst}
-use Rattle.std.proofs.Common.{append_assoc, append-nil, inl, inr, ◌⊎◌, ◌&&◌, true≢false, arith}
+use Rattle.std.proofs.Common.{◌≡◌, ℕ, ◌<◌, Bool, true, false, List, [], ◌∷◌, ◌++◌, Option, Some, None, IsTrue}
+use Rattle.std.proofs.Common.{IfSome, MatchOption, ◌↔◌, length, map, refl, sym, ap, ◌∙◌, subst, append_assoc}
+use Rattle.std.proofs.Common.{append-nil, inl, inr, ◌⊎◌, ◌&&◌, true≢false, arith}
 use Rattle.std.specs.List.{list_all}
 use Rattle.std.specs.Char.{to_ascii_lowercase, is_ascii_alphabetic}
 use Rattle.std.proofs.lemmas.List.{append_cancel_right}
@@ -24,18 +24,17 @@ use Rattle.config_file.specs.Subsection.{SpellsSubsection}
 use Rattle.config_file.specs.File.{TakesKey, valued}
 use Rattle.config_file.specs.Listing as listing
 use Rattle.config_file.specs.Listing.{IsListedSection}
-use Rattle.config_file.specs.Spelling.{SpellsOptional, SpellsSection}
+use Rattle.config_file.specs.Spelling.{SpellsOptional, SpellsSection, spelled_section, git_spelled}
 use Rattle.config_file.specs.Key.{Key, is_name, stem, dotted}
 use Rattle.config_edit.specs.Edit as spec
-use Rattle.config_edit.specs.Edit.{Content, IsIn, WithoutIn, NoneIn, SameEntry, IsLineEnd, AddsContent, PutsLine, IsNewHeader}
-use Rattle.config_edit.specs.Edit.{entry_line, HasValue, NoCommentNext, IsApart}
+use Rattle.config_edit.specs.Edit.{Content, IsIn, WithoutIn, NoneIn, SameEntry, IsLineEnd, AddsContent}
+use Rattle.config_edit.specs.Edit.{PutsLine, IsNewHeader, entry_line, HasValue, NoCommentNext, IsApart}
+use Rattle.config_edit.specs.Edit.{AreBlank, IsEntry, IsTail, absent}
 use Rattle.config_edit.specs.Reading.{Holds, Ends, Passed, anywhere, at_end, IsRead, IsMade, IsPiece}
 use Rattle.config_edit.specs.Reading.{IsHeaderAt, contents_in, section_after, IsPast, IsEndOf, Closes}
-use Rattle.config_edit.specs.Reading.{line_ends, is_item, IsPlace, IsPlaceSoFar, Placing, ArePlaces, IsPast, ComesBehind}
-use Rattle.config_edit.specs.Reading.{IsAdded, new_line}
-use Rattle.config_edit.specs.Edit.{AreBlank, IsEntry, IsTail, absent}
+use Rattle.config_edit.specs.Reading.{line_ends, is_item, IsPlace, IsPlaceSoFar, Placing, ArePlaces}
+use Rattle.config_edit.specs.Reading.{ComesBehind, IsAdded, new_line}
 use Rattle.config_file.specs.Reading.Spellings.{is_section, is_spellable}
-use Rattle.config_file.specs.Spelling.{spelled_section, git_spelled}
 use Rattle.config_edit.proofs.Pieces.{header_holds, entry_holds, made_passed, blank_no_sign}
 use Rattle.config_file.proofs.LineEnds.{not_none}
 use Rattle.config_file.proofs.SpelledHeaders.{header_spelled, letter_is_key_byte}

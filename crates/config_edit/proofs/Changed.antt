@@ -1,6 +1,6 @@
 -- Values that stand in the place of others.
-use Rattle.std.proofs.Common.{◌≡◌, ◌≢◌, ℕ, ◌+◌, Bool, true, false, List, [], ◌∷◌, ◌++◌, Option, Some, None, refl}
-use Rattle.std.proofs.Common.{sym, ap, ◌∙◌, subst, append_assoc, append-nil, arith, inl, inr, ◌⊎◌, ◌↔◌}
+use Rattle.std.proofs.Common.{◌≡◌, ◌≢◌, ℕ, ◌+◌, Bool, true, false, List, [], ◌∷◌, ◌++◌, Option, Some, None}
+use Rattle.std.proofs.Common.{refl, sym, ap, ◌∙◌, subst, append_assoc, append-nil, arith, inl, inr, ◌⊎◌, ◌↔◌}
 use Rattle.std.proofs.Common.{IsTrue, true≢false}
 use Rattle.std.specs.List.{list_all}
 use Rattle.std.specs.Char.{is_ascii_alphabetic}
@@ -10,17 +10,16 @@ use Rattle.std.proofs.lemmas.List.{append_cancel_right}
 use Rattle.std.proofs.lemmas.List.Folds.{list_all-append}
 use Rattle.config_file.specs.declared.entry.EntryParts.{EntryParts}
 use Rattle.config_edit.specs.declared.piece.Piece.{Piece}
-use Rattle.config_file.specs.Bytes.{is_blank, is_space, is_key_byte, IsAtLineEnd}
+use Rattle.config_file.specs.Bytes.{is_blank, is_space, is_key_byte, IsAtLineEnd, BeginsWithLetter}
 use Rattle.config_file.specs.Runs.{Run, StopsRun}
 use Rattle.config_file.specs.Value as value
 use Rattle.config_file.specs.Value.{Ending, outside, inside, at_backslash, Spells, SpellsValue, itself}
 use Rattle.config_file.specs.Value.{TakesValue, closed, open_end, EndsValue, line_feeds}
 use Rattle.config_file.specs.File.{TakesKey, TakesEntry, alone, valued}
 use Rattle.config_edit.specs.Edit as spec
-use Rattle.config_edit.specs.Edit.{HasValue, IsGap, PutsValue, IsLineEnd, value_bytes}
+use Rattle.config_edit.specs.Edit.{HasValue, IsGap, PutsValue, IsLineEnd, value_bytes, AreBlank, IsTail}
+use Rattle.config_edit.specs.Edit.{IsEntry, IsComment, absent, present}
 use Rattle.config_edit.specs.Reading.{HasHow, IsGiven, IsPutIn, IsSet}
-use Rattle.config_edit.specs.Edit.{AreBlank, IsTail, IsEntry, IsComment, absent, present}
-use Rattle.config_file.specs.Bytes.{BeginsWithLetter}
 use Rattle.config_file.specs.Reading.Spellings.{is_spellable}
 use Rattle.config_file.specs.Spelling.{git_spelled}
 use Rattle.config_file.specs.Views.{value_of}

@@ -9,29 +9,24 @@ use Rattle.config_edit.specs.declared.write.End.{End}
 use Rattle.config_edit.specs.declared.piece.Held.{Held}
 use Rattle.config_edit.specs.declared.piece.Held.TheVariants as held
 use Rattle.config_edit.specs.declared.piece.Piece.{Piece}
-use Rattle.config_file.specs.Bytes.{is_space, is_key_byte, is_comment_byte}
-use Rattle.config_file.specs.Bytes.{IsAtLineEnd}
+use Rattle.config_file.specs.Bytes.{is_space, is_key_byte, is_comment_byte, IsAtLineEnd, BeginsWithLetter}
 use Rattle.config_file.specs.Runs.{StopsRun}
 use Rattle.config_file.specs.Header.{Section}
-use Rattle.config_file.specs.Value.{Ending, outside, at_backslash, Spells, SpellsValue}
-use Rattle.config_file.specs.Value.{EndsValue, line_feeds}
+use Rattle.config_file.specs.Value.{Ending, outside, at_backslash, Spells, SpellsValue, EndsValue, line_feeds}
 use Rattle.config_file.specs.File.{TakesEntry, alone}
-use Rattle.config_edit.specs.Edit.{Content, SameEntry, IsLineEnd}
+use Rattle.config_edit.specs.Edit.{Content, SameEntry, IsLineEnd, AreBlank, IsComment, absent, present}
+use Rattle.config_edit.specs.Edit.{IsTail, IsEntry}
 use Rattle.config_edit.specs.Reading as edit
-use Rattle.config_edit.specs.Reading.{Holds, IsMade, IsPiece, contents_in, section_after}
-use Rattle.config_edit.specs.Reading.{IsOpenHeld, IsEndOf, line_ends, Closes}
-use Rattle.config_edit.specs.Edit.{AreBlank, IsComment, absent, present, IsTail, IsEntry}
-use Rattle.config_file.specs.Bytes.{BeginsWithLetter}
+use Rattle.config_edit.specs.Reading.{Holds, IsMade, IsPiece, contents_in, section_after, IsOpenHeld, IsEndOf}
+use Rattle.config_edit.specs.Reading.{line_ends, Closes}
 use Rattle.std.proofs.lemmas.List.{append_cancel_right}
 use Rattle.config_file.specs.Views.{section_of, value_of}
 use Rattle.config_file.proofs.EachReading.{not_empty}
-use Rattle.config_edit.proofs.Pieces.{blanks_lead, tail_leads, header_holds, entry_holds}
-use Rattle.config_edit.proofs.Pieces.{key_joined}
+use Rattle.config_edit.proofs.Pieces.{blanks_lead, tail_leads, header_holds, entry_holds, key_joined}
 use Rattle.config_edit.proofs.Edits.{holds_join}
 use Rattle.config_edit.proofs.Replaced.{end_holds}
 use Rattle.config_edit.proofs.Changed.{can_hold, spells_before, spells_more, letter_in_front, both_blank}
-use Rattle.config_edit.proofs.Changed.{key_before}
-use Rattle.config_edit.proofs.Changed.{before_rest, before_nothing, how_ends}
+use Rattle.config_edit.proofs.Changed.{key_before, before_rest, before_nothing, how_ends}
 
 -- a line end: blanks, and LF
 pub return_of : (bytes : List ℕ) → IsLineEnd bytes

@@ -1,12 +1,10 @@
 -- The entry that decides after a key was set.
-use Rattle.std.proofs.Common.{ℕ, List, Some, refl}
-use Rattle.std.proofs.Common.{inl, inr}
+use Rattle.std.proofs.Common.{ℕ, List, Some, refl, inl, inr}
 use Rattle.config_file.specs.Key.{Key, IsKey}
 use Rattle.config_edit.specs.Edit as spec
 use Rattle.config_edit.specs.Edit.{Content, HasContents, IsIn, IsOf, HasNone, Without, WithoutIn, NoneIn}
-use Rattle.config_edit.specs.Edit.{HasValue}
-use Rattle.config_edit.specs.Edit.{Replaces, AddsContent, ChangesKey, ReplacesKey, AddsKey, Edits, Sets, ReplacesAll}
-use Rattle.config_edit.specs.Edit.{AddsOne, Decides}
+use Rattle.config_edit.specs.Edit.{HasValue, Replaces, AddsContent, ChangesKey, ReplacesKey, AddsKey, Edits}
+use Rattle.config_edit.specs.Edit.{Sets, ReplacesAll, AddsOne, Decides}
 
 -- where nothing is lost, none is in the section, and so none is of the key
 none_is_of : {key : Key} {old new : List Content} → WithoutIn key old new → HasNone key new

@@ -1,6 +1,6 @@
 -- What edits make of a text, with its mark or without.
-use Rattle.std.proofs.Common.{◌≡◌, ℕ, Bool, false, List, [], ◌∷◌, ◌++◌, Option, None, map, refl}
-use Rattle.std.proofs.Common.{sym, ap, ◌∙◌, subst, append_assoc, inl, inr}
+use Rattle.std.proofs.Common.{◌≡◌, ℕ, Bool, false, List, [], ◌∷◌, ◌++◌, Option, None, map, refl, sym, ap, ◌∙◌}
+use Rattle.std.proofs.Common.{subst, append_assoc, inl, inr}
 use Rattle.config_edit.specs.declared.Change.{Change}
 use Rattle.config_file.specs.File.{Entry, IsFile}
 use Rattle.config_edit.specs.declared.EditError.{EditError}
@@ -10,13 +10,11 @@ use Rattle.config_file.specs.Key.{Key, IsKey, RefusesKey}
 use Rattle.config_file.specs.Spelling.{HasNoHeader}
 use Rattle.config_file.specs.Header.{Section}
 use Rattle.config_edit.specs.Edit.{Content, content, HasContents, Becomes, Changes, ChangesAt, SetsBytes}
-use Rattle.config_edit.specs.Edit.{ChangesKey}
-use Rattle.config_edit.specs.Edit.{AddsKey, PutsLine, ReachesBehind, IsApart}
-use Rattle.config_edit.specs.Edit.{NamesSection, RemovesSection}
-use Rattle.config_edit.specs.Edit.{RenamesSection, NoneIn, LacksSection, LacksHeader, ChangesEntries}
-use Rattle.config_edit.specs.Reading.{IsSplit, IsReplaced, IsAdded, IsCleared, IsEachChanged}
-use Rattle.config_edit.specs.Reading.{Ends, ChangesIn, SetsIn, Comes, ComesBehind}
-use Rattle.config_edit.specs.Reading.{RefusesName}
+use Rattle.config_edit.specs.Edit.{ChangesKey, AddsKey, PutsLine, ReachesBehind, IsApart, NamesSection}
+use Rattle.config_edit.specs.Edit.{RemovesSection, RenamesSection, NoneIn, LacksSection, LacksHeader}
+use Rattle.config_edit.specs.Edit.{ChangesEntries}
+use Rattle.config_edit.specs.Reading.{IsSplit, IsReplaced, IsAdded, IsCleared, IsEachChanged, Ends, ChangesIn}
+use Rattle.config_edit.specs.Reading.{SetsIn, Comes, ComesBehind, RefusesName}
 use Rattle.config_file.proofs.OneKey.{cut_same, not_both}
 use Rattle.config_edit.proofs.Edits.{file_of, text_of, split_joined, reaches, reaches_behind, body_ends}
 use Rattle.config_edit.proofs.Edits.{becomes_marked}

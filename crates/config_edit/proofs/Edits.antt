@@ -15,18 +15,17 @@ use Rattle.config_file.specs.File.{Entry, Reads, IsFile}
 use Rattle.config_file.specs.Key.{Key}
 use Rattle.config_file.specs.Listing.{IsListedSection}
 use Rattle.config_file.specs.Listing as listing
-use Rattle.config_file.specs.Spelling.{IsHeader}
+use Rattle.config_file.specs.Spelling.{IsHeader, spelled_section}
 use Rattle.config_edit.specs.Edit as spec
 use Rattle.config_edit.specs.Edit.{Content, content, HasContents, IsIn, WithoutIn, NoneIn, Renames}
-use Rattle.config_edit.specs.Edit.{RenamesHeader, NamesSection, RenamesSection, Reaches, ReachesBehind, Becomes, Changes}
+use Rattle.config_edit.specs.Edit.{RenamesHeader, NamesSection, RenamesSection, Reaches, ReachesBehind}
+use Rattle.config_edit.specs.Edit.{Becomes, Changes, AreBlank}
 use Rattle.config_edit.specs.Reached.{Leads}
 use Rattle.config_edit.specs.Reached as reached
 use Rattle.config_edit.specs.Reading as edit
-use Rattle.config_edit.specs.Reading.{Holds, Ends, Passed, anywhere, at_end, IsRead, IsMade}
-use Rattle.config_edit.specs.Reading.{IsPiece, IsHeaderAt, IsHeaderHeld, contents_in, section_after, is_item}
-use Rattle.config_edit.specs.Reading.{IsSplit, Corresponds, Renaming, Comes, ComesBehind}
-use Rattle.config_edit.specs.Edit.{AreBlank}
-use Rattle.config_file.specs.Spelling.{spelled_section}
+use Rattle.config_edit.specs.Reading.{Holds, Ends, Passed, anywhere, at_end, IsRead, IsMade, IsPiece}
+use Rattle.config_edit.specs.Reading.{IsHeaderAt, IsHeaderHeld, contents_in, section_after, is_item, IsSplit}
+use Rattle.config_edit.specs.Reading.{Corresponds, Renaming, Comes, ComesBehind}
 use Rattle.config_file.specs.Views.{section_of, value_of}
 use Rattle.config_file.proofs.AddedEntries.{begins_no_mark, begins_unmarked, mark_is}
 use Rattle.config_file.proofs.EachReading.{are_read, not_empty}

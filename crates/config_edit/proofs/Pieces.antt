@@ -1,14 +1,14 @@
 -- Pieces of a text.
-use Rattle.std.proofs.Common.{◌≡◌, ◌≢◌, ℕ, ◌+◌, Bool, true, false, List, [], ◌∷◌, ◌++◌, Option, Some}
-use Rattle.std.proofs.Common.{None, refl, sym, ap, ◌∙◌, subst, append_assoc, append-nil, arith, inl}
-use Rattle.std.proofs.Common.{inr, ◌⊎◌, true≢false}
+use Rattle.std.proofs.Common.{◌≡◌, ◌≢◌, ℕ, ◌+◌, Bool, true, false, List, [], ◌∷◌, ◌++◌, Option, Some, None}
+use Rattle.std.proofs.Common.{refl, sym, ap, ◌∙◌, subst, append_assoc, append-nil, arith, inl, inr, ◌⊎◌}
+use Rattle.std.proofs.Common.{true≢false}
 use Rattle.std.proofs.lemmas.List.{append_cancel_right}
 use Rattle.std.proofs.lemmas.Bool.Decides.{nat_tests}
 use Rattle.config_file.specs.declared.errors.FileError.{FileError}
 use Rattle.config_edit.specs.declared.piece.Held.{Held}
 use Rattle.config_edit.specs.declared.piece.Held.TheVariants as held
-use Rattle.config_file.specs.Bytes.{is_space, is_key_byte, is_name_byte, is_blank, is_comment_sign, is_comment_byte}
-use Rattle.config_file.specs.Bytes.{IsAtLineEnd}
+use Rattle.config_file.specs.Bytes.{is_space, is_key_byte, is_name_byte, is_blank, is_comment_sign}
+use Rattle.config_file.specs.Bytes.{is_comment_byte, IsAtLineEnd, BeginsWithLetter}
 use Rattle.config_file.specs.Runs.{Run, StopsRun}
 use Rattle.config_file.specs.declared.errors.FileFault.{FileFault}
 use Rattle.config_file.specs.Header.{Section, Header, HeaderStops, plain, quoted, closes, fault_at}
@@ -17,11 +17,10 @@ use Rattle.config_file.specs.File as file
 use Rattle.config_file.specs.File.{Entry, entry_at, TakesKey, TakesEntry, EntryStops, alone, valued, Reads}
 use Rattle.config_edit.specs.Reached.{Leads}
 use Rattle.config_edit.specs.Reached as reached
-use Rattle.config_edit.specs.Reading.{Holds, Ends, Passed, anywhere, at_end, IsHeaderAt, IsMade}
-use Rattle.config_edit.specs.Reading.{IsRead, GoesOn, StartsLine, contents_in, section_after}
+use Rattle.config_edit.specs.Reading.{Holds, Ends, Passed, anywhere, at_end, IsHeaderAt, IsMade, IsRead}
+use Rattle.config_edit.specs.Reading.{GoesOn, StartsLine, contents_in, section_after}
 use Rattle.config_edit.specs.Edit.{AreBlank, IsComment, absent, present, IsTail, IsEntry}
 use Rattle.config_file.proofs.LineEnds.{not_none}
-use Rattle.config_file.specs.Bytes.{BeginsWithLetter}
 use Rattle.config_file.proofs.OneReading.{reads_once}
 use Rattle.config_file.proofs.OneRun.{run_same}
 use Rattle.config_file.proofs.Readings.{at_entry, begins_none}

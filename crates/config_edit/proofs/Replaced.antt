@@ -1,7 +1,7 @@
 -- Texts in which an entry has another value.
-use Rattle.std.proofs.Common.{◌≡◌, ℕ, ◌+◌, ◌<◌, Bool, false, List, [], ◌∷◌, ◌++◌, Option, Some}
-use Rattle.std.proofs.Common.{None, is_some, length, refl, sym, ap, ◌∙◌, subst, append_assoc, append-nil, inl}
-use Rattle.std.proofs.Common.{inr, ◌⊎◌, true≢false}
+use Rattle.std.proofs.Common.{◌≡◌, ℕ, ◌+◌, ◌<◌, Bool, false, List, [], ◌∷◌, ◌++◌, Option, Some, None, is_some}
+use Rattle.std.proofs.Common.{length, refl, sym, ap, ◌∙◌, subst, append_assoc, append-nil, inl, inr, ◌⊎◌}
+use Rattle.std.proofs.Common.{true≢false}
 use Rattle.config_file.specs.declared.entry.EntryParts.{EntryParts}
 use Rattle.config_edit.specs.declared.setting.Found.{Found}
 use Rattle.config_edit.specs.declared.piece.Held.{Held}
@@ -16,21 +16,20 @@ use Rattle.config_file.specs.Listing.{IsListed}
 use Rattle.config_file.specs.Key.{Key, HasKey}
 use Rattle.config_edit.specs.Edit as spec
 use Rattle.config_edit.specs.Edit.{Content, content, Becomes, LosesEntry, MayReplace, IsIn, IsOf, Without}
-use Rattle.config_edit.specs.Edit.{HasNone, HasSeveral, Replaces, GivesValue}
-use Rattle.config_edit.specs.Edit.{HasValue}
+use Rattle.config_edit.specs.Edit.{HasNone, HasSeveral, Replaces, GivesValue, HasValue, AreBlank, IsEntry}
+use Rattle.config_edit.specs.Edit.{IsEnd}
 use Rattle.config_edit.specs.Reached as reached
-use Rattle.config_edit.specs.Reading.{Holds, Ends, Passed, anywhere, at_end, IsMade, IsPiece}
-use Rattle.config_edit.specs.Reading.{IsSet, contents_in, section_after, IsListable, IsPast, content_of}
-use Rattle.config_edit.specs.Reading.{IsEntryHeld, IsFound, Replacing, IsReplaced, IsLeft}
-use Rattle.config_edit.specs.Edit.{AreBlank, IsEntry, IsEnd}
-use Rattle.config_edit.specs.Reading.{IsGiven, ChangesIn, Comes, MayLose}
+use Rattle.config_edit.specs.Reading.{Holds, Ends, Passed, anywhere, at_end, IsMade, IsPiece, IsSet}
+use Rattle.config_edit.specs.Reading.{contents_in, section_after, IsListable, IsPast, content_of, IsEntryHeld}
+use Rattle.config_edit.specs.Reading.{IsFound, Replacing, IsReplaced, IsLeft, IsGiven, ChangesIn, Comes}
+use Rattle.config_edit.specs.Reading.{MayLose}
 use Rattle.config_file.specs.Views.{value_of}
 use Rattle.std.proofs.lemmas.List.{append_cancel_right}
 use Rattle.config_file.proofs.EachReading.{not_empty}
 use Rattle.config_edit.proofs.Pieces.{entry_passed, made_passed}
 use Rattle.config_edit.proofs.Edits.{holds_nothing, holds_join, holds_end, passed_holds, passed_join}
-use Rattle.config_edit.proofs.Edits.{passed_ends, ends_once, some_left, joined_more}
-use Rattle.config_edit.proofs.Edits.{header_listed, holds_blanks, comes_blanks}
+use Rattle.config_edit.proofs.Edits.{passed_ends, ends_once, some_left, joined_more, header_listed}
+use Rattle.config_edit.proofs.Edits.{holds_blanks, comes_blanks}
 use Rattle.config_edit.proofs.Becomes.{becomes_before, becomes_more, becomes_end, becomes_piece}
 
 -- texts one after the other

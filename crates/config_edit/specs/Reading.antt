@@ -21,25 +21,24 @@ use Rattle.config_edit.specs.declared.piece.Held.{Held}
 use Rattle.config_edit.specs.declared.piece.Held.TheVariants as held
 use Rattle.config_edit.specs.declared.piece.Piece.{Piece}
 use Rattle.config_file.specs.Bytes.{line_feed, left_bracket, is_blank, is_comment_sign, is_comment_byte}
+use Rattle.config_file.specs.Bytes.{BeginsWithLetter}
 use Rattle.config_edit.specs.Reached.{Leads}
 use Rattle.config_file.specs.Header.{Section, Header}
 use Rattle.config_file.specs.File.{Entry, TakesEntry, Reads, IsFile, after_mark}
 use Rattle.config_edit.specs.declared.EditError.{EditError}
 use Rattle.config_edit.specs.declared.EditError.TheVariants as error
 use Rattle.config_file.specs.Key.{Key, IsKey, RefusesKey, is_name}
-use Rattle.config_file.specs.Spelling.{SpellsSection, HasNoHeader}
+use Rattle.config_file.specs.Spelling.{SpellsSection, HasNoHeader, git_spelled}
 use Rattle.config_file.specs.Value.{outside, at_backslash, SpellsValue, line_feeds}
-use Rattle.config_edit.specs.Edit.{Content, content, WithoutIn, LosesSection, MayRemove, LosesOne, IsHeaderOf, IsBody}
-use Rattle.config_edit.specs.Edit.{IsLostTail, MayUnset, AreBlank, IsTail, IsEntry, IsEnd}
-use Rattle.config_edit.specs.Edit.{LosesEntry, MayReplace, IsIn, IsOf, HasValue, Renames, Without, HasNone, HasNoneAt, IsPlaceOf}
-use Rattle.config_edit.specs.Edit.{HasSeveral, Replaces}
-use Rattle.config_edit.specs.Edit.{RenamesHeader, SameEntry, NoneIn, IsLineEnd, AddsContent, PutsLine, entry_line}
-use Rattle.config_file.specs.Bytes.{BeginsWithLetter}
-use Rattle.config_edit.specs.Edit.{PutsValue, GivesValue, Becomes, IsApart}
+use Rattle.config_edit.specs.Edit.{Content, content, WithoutIn, LosesSection, MayRemove, LosesOne, IsHeaderOf}
+use Rattle.config_edit.specs.Edit.{IsBody, IsLostTail, MayUnset, AreBlank, IsTail, IsEntry, IsEnd, LosesEntry}
+use Rattle.config_edit.specs.Edit.{MayReplace, IsIn, IsOf, HasValue, Renames, Without, HasNone, HasNoneAt}
+use Rattle.config_edit.specs.Edit.{IsPlaceOf, HasSeveral, Replaces, RenamesHeader, SameEntry, NoneIn}
+use Rattle.config_edit.specs.Edit.{IsLineEnd, AddsContent, PutsLine, entry_line, PutsValue, GivesValue}
+use Rattle.config_edit.specs.Edit.{Becomes, IsApart, ChangesEach, ChangesValueTo, MayChange, AreInOrder}
+use Rattle.config_edit.specs.Edit.{name_after, value_bytes, ChangesEntry, WritesComment, IsEndOfLine}
 use Rattle.config_file.specs.Listing.{IsListedSection}
-use Rattle.config_edit.specs.Edit.{ChangesEach, ChangesValueTo, MayChange, AreInOrder, name_after, value_bytes, ChangesEntry, WritesComment, IsEndOfLine}
 use Rattle.config_file.specs.Reading.Spellings.{is_spellable}
-use Rattle.config_file.specs.Spelling.{git_spelled}
 use Rattle.config_file.specs.Views.{section_of, value_of}
 
 -- whatever line it is on and whatever follows it, the text leads from the first section to the second one, with these

@@ -1,7 +1,7 @@
 -- Entries that are added to a configuration file.
 use Rattle.std.proofs.Common.{◌≡◌, ◌≢◌, ℕ, ◌+◌, true, false, List, [], ◌∷◌, ◌++◌, Option, Some, None}
-use Rattle.std.proofs.Common.{option_map, refl, ◌∙◌, subst, append_assoc, arith, inl, inr, ◌⊎◌}
-use Rattle.std.proofs.Common.{◌==◌, ◌&&◌, ◌||◌}
+use Rattle.std.proofs.Common.{option_map, refl, ◌∙◌, subst, append_assoc, arith, inl, inr, ◌⊎◌, ◌==◌, ◌&&◌}
+use Rattle.std.proofs.Common.{◌||◌}
 use Rattle.std.specs.List.{list_all, flat_map}
 use Rattle.std.specs.Char.{is_ascii_alphabetic}
 use Rattle.std.proofs.lemmas.Bool.{cases_Bool, true≢false, and_parts}
@@ -13,12 +13,11 @@ use Rattle.config_file.specs.File as file
 use Rattle.config_file.specs.File.{Entry, TakesKey, TakesEntry, alone, valued, Reads, Begins, marked}
 use Rattle.config_file.specs.File.{part_of_mark, unmarked, after_mark, IsPartOfMark, IsFile}
 use Rattle.config_file.specs.Spelling.{is_continued, HasLineEnd, EndsLine, IsHeader, IsSpelling}
-use Rattle.config_file.specs.Spelling.{SpellsOptional, IsEntry}
-use Rattle.config_file.specs.Spelling.{AddsEntry, IsLine, HasNoHeader, IsNoKey, LacksSpelling, letter_of}
-use Rattle.config_file.specs.Spelling.{after_backslash}
-use Rattle.config_file.specs.Spelling.{spelled_byte, needs_quotes, git_spelled, spelled_section}
-use Rattle.config_file.specs.Reading.Spellings.{is_spellable_or_absent, is_key, spelled_line}
-use Rattle.config_file.specs.Reading.Spellings.{is_section, is_writable}
+use Rattle.config_file.specs.Spelling.{SpellsOptional, IsEntry, AddsEntry, IsLine, HasNoHeader, IsNoKey}
+use Rattle.config_file.specs.Spelling.{LacksSpelling, letter_of, after_backslash, spelled_byte, needs_quotes}
+use Rattle.config_file.specs.Spelling.{git_spelled, spelled_section}
+use Rattle.config_file.specs.Reading.Spellings.{is_spellable_or_absent, is_key, spelled_line, is_section}
+use Rattle.config_file.specs.Reading.Spellings.{is_writable}
 use Rattle.config_file.proofs.LineEnds.{line_feeds_after, line_feeds_none, after_front, ends_line}
 use Rattle.config_file.proofs.LineEnds.{continued_tail, continued_by_last, pair_continued}
 use Rattle.config_file.proofs.Spellings.{git_spelling, not_spelled}

@@ -1,6 +1,5 @@
 -- Settings that are added one by one.
-use Rattle.std.proofs.Common.{◌++◌, ℕ, length, option_map, map, arith, List, [], ◌∷◌, Option}
-use Rattle.std.proofs.Common.{sym}
+use Rattle.std.proofs.Common.{◌++◌, ℕ, length, option_map, map, arith, List, [], ◌∷◌, Option, sym}
 use Rattle.std.specs.List.{AllZip}
 use Rattle.std.proofs.lemmas.List.{append_assoc, append-nil, map-append}
 use Rattle.config_file.specs.declared.errors.FileError.{FileError}

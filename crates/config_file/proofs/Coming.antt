@@ -1,13 +1,12 @@
 -- A loop over the steps of a walk, which adds settings.
-use Rattle.std.proofs.Common.{arith, inl, inr, ◌≡◌, ◌≤◌, ◌++◌, ℕ, Bool, true, false, List, [], ◌∷◌}
-use Rattle.std.proofs.Common.{subst, refl, length, map}
+use Rattle.std.proofs.Common.{arith, inl, inr, ◌≡◌, ◌≤◌, ◌++◌, ℕ, Bool, true, false, List, [], ◌∷◌, subst}
+use Rattle.std.proofs.Common.{refl, length, map}
 use Rattle.std.specs.Prelude.{Ok, Err}
 use Rattle.std.proofs.lemmas.List.{append_assoc, append-nil, map-append}
 use Rattle.std.proofs.lemmas.List.Elements.{Contains-push, Contains-append_left, Contains-append_right}
 use Rattle.std.proofs.lemmas.List.Elements.{Contains-append_cases, Contains-push_cases}
 use Rattle.config_file.specs.File.{Entry}
-use Rattle.config_file.specs.Settings.{AddsEach, AddsWalk, TellsStop, found_item, IsPassed}
-use Rattle.config_file.specs.Settings.{IsEntered, IsStop}
+use Rattle.config_file.specs.Settings.{AddsEach, AddsWalk, TellsStop, found_item, IsPassed, IsEntered, IsStop}
 use Rattle.config_file.specs.Walk.{Content, Item, Stops, Stop, WalksText}
 use Rattle.config_file.specs.Walk as w
 use Rattle.config_file.specs.Reading.Adds.{Comes, AddsNext}

@@ -1,10 +1,8 @@
 -- What conditions on the git directory match.
-use Rattle.std.proofs.Common.{◌≡◌, ℕ, Bool, true, false, List, ◌++◌, codes}
-use Rattle.std.proofs.Common.{IsTrue, ◌↔◌, ◌⊎◌}
+use Rattle.std.proofs.Common.{◌≡◌, ℕ, Bool, true, false, List, ◌++◌, codes, IsTrue, ◌↔◌, ◌⊎◌, inl, inr, rules}
+use Rattle.std.proofs.Common.{refl, [], ◌∷◌, sym, ap, ◌∙◌, Option, None, Some, map}
 use Rattle.std.specs.Prelude.{Result, Ok, Err, IfOk}
 use Rattle.std.specs.declared.alloc.AllocError.{AllocError}
-use Rattle.std.proofs.Common.{inl, inr, rules, refl, [], ◌∷◌, sym, ap, ◌∙◌, Option, None, Some}
-use Rattle.std.proofs.Common.{map}
 use Rattle.std.proofs.lemmas.Option.{same_Some, none-some}
 use Rattle.std.specs.Char.{to_ascii_lowercase}
 use Rattle.std.proofs.lemmas.List.{append_cancel_left}
@@ -13,8 +11,7 @@ use Rattle.config_file.specs.File.{Entry}
 use Rattle.config_file.specs.Header.{Section}
 use Rattle.config_file.specs.Subsection.{SpellsSubsection}
 use Rattle.config_file.specs.Include.{below, anywhere, at_home, IsSameName, MatchesBelow, MatchesDir, near}
-use Rattle.config_file.specs.Include.{other}
-use Rattle.config_file.specs.Include.{SpellsCondition, Holds, IsPathIn, EntryFollows}
+use Rattle.config_file.specs.Include.{other, SpellsCondition, Holds, IsPathIn, EntryFollows}
 use Rattle.config_file.specs.Include as follows
 use Rattle.config_file.specs.Pattern.{MatchesText}
 use Rattle.std.proofs.lemmas.Bool.Decides.{eqb_tells}

@@ -1,7 +1,6 @@
 -- After an `=`, each text has a value or a place at which the reading stops. The same holds after a quote.
 use Rattle.std.proofs.Common.{◌≡◌, ◌≢◌, ℕ, zero, suc, ◌+◌, ◌≤◌, Bool, true, false, not, ◌==◌, List, [], ◌∷◌}
-use Rattle.std.proofs.Common.{None, Result, Ok, Err, length, refl, ap, subst, arith, if◌then◌else◌}
-use Rattle.std.proofs.Common.{inl, inr}
+use Rattle.std.proofs.Common.{None, Result, Ok, Err, length, refl, ap, subst, arith, if◌then◌else◌, inl, inr}
 use Rattle.std.proofs.lemmas.Bool.{cases_Bool, eqb-false}
 use Rattle.config_file.proofs.Pick.{option_cases, equal, both}
 use Rattle.config_file.proofs.Values as values

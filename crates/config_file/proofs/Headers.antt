@@ -2,8 +2,7 @@
 use Rattle.std.proofs.Common.{◌≡◌, ◌≢◌, ℕ, List, [], ◌∷◌, refl}
 use Rattle.config_file.specs.Bytes.{is_name_byte, is_blank}
 use Rattle.config_file.specs.Runs.{Run, StopsRun}
-use Rattle.config_file.specs.Header.{fault_at, BeginsWithout, OpensSubsection}
-use Rattle.config_file.specs.Header.{NameStops, empty, not_closed}
+use Rattle.config_file.specs.Header.{fault_at, BeginsWithout, OpensSubsection, NameStops, empty, not_closed}
 
 pub name_stops_empty : (name after : List ℕ) → after ≢ [] → name ≡ []
     → NameStops name after 0 (fault_at after)

@@ -1,7 +1,6 @@
 -- Settings with a key, searched one by one.
 use Rattle.std.proofs.Common.{◌≡◌, ◌≤◌, ◌<◌, ◌+◌, ◌++◌, ◌∙◌, ◌↔◌, ◌⊎◌, inl, inr, ℕ, Bool, true, false, List}
-use Rattle.std.proofs.Common.{[], ◌∷◌, Some, length, take, get_or}
-use Rattle.std.proofs.Common.{IsTrue, sym, subst, ap, arith}
+use Rattle.std.proofs.Common.{[], ◌∷◌, Some, length, take, get_or, IsTrue, sym, subst, ap, arith}
 use Rattle.std.specs.List.{slice_get, AllWithin}
 use Rattle.std.proofs.lemmas.Option.{get_or_from_slice_get, slice_get-get_or}
 use Rattle.std.proofs.lemmas.List.{take_all}

@@ -1,8 +1,7 @@
 -- At the start of a text there is at most one entry or place at which the reading stops.
 use Rattle.std.proofs.Common.{◌≡◌, ◌∙◌, ◌==◌, ℕ, false, List, [], ◌∷◌, Option, Some, None, Result, Ok, Err}
-use Rattle.std.proofs.Common.{sym, ap, take, drop, if◌then◌else◌}
+use Rattle.std.proofs.Common.{sym, ap, take, drop, if◌then◌else◌, arith, inl, inr}
 use Rattle.std.specs.List.{prefix_len}
-use Rattle.std.proofs.Common.{arith, inl, inr}
 use Rattle.config_file.proofs.OneRun.{run_only}
 use Rattle.config_file.proofs.Runs.{run_split}
 use Rattle.config_file.proofs.OneValue as one_value

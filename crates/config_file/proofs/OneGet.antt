@@ -1,6 +1,6 @@
 -- A list of settings has one answer for a key.
-use Rattle.std.proofs.Common.{slice_index_or, ◌≡◌, ℕ, List, Option, None, Some, refl, sym}
-use Rattle.std.proofs.Common.{ap, ◌∙◌, subst, arith, inl, inr}
+use Rattle.std.proofs.Common.{slice_index_or, ◌≡◌, ℕ, List, Option, None, Some, refl, sym, ap, ◌∙◌, subst}
+use Rattle.std.proofs.Common.{arith, inl, inr}
 use Rattle.std.specs.Prelude.{Result, Ok, Err}
 use Rattle.std.specs.List.{slice_get}
 use Rattle.std.proofs.lemmas.Option.{same_Some, get_or_from_slice_get, slice_get_within}
@@ -8,8 +8,7 @@ use Rattle.std.proofs.lemmas.Bool.{cases_order}
 use Rattle.config_text.specs.declared.errors.Fault.{Fault}
 use Rattle.config_file.specs.Key.{Key, HasKey, IsKey, RefusesKey}
 use Rattle.config_file.specs.Settings.{IsLast, LacksKey, IsUnset, IsDecided, Gets, HasOneReading}
-use Rattle.config_file.specs.Settings.{IsSameAnswer}
-use Rattle.config_file.specs.Settings.{text_of, value_text}
+use Rattle.config_file.specs.Settings.{IsSameAnswer, text_of, value_text}
 use Rattle.config_file.specs.Views.{entry_of}
 use Rattle.config_file.specs.declared.key.KeyError.{KeyError}
 use Rattle.config_file.specs.declared.settings.Setting.{Setting}

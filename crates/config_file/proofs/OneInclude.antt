@@ -1,7 +1,7 @@
 -- An entry of a file aims at one file at most: its section and its value spell a text, and a text has one
 -- meaning.
-use Rattle.std.proofs.Common.{◌≡◌, ℕ, true, false, List, [], ◌++◌, codes, Option, None, Some}
-use Rattle.std.proofs.Common.{refl, sym, ap, ◌∙◌, subst, arith}
+use Rattle.std.proofs.Common.{◌≡◌, ℕ, true, false, List, [], ◌++◌, codes, Option, None, Some, refl, sym, ap}
+use Rattle.std.proofs.Common.{◌∙◌, subst, arith}
 use Rattle.std.proofs.lemmas.Bool.{true≢false}
 use Rattle.std.proofs.lemmas.Option.{same_Some, none-some}
 use Rattle.std.proofs.lemmas.List.{append_cancel_left}
@@ -12,8 +12,7 @@ use Rattle.config_file.specs.Value.{SpellsValue}
 use Rattle.config_file.specs.Listing.{IsListed, alone, in_section, plain, quoted}
 use Rattle.config_file.specs.Include as include
 use Rattle.config_file.specs.Include.{SpellsCondition, Holds, IsSameCondition, IsPathIn, EntryFollows}
-use Rattle.config_file.specs.Include.{IsGitDir}
-use Rattle.config_file.specs.Include.{IsOnBranch, HasUrl}
+use Rattle.config_file.specs.Include.{IsGitDir, IsOnBranch, HasUrl}
 use Rattle.config_file.specs.Path as path
 use Rattle.config_file.specs.Path.{Expands, BeginsUnknown, IsIncludedName, is_rest}
 use Rattle.config_file.specs.Walk.{IsNameOf, SpellsName, SpellsUnknown}

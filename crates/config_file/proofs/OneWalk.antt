@@ -1,15 +1,13 @@
 -- If each name has at most one content, a text has at most one walk.
 use Rattle.std.proofs.Common.{◌≡◌, ℕ, zero, suc, ◌+◌, Bool, true, false, List, [], ◌∷◌, ◌++◌, Option, None}
-use Rattle.std.proofs.Common.{Some, map}
-use Rattle.std.proofs.Common.{refl, sym, ap, ◌∙◌, arith, ◌⊎◌, inl, inr}
+use Rattle.std.proofs.Common.{Some, map, refl, sym, ap, ◌∙◌, arith, ◌⊎◌, inl, inr}
 use Rattle.std.proofs.lemmas.List.{append_assoc, append-nil}
 use Rattle.std.proofs.lemmas.List.Elements.{All-head, All-tail}
 use Rattle.std.specs.List.{All}
 use Rattle.config_file.specs.File.{Entry, IsFile}
 use Rattle.config_file.specs.Walk as walk
 use Rattle.config_file.specs.Walk.{Content, Text, Missing, Unreadable, Stop, Line, NoValue, Unknown, NotRead}
-use Rattle.config_file.specs.Walk.{TooDeep}
-use Rattle.config_file.specs.Walk.{Item, Found, Stops, Walks, WalksText, HasOneContent}
+use Rattle.config_file.specs.Walk.{TooDeep, Item, Found, Stops, Walks, WalksText, HasOneContent}
 use Rattle.config_file.specs.declared.errors.FileError.{FileError}
 use Rattle.config_file.specs.declared.walk.Known.{Known}
 use Rattle.config_file.specs.declared.walk.FilePlace.{FilePlace}

@@ -1,16 +1,15 @@
 -- What patterns match, by how they begin.
-use Rattle.std.proofs.Common.{◌≡◌, ◌≢◌, ℕ, Bool, true, false, List, [], ◌∷◌, refl, sym, ap, ◌∙◌, arith}
-use Rattle.std.proofs.Common.{inl, inr, ◌⊎◌, ◌==◌, length, ◌<◌, ◌↔◌, IsTrue}
+use Rattle.std.proofs.Common.{◌≡◌, ◌≢◌, ℕ, Bool, true, false, List, [], ◌∷◌, refl, sym, ap, ◌∙◌, arith, inl}
+use Rattle.std.proofs.Common.{inr, ◌⊎◌, ◌==◌, length, ◌<◌, ◌↔◌, IsTrue}
 use Rattle.std.proofs.lemmas.Bool.{true≢false}
 use Rattle.config_file.specs.Runs.{Run}
 use Rattle.config_file.specs.Bytes.{left_bracket, backslash}
 use Rattle.config_file.specs.Set.{slash, folded, StandsForByte}
 use Rattle.config_file.proofs.OneRun.{run_only}
 use Rattle.config_file.proofs.Sets.{set_shortens}
-use Rattle.config_file.specs.Pattern.{star, is_star, stands_for, crosses, is_passed}
-use Rattle.config_file.specs.Pattern.{Item, byte, escaped, set, Passes, Matches, MatchesLater, MatchesStars}
-use Rattle.config_file.specs.Pattern.{MatchesNoDirectory, LacksStar}
-use Rattle.config_file.specs.Pattern.{ends, one, stars, no_directory, no_more, passes}
+use Rattle.config_file.specs.Pattern.{star, is_star, stands_for, crosses, is_passed, Item, byte, escaped, set}
+use Rattle.config_file.specs.Pattern.{Passes, Matches, MatchesLater, MatchesStars, MatchesNoDirectory}
+use Rattle.config_file.specs.Pattern.{LacksStar, ends, one, stars, no_directory, no_more, passes}
 
 -- ---- items
 

@@ -1,8 +1,7 @@
 -- A choice by two tests, and the cases of a test and of an option.
 use Rattle.std.proofs.Common.{◌≡◌, ◌==◌, ℕ, Bool, true, false, if◌then◌else◌, ◌⊎◌, inl, inr, refl, Option}
-use Rattle.std.proofs.Common.{Some, None, eqb-true, ◌≢◌, arith}
+use Rattle.std.proofs.Common.{Some, None, eqb-true, ◌≢◌, arith, List, [], ◌∷◌}
 use Rattle.std.proofs.lemmas.Bool.Decides.{nat_tests}
-use Rattle.std.proofs.Common.{List, [], ◌∷◌}
 use Rattle.std.proofs.lemmas.Bool.{eqb-false}
 use Rattle.config_file.specs.Bytes.{IsAtLineEnd}
 

@@ -1,7 +1,6 @@
 -- What is picked from a list, one by one.
 use Rattle.std.proofs.Common.{◌≡◌, ◌≤◌, ◌<◌, ◌+◌, ◌++◌, ◌∙◌, ◌↔◌, ◌⊎◌, inl, inr, ℕ, Bool, true, false, List}
-use Rattle.std.proofs.Common.{[], ◌∷◌, Some, length, take}
-use Rattle.std.proofs.Common.{IsTrue, ap, arith, zero, suc, map, Contains}
+use Rattle.std.proofs.Common.{[], ◌∷◌, Some, length, take, IsTrue, ap, arith, zero, suc, map, Contains}
 use Rattle.std.proofs.lemmas.List.{map-append, take_all, get_or-map, length-map}
 use Rattle.std.proofs.lemmas.List.Elements.{Contains-push_cases}
 use Rattle.std.specs.List.{slice_get}

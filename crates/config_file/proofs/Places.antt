@@ -1,12 +1,11 @@
 -- How far a pattern has matched a text, and why an earlier star need not be tried again.
-use Rattle.std.proofs.Common.{◌≡◌, ◌≢◌, ℕ, Bool, true, false, ◌==◌, List, [], ◌∷◌, refl, sym, ap, ◌∙◌}
-use Rattle.std.proofs.Common.{arith, drop, eqb-true, inl, inr, ◌↔◌, length, ◌≤◌, ◌<◌}
+use Rattle.std.proofs.Common.{◌≡◌, ◌≢◌, ℕ, Bool, true, false, ◌==◌, List, [], ◌∷◌, refl, sym, ap, ◌∙◌, arith}
+use Rattle.std.proofs.Common.{drop, eqb-true, inl, inr, ◌↔◌, length, ◌≤◌, ◌<◌}
 use Rattle.std.proofs.lemmas.Bool.{true≢false}
 use Rattle.config_file.specs.Runs.{Run}
 use Rattle.config_file.specs.Set.{slash}
-use Rattle.config_file.specs.Pattern.{star, is_star, stands_for, crosses, is_passed}
-use Rattle.config_file.specs.Pattern.{Item, byte, Passes, Matches, MatchesLater, MatchesStars}
-use Rattle.config_file.specs.Pattern.{MatchesNoDirectory, LacksStar}
+use Rattle.config_file.specs.Pattern.{star, is_star, stands_for, crosses, is_passed, Item, byte, Passes}
+use Rattle.config_file.specs.Pattern.{Matches, MatchesLater, MatchesStars, MatchesNoDirectory, LacksStar}
 use Rattle.config_file.specs.Pattern.{ends, one, no_more, passes}
 use Rattle.config_file.specs.Reading.Places.{Further, next, beyond, FromHere, Follows, size, MatchesDeep}
 use Rattle.config_file.specs.Reading.Places.{FindsStar, FindsDeep}
@@ -14,8 +13,8 @@ use Rattle.config_file.specs.declared.pattern.Found.{Found}
 use Rattle.config_file.specs.declared.pattern.FilePlace.{FilePlace}
 use Rattle.config_file.specs.declared.pattern.Found.TheVariants.{Whole, Nothing, Stars}
 use Rattle.config_file.proofs.Bounds.{run_shortens}
-use Rattle.config_file.proofs.Patterns.{no_star_item, empty_no_item, one_inv, end_inv}
-use Rattle.config_file.proofs.Patterns.{stars_inv, stars_no_directory, stars_later, later_here}
+use Rattle.config_file.proofs.Patterns.{no_star_item, empty_no_item, one_inv, end_inv, stars_inv}
+use Rattle.config_file.proofs.Patterns.{stars_no_directory, stars_later, later_here}
 use Rattle.config_file.proofs.Same.{item_same}
 
 -- ---- tests

@@ -1,7 +1,6 @@
 -- The subsections of settings, found one by one.
-use Rattle.std.proofs.Common.{◌≡◌, ◌≢◌, ◌<◌, ◌+◌, ◌++◌, ◌∙◌, ◌⊎◌, inl, inr, ℕ, List, [], ◌∷◌}
-use Rattle.std.proofs.Common.{Option, Some, None, length, take, map, option_map, sym, subst, ap, MatchOption}
-use Rattle.std.proofs.Common.{◌≤◌, bytes_eq}
+use Rattle.std.proofs.Common.{◌≡◌, ◌≢◌, ◌<◌, ◌+◌, ◌++◌, ◌∙◌, ◌⊎◌, inl, inr, ℕ, List, [], ◌∷◌, Option, Some}
+use Rattle.std.proofs.Common.{None, length, take, map, option_map, sym, subst, ap, MatchOption, ◌≤◌, bytes_eq}
 use Rattle.std.specs.Char.{to_ascii_lowercase}
 use Rattle.std.specs.List.{slice_get}
 use Rattle.std.proofs.lemmas.List.{take_all}

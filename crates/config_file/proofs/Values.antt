@@ -1,7 +1,7 @@
 -- The scan of a value.
 use Rattle.std.proofs.Common.{◌≡◌, ◌≢◌, ℕ, ◌+◌, Bool, true, false, not, List, [], ◌∷◌, ◌++◌, Option, Some}
-use Rattle.std.proofs.Common.{None, is_some, refl, sym, ap, ◌∙◌, append_assoc, append-nil, arith, inl}
-use Rattle.std.proofs.Common.{inr, ◌⊎◌, ◌==◌}
+use Rattle.std.proofs.Common.{None, is_some, refl, sym, ap, ◌∙◌, append_assoc, append-nil, arith, inl, inr}
+use Rattle.std.proofs.Common.{◌⊎◌, ◌==◌}
 use Rattle.std.proofs.lemmas.List.{append_cancel_right}
 use Rattle.std.specs.List.{list_all}
 use Rattle.std.proofs.lemmas.Bool.{cases_Bool, and_parts}
@@ -11,13 +11,11 @@ use Rattle.config_file.specs.Bytes.{is_plain, is_blank, is_comment_sign, is_comm
 use Rattle.config_file.specs.Header.{fault_at}
 use Rattle.config_file.specs.Value.{Ending, outside, inside, at_backslash, Spells, itself, ends_outside}
 use Rattle.config_file.specs.Value.{ends_inside, ends_at_backslash, quote, escaped, continued}
-use Rattle.config_file.specs.Value.{continued_after_return, blank, plain, IsPart, EndsValue}
-use Rattle.config_file.specs.Value.{IsNoEscape, line_feeds, escape}
-use Rattle.config_file.specs.Value.{TakesValue, closed, open_end, ValueStops, nul, unclosed}
-use Rattle.config_file.specs.Value.{unclosed_open_end, no_escape}
+use Rattle.config_file.specs.Value.{continued_after_return, blank, plain, IsPart, EndsValue, IsNoEscape}
+use Rattle.config_file.specs.Value.{line_feeds, escape, TakesValue, closed, open_end, ValueStops, nul}
+use Rattle.config_file.specs.Value.{unclosed, unclosed_open_end, no_escape}
 use Rattle.config_file.specs.Reading.Scans.{PassedValue, OnOneLine, EndsScan, Escapes, letter, line}
-use Rattle.config_file.specs.Reading.Scans.{line_after_return}
-use Rattle.config_file.specs.Reading.Scans.{goes_on, is_plain_byte}
+use Rattle.config_file.specs.Reading.Scans.{line_after_return, goes_on, is_plain_byte}
 use Rattle.config_file.proofs.LineEnds.{line_feeds_append, line_feeds_none, all_more}
 
 pub passed_none : (text : List ℕ) → PassedValue text false text

@@ -1,7 +1,6 @@
 -- The entries that include a file, and the conditions on which they are followed.
 use Rattle.std.specs.Prelude.{◌≡◌, ℕ, Bool, true, false, if◌then◌else◌, ◌==◌, ◌&&◌, List, ◌++◌, ◌∷◌, codes}
-use Rattle.std.specs.Prelude.{nat_eq}
-use Rattle.std.specs.Prelude.{Option, None, Some, ◌⊎◌, ⊤, map, option_copied, option_map}
+use Rattle.std.specs.Prelude.{nat_eq, Option, None, Some, ◌⊎◌, ⊤, map, option_copied, option_map}
 use Rattle.std.specs.Char.{to_ascii_lowercase}
 use Rattle.std.specs.List.{Any, ends_with, starts_with}
 use Rattle.config_text.specs.Bytes.{LacksFront}

@@ -2,9 +2,8 @@
 use Rattle.std.specs.Prelude.{◌≡◌, ◌≢◌, ℕ, Bool, true, false, not, if◌then◌else◌, ◌||◌, ◌&&◌, ◌==◌, List, []}
 use Rattle.std.specs.Prelude.{◌∷◌, ◌++◌, codes}
 use Rattle.std.specs.Char.{to_ascii_lowercase, to_ascii_uppercase, is_ascii_alphanumeric, is_ascii_alphabetic}
-use Rattle.std.specs.Char.{is_ascii_digit}
-use Rattle.std.specs.Char.{is_ascii_control, is_ascii_graphic, is_ascii_punctuation, is_ascii_hexdigit}
-use Rattle.std.specs.Char.{is_ascii_lowercase, is_ascii_uppercase}
+use Rattle.std.specs.Char.{is_ascii_digit, is_ascii_control, is_ascii_graphic, is_ascii_punctuation}
+use Rattle.std.specs.Char.{is_ascii_hexdigit, is_ascii_lowercase, is_ascii_uppercase}
 use Rattle.std.specs.Int.{is_in_range}
 use Rattle.config_file.specs.Bytes.{space, line_feed, dash, right_bracket, backslash, is_blank, is_space}
 use Rattle.config_file.specs.Runs.{Run}

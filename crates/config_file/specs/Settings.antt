@@ -1,8 +1,7 @@
 -- Settings: the entries of files in order, each with the text of its value for a reader.
 use denote.Ref.{Bor}
 use Rattle.std.specs.Prelude.{◌≡◌, ◌≢◌, Contains, Bool, true, false, ℕ, List, ◌∷◌, [], ◌++◌, ◌+◌, length}
-use Rattle.std.specs.Prelude.{Option, Some, None, map, codes, option_map}
-use Rattle.std.specs.Prelude.{Result, Ok, Err, ⊤}
+use Rattle.std.specs.Prelude.{Option, Some, None, map, codes, option_map, Result, Ok, Err, ⊤}
 use Rattle.std.specs.Char.{to_ascii_lowercase}
 use Rattle.std.specs.Cow.{cow_slice_items}
 use Rattle.std.specs.Fmt.{decimal}
@@ -27,8 +26,7 @@ use Rattle.config_file.specs.Shown.{quoted}
 use Rattle.config_file.specs.Value.{Ending, SpellsValue}
 use Rattle.config_file.specs.Views.{entry_of}
 use Rattle.config_file.specs.Walk.{Content, Text, Missing, Unreadable, Stop, Line, NoValue, Unknown, NotRead}
-use Rattle.config_file.specs.Walk.{TooDeep}
-use Rattle.config_file.specs.Walk.{Item, Found, Stops, WalksText}
+use Rattle.config_file.specs.Walk.{TooDeep, Item, Found, Stops, WalksText}
 use Rattle.config_file.specs.declared.errors.FileError.{FileError}
 use Rattle.config_file.specs.declared.files.Content.{Content as Given}
 use Rattle.config_file.specs.declared.files.Content.TheVariants as given

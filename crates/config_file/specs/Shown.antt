@@ -1,7 +1,6 @@
 -- Texts as messages show them.
 use Rattle.std.specs.Prelude.{ℕ, zero, suc, ◌-◌, ◌/◌, ◌%◌, ◌==◌, ◌&&◌, ◌||◌, nat_lt, List, [], ◌∷◌, ◌++◌}
-use Rattle.std.specs.Prelude.{Bool}
-use Rattle.std.specs.Prelude.{take, flat_map, encode_utf8, Option, Some, None, if◌then◌else◌}
+use Rattle.std.specs.Prelude.{Bool, take, flat_map, encode_utf8, Option, Some, None, if◌then◌else◌}
 use Rattle.std.specs.Char.{digit_char}
 use Rattle.bstr.specs.Utf8.{decoded}
 use Rattle.config_file.specs.Bytes.{backslash, double_quote}

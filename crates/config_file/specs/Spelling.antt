@@ -4,8 +4,7 @@ use Rattle.std.specs.Prelude.{Option, Some, None, ⊤, ◌⊎◌}
 use Rattle.std.specs.Char.{is_ascii_alphabetic}
 use Rattle.std.specs.List.{list_any, flat_map}
 use Rattle.config_file.specs.Bytes.{tab, line_feed, carriage_return, space, double_quote, backslash}
-use Rattle.config_file.specs.Bytes.{equals_sign}
-use Rattle.config_file.specs.Bytes.{left_bracket, right_bracket, is_comment_sign, is_key_byte}
+use Rattle.config_file.specs.Bytes.{equals_sign, left_bracket, right_bracket, is_comment_sign, is_key_byte}
 use Rattle.config_file.specs.Runs.{Run}
 use Rattle.config_file.specs.Subsection.{SpellsSubsection}
 use Rattle.config_file.specs.Header.{Section, Header}

@@ -4,8 +4,8 @@
 //!
 //! The rules are those of Git 2.55. The lines of the text are written as [`crate::spelling`] writes them, so
 //! that the readers of files read them like those of any other file. Their numbers mean nothing to a user.
-ghost use Rattle.std.specs.Prelude.{◌≡◌, ◌++◌, ◌∷◌, [], ℕ, List, false, ◌≤◌, ◌<◌, ◌^◌, length};
-ghost use Rattle.std.specs.Prelude.{Some, IsTrue, ◌↔◌, IfOk, MatchOption, MatchResult, option_copied};
+ghost use Rattle.std.specs.Prelude.{◌≡◌, ◌++◌, ◌∷◌, [], ℕ, List, false, ◌≤◌, ◌<◌, ◌^◌, length, Some, IsTrue};
+ghost use Rattle.std.specs.Prelude.{◌↔◌, IfOk, MatchOption, MatchResult, option_copied};
 ghost use Rattle.std.specs.List.{list_all, prefix_len};
 ghost use Rattle.std.specs.Char.{is_ascii_digit};
 ghost use Rattle.std.specs.Str.Parse.{AllDigits, IsNumeral, digits_value};
@@ -15,8 +15,7 @@ ghost use Rattle.config_file.specs.Command.{AddsSettings, SettingsOf, RefusesSet
 ghost use Rattle.config_file.specs.Command.{Accepts, Counts, TakesQuoted, Quotes, KeyValue, key_value};
 ghost use Rattle.config_file.specs.Command.{is_no_equals, value_after, is_c_space, in_64_bits};
 ghost use Rattle.config_file.specs.Reading.Commands.{parameter_of, text_of, NextPiece, Lacks};
-ghost use Rattle.config_file.specs.Reading.Commands.{PushesParameter};
-ghost use Rattle.config_file.specs.Reading.Commands.{CutsSign, GoesOn, Limits, ShowsKey};
+ghost use Rattle.config_file.specs.Reading.Commands.{PushesParameter, CutsSign, GoesOn, Limits, ShowsKey};
 ghost use Rattle.config_file.specs.Runs.{Run};
 
 use crate::bytes::{after_byte, is_blank, split};

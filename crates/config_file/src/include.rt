@@ -1,11 +1,10 @@
 //! The entries that include a file: their conditions.
-ghost use Rattle.std.specs.Prelude.{◌↔◌, ◌≡◌, ℕ, List, IsTrue, IfOk, OnOk, option_map, option_copied};
-ghost use Rattle.std.specs.Prelude.{map, codes};
+ghost use Rattle.std.specs.Prelude.{◌↔◌, ◌≡◌, ℕ, List, IsTrue, IfOk, OnOk, option_map, option_copied, map};
+ghost use Rattle.std.specs.Prelude.{codes};
 ghost use Rattle.std.specs.Char.{to_ascii_lowercase};
 ghost use Rattle.config_file.specs.Include as spec;
 ghost use Rattle.config_file.specs.Include.{SpellsCondition, IsGitDir, IsOnBranch, HasUrl, Holds};
-ghost use Rattle.config_file.specs.Include.{EntryFollows};
-ghost use Rattle.config_file.specs.Include.{IsSameName, MatchesBelow, MatchesDir, IsRemoteUrl};
+ghost use Rattle.config_file.specs.Include.{EntryFollows, IsSameName, MatchesBelow, MatchesDir, IsRemoteUrl};
 ghost use Rattle.config_file.specs.Listing.{IsListed};
 ghost use Rattle.config_file.specs.Views.{entry_of};
 

@@ -1,16 +1,15 @@
 //! The settings of several files, in order. The last entry of a key decides its value.
-ghost use Rattle.std.specs.Prelude.{◌≡◌, List, ℕ, [], Some, MatchOption, IfOk, OnOk, IsUtf8};
-ghost use Rattle.std.specs.Prelude.{◌≢◌, Contains, MatchBool, map, option_map};
+ghost use Rattle.std.specs.Prelude.{◌≡◌, List, ℕ, [], Some, MatchOption, IfOk, OnOk, IsUtf8, ◌≢◌, Contains};
+ghost use Rattle.std.specs.Prelude.{MatchBool, map, option_map};
 ghost use Rattle.std.specs.Option.{ForSome};
 ghost use Rattle.config_path.specs.Interpolation.{known_in};
 ghost use Rattle.config_file.specs.Settings.{place_shown, text_shown, refused_shown, get_error_shown};
 ghost use Rattle.config_file.specs.Settings.{add_error_shown, include_fault_text, value_text, text_of};
-ghost use Rattle.config_file.specs.Settings.{path_bytes};
-ghost use Rattle.config_file.specs.Settings.{IsSettingOf, IsRefusalOf, ReadsSetting, IsPathOfSetting};
-ghost use Rattle.config_file.specs.Settings.{AddsFile, AddsWalk, AddsInScope, IsNext};
-ghost use Rattle.config_file.specs.Reading.Adds.{AddsEntry, AddsNext, AddsOnce, Decides};
+ghost use Rattle.config_file.specs.Settings.{path_bytes, IsSettingOf, IsRefusalOf, ReadsSetting};
+ghost use Rattle.config_file.specs.Settings.{IsPathOfSetting, AddsFile, AddsWalk, AddsInScope, IsNext};
 ghost use Rattle.config_file.specs.Settings.{AreListed, LacksKey, IsLast, AllWithKey, Gets, GetsWord};
 ghost use Rattle.config_file.specs.Settings.{HasSubsection, LacksSubsection, AreSubsections};
+ghost use Rattle.config_file.specs.Reading.Adds.{AddsEntry, AddsNext, AddsOnce, Decides};
 ghost use Rattle.config_file.specs.declared.scope.Scope.TheVariants.{Command};
 ghost use Rattle.config_file.specs.KeyView.{key_of};
 ghost use Rattle.config_file.specs.Listing.{IsListed};

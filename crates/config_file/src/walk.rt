@@ -1,8 +1,7 @@
 //! The walk over the entries of a file and of the files that it includes, in Git's order. Its caller pulls
 //! it, and opens the files.
 ghost use Rattle.std.specs.Prelude.{◌≡◌, ◌≤◌, ◌++◌, ◌∷◌, ℕ, List, [], IfOk, MatchOption, length, true, false};
-ghost use Rattle.std.specs.Prelude.{option_copied};
-ghost use Rattle.std.specs.Prelude.{map, codes};
+ghost use Rattle.std.specs.Prelude.{option_copied, map, codes};
 ghost use Rattle.std.specs.Char.{to_ascii_lowercase};
 ghost use Rattle.config_file.specs.Path.{BeginsUnknown};
 ghost use Rattle.config_file.specs.Views.{entry_of};

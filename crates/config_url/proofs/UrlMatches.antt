@@ -1,15 +1,14 @@
 -- Patterns of URLs: paths, and what fits.
 use Rattle.std.proofs.Common.{◌≡◌, ◌≢◌, ◌+◌, ◌++◌, ◌∙◌, ◌↔◌, inl, inr, ◌==◌, not, ℕ, Bool, true, false, List}
-use Rattle.std.proofs.Common.{[], ◌∷◌, Some, None, Option, length, IsTrue, eqb-true}
-use Rattle.std.proofs.Common.{refl, sym, subst, ap, arith, Result, Ok, Err, IfOk, MatchOption}
+use Rattle.std.proofs.Common.{[], ◌∷◌, Some, None, Option, length, IsTrue, eqb-true, refl, sym, subst, ap}
+use Rattle.std.proofs.Common.{arith, Result, Ok, Err, IfOk, MatchOption}
 use Rattle.std.specs.Prelude.{unwrap_or, is_some}
 use Rattle.std.specs.List.{AllZip}
 use Rattle.std.proofs.lemmas.Bool.Decides.{nat_tests}
 use Rattle.std.proofs.lemmas.List.{length-append}
 use Rattle.config_file.specs.Runs.{Run}
 use Rattle.config_url.specs.Url.{closed, SplitUrl, Url, url, IsPort, IsDefault, IsUser, IsForm, IsUrl}
-use Rattle.config_url.specs.Url.{IsWritten}
-use Rattle.config_url.specs.Url.{Matches, AllowsUser, StandsFor, pieces, fit, fit_of}
+use Rattle.config_url.specs.Url.{IsWritten, Matches, AllowsUser, StandsFor, pieces, fit, fit_of}
 use Rattle.config_file.proofs.OneRun.{run_only}
 use Rattle.config_url.proofs.UrlNormal.{normal_only}
 use Rattle.config_url.proofs.UrlParts.{written_only}

@@ -1,14 +1,13 @@
 -- Paths of URLs, name by name.
 use Rattle.std.proofs.Common.{◌≡◌, ◌≢◌, ◌≤◌, ◌+◌, ◌++◌, ◌∙◌, ◌↔◌, ◌==◌, ℕ, true, false, List, [], ◌∷◌, Some}
-use Rattle.std.proofs.Common.{None, Option, length, take, drop, map}
-use Rattle.std.proofs.Common.{refl, sym, subst, ap}
+use Rattle.std.proofs.Common.{None, Option, length, take, drop, map, refl, sym, subst, ap}
 use Rattle.std.specs.Prelude.{codes, flat_map, reverse}
 use Rattle.std.specs.Borrow.{Bor}
 use Rattle.std.proofs.lemmas.Bool.{true≢false}
 use Rattle.std.proofs.lemmas.List.{take_all, reverse-append, reverse-reverse}
 use Rattle.config_file.specs.Runs.{Run}
-use Rattle.config_url.specs.Url.{IsNormal, IsPath, is_path_byte, without_root}
-use Rattle.config_url.specs.Url.{Leads, ends, stays, drops, keeps, pieces, joined_names}
+use Rattle.config_url.specs.Url.{IsNormal, IsPath, is_path_byte, without_root, Leads, ends, stays, drops}
+use Rattle.config_url.specs.Url.{keeps, pieces, joined_names}
 use Rattle.config_url.specs.Reading.Urls.{CutsPiece, Steps}
 use Rattle.config_file.proofs.OneRun.{run_only}
 use Rattle.config_url.proofs.UrlNormal.{normal_only}

@@ -1,7 +1,6 @@
 -- The pieces of texts, and runs that end at a separator.
 use Rattle.std.proofs.Common.{◌≡◌, ◌≢◌, ◌++◌, ◌∙◌, ℕ, Bool, true, false, List, [], ◌∷◌, Some, None, take}
-use Rattle.std.proofs.Common.{drop, not, ◌==◌}
-use Rattle.std.proofs.Common.{refl, sym, subst, ap, arith}
+use Rattle.std.proofs.Common.{drop, not, ◌==◌, refl, sym, subst, ap, arith}
 use Rattle.std.specs.List.{list_all, prefix_len}
 use Rattle.std.proofs.lemmas.Bool.{and_parts, eq-eqb}
 use Rattle.std.proofs.lemmas.Bool.Decides.{nat_tests}

@@ -2,8 +2,7 @@
 -- matches, and the setting that decides for a URL.
 use Rattle.std.specs.Prelude.{◌≡◌, ◌≢◌, ◌⊎◌, ◌<◌, ◌+◌, ◌-◌, ◌*◌, ◌/◌, ◌%◌, ℕ, Bool, true, false, not, is_some}
 use Rattle.std.specs.Prelude.{◌&&◌, ◌||◌, ◌==◌, nat_le, nat_lt, if◌then◌else◌, List, [], ◌∷◌, ◌++◌, length}
-use Rattle.std.specs.Prelude.{map, flat_map}
-use Rattle.std.specs.Prelude.{Option, Some, None, unwrap_or, codes, ⊤}
+use Rattle.std.specs.Prelude.{map, flat_map, Option, Some, None, unwrap_or, codes, ⊤}
 use Rattle.std.specs.Char.{to_ascii_lowercase, is_ascii_alphabetic, is_ascii_alphanumeric, is_ascii_digit}
 use Rattle.std.specs.List.{list_all, list_any, AllZip}
 use Rattle.config_file.specs.Bytes.{dot, right_bracket}

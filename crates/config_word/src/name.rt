@@ -1,8 +1,7 @@
 //! The names of colors.
-ghost use Rattle.std.specs.Prelude.{◌≡◌, ◌+◌, ◌<◌, ◌≤◌, ◌∷◌, [], ◌++◌, length, Some};
+ghost use Rattle.std.specs.Prelude.{◌≡◌, ◌+◌, ◌<◌, ◌≤◌, ◌∷◌, [], ◌++◌, length, Some, MatchOption};
 ghost use Rattle.std.specs.Char.{digit_char};
 ghost use Rattle.config_text.specs.declared.errors.Fault.TheVariants as faults;
-ghost use Rattle.std.specs.Prelude.{MatchOption};
 ghost use Rattle.std.specs.List.{slice_get};
 ghost use Rattle.config_word.specs.declared.name.Name.TheVariants as names;
 ghost use Rattle.config_word.specs.Name.{NameText, CanonicalName, HasNumbers, name_shown, word_names};

@@ -1,23 +1,22 @@
 -- A run as a whole: how it goes on after a read, how it ends, and what holds if it stops with an error.
 use Rattle.std.proofs.Common.{◌≡◌, ◌≢◌, ◌==◌, ℕ, ◌<◌, List, [], ◌∷◌, ◌++◌, ◌&&◌, length, take, Bool, true}
-use Rattle.std.proofs.Common.{false, Option, refl, sym, ap, ◌∙◌, append_assoc}
-use Rattle.std.proofs.Common.{append-nil, subst}
+use Rattle.std.proofs.Common.{false, Option, refl, sym, ap, ◌∙◌, append_assoc, append-nil, subst}
 use Rattle.std.specs.Io.KnownBytes.{Appends, Consumes, Keeps, IsAtEnd}
 use Rattle.gix_config_value.specs.declared.program.RunError.{RunError}
 use Rattle.gix_config_value.specs.declared.program.RunError.TheVariants.{Read, Write, Memory}
 use Rattle.gix_config_value.specs.Answers.{Outcome, LineOutcome, outcome_text, is_accepted}
 use Rattle.gix_config_value.specs.Answers.{IsBeginningOfAnswers, AnswersAllBut, AnswersLines, Completes}
 use Rattle.gix_config_value.specs.Answers.{Fails}
-use Rattle.gix_config_value.specs.Reading.Steps.{AnswersLast, MayMiss, OutputState}
-use Rattle.gix_config_value.specs.Reading.Steps.{SendsBytes, SendsAnswer, FailsSending, RunState, Advances}
-use Rattle.gix_config_value.specs.Reading.Steps.{FailsWithin, EndsAnswered, EndsEarly, start, HasAnswered}
+use Rattle.gix_config_value.specs.Reading.Steps.{AnswersLast, MayMiss, OutputState, SendsBytes, SendsAnswer}
+use Rattle.gix_config_value.specs.Reading.Steps.{FailsSending, RunState, Advances, FailsWithin, EndsAnswered}
+use Rattle.gix_config_value.specs.Reading.Steps.{EndsEarly, start, HasAnswered}
 use Rattle.std.proofs.KnownBytes.{Keeps-refl, Consumes-nil, Consumes-trans, Consumes-kept}
 use Rattle.std.specs.Borrow.{GName}
 use Rattle.gix_config_value.proofs.StepLemmas.{CompletesLines-trans, takes_any, last_any, Answers-last}
 use Rattle.gix_config_value.proofs.StepLemmas.{begins, all_but, cut_of, answered_of, SendsBytes-trans}
-use Rattle.gix_config_value.proofs.StepLemmas.{SendsBytes-all}
-use Rattle.gix_config_value.proofs.StepLemmas.{FailsSending-after, Advances-nil, Advances-trans}
-use Rattle.gix_config_value.proofs.StepLemmas.{Advances-sent, FailsWithin-after, FailsWithin-whole}
+use Rattle.gix_config_value.proofs.StepLemmas.{SendsBytes-all, FailsSending-after, Advances-nil}
+use Rattle.gix_config_value.proofs.StepLemmas.{Advances-trans, Advances-sent, FailsWithin-after}
+use Rattle.gix_config_value.proofs.StepLemmas.{FailsWithin-whole}
 
 -- ---- the end of the input
 

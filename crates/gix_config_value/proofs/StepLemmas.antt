@@ -1,7 +1,7 @@
 -- How the steps of a run compose; and every line has an outcome, and every input an output.
-use Rattle.std.proofs.Common.{length, Result, Ok, Err, IfErr, ◌+◌, take, drop, take-append-drop, ◌≡◌, ℕ}
-use Rattle.std.proofs.Common.{inl, inr, Some, None, List, [], ◌∷◌, ◌++◌, ◌&&◌, Bool, true, Option}
-use Rattle.std.proofs.Common.{refl, sym, ap, ◌∙◌, append_assoc, append-nil, subst}
+use Rattle.std.proofs.Common.{length, Result, Ok, Err, IfErr, ◌+◌, take, drop, take-append-drop, ◌≡◌, ℕ, inl}
+use Rattle.std.proofs.Common.{inr, Some, None, List, [], ◌∷◌, ◌++◌, ◌&&◌, Bool, true, Option, refl, sym, ap}
+use Rattle.std.proofs.Common.{◌∙◌, append_assoc, append-nil, subst}
 use Rattle.std.specs.List.{AllByRecursion, AllZip}
 use Rattle.std.specs.Result.{IsErrAnd}
 use Rattle.std.specs.Io.KnownBytes.{Appends}
@@ -19,8 +19,7 @@ use Rattle.gix_config_value.specs.Answers.Outcome.{accepted, refused, unknown_ki
 use Rattle.config_text.specs.Bytes.{line_feed}
 use Rattle.gix_config_value.specs.Answers.{Outcome, ended, IsUnbroken, line_head, line_value, LineOutcome}
 use Rattle.gix_config_value.specs.Answers.{outcome_text, is_accepted, Answers, IsBeginningOfAnswers, IsCut}
-use Rattle.gix_config_value.specs.Answers.{LinesAnswered}
-use Rattle.gix_config_value.specs.Answers.{AnswersAllBut}
+use Rattle.gix_config_value.specs.Answers.{LinesAnswered, AnswersAllBut}
 use Rattle.gix_config_value.specs.Reading.Steps.{CompletesLines, AnswersLast, CutsLine, OutputState}
 use Rattle.gix_config_value.specs.Reading.Steps.{SendsBytes, SendsAnswer, AppendsAnswer, FailsSending}
 use Rattle.gix_config_value.specs.Reading.Steps.{RunState, with_more, Advances, FailsWithin, AnswersUpTo}

@@ -1,6 +1,5 @@
 -- The mark of a path is cut off in one way.
-use Rattle.std.proofs.Common.{◌≡◌, ◌≤◌, ◌∙◌, ℕ, List, length, drop, length-drop}
-use Rattle.std.proofs.Common.{sym, ap, arith}
+use Rattle.std.proofs.Common.{◌≡◌, ◌≤◌, ◌∙◌, ℕ, List, length, drop, length-drop, sym, ap, arith}
 use Rattle.gix_config_value_c.specs.Numbers.{flag_number}
 use Rattle.gix_config_value_c.specs.Paths.{CutsMark}
 use Rattle.gix_config_value_c.proofs.OnePath.{mark_once}

@@ -1,8 +1,7 @@
 //! The settings of a command, as the text of a configuration file.
 ghost use Rattle.std.specs.Prelude.{◌≡◌};
 ghost use Rattle.gix_config_value_c.specs.Commands.{CountsInto, PutsParameters, PutsSetting};
-ghost use Rattle.gix_config_value_c.specs.Commands.{command_status as status_of};
-ghost use Rattle.gix_config_value_c.specs.Commands.{key_status as key_status_of};
+ghost use Rattle.gix_config_value_c.specs.Commands.{command_status as status_of, key_status as key_status_of};
 ghost use Rattle.gix_config_value_c.specs.Numbers.{status_number};
 
 use crate::buffer::put;

@@ -4,8 +4,7 @@ ghost use Rattle.config_edit.specs.Edit.{AddsOne, HasNone, HasSeveral, Never, Re
 ghost use Rattle.config_edit.specs.Edit.{RefusesRenaming, RemovesSection, RenamesSection, ReplacesAll, Sets};
 ghost use Rattle.config_edit.specs.Edit.{Unsets, UnsetsAll};
 ghost use Rattle.gix_config_value_c.specs.Buffers.{PutsText};
-ghost use Rattle.gix_config_value_c.specs.Edits.{EditsInto, told_line};
-ghost use Rattle.gix_config_value_c.specs.Edits.{edit_status as status_of};
+ghost use Rattle.gix_config_value_c.specs.Edits.{EditsInto, told_line, edit_status as status_of};
 ghost use Rattle.gix_config_value_c.specs.Numbers.{status_number};
 
 use crate::buffer::put;

@@ -6,13 +6,12 @@ ghost use Rattle.std.specs.Option.{option_map_or};
 ghost use Rattle.config_file.specs.Views.{entry_of};
 ghost use Rattle.config_file.specs.declared.walk.Frame.{Frame as held_frame};
 ghost use Rattle.gix_config_value_c.specs.Files.{ended};
-ghost use Rattle.gix_config_value_c.specs.Numbers.{status_number};
+ghost use Rattle.gix_config_value_c.specs.Numbers.{status_number, flag_number};
 ghost use Rattle.gix_config_value_c.specs.Paths.{HasBadFlag};
 ghost use Rattle.gix_config_value_c.specs.Walks.{HoldsSection, HoldsFrame, AreTextsOf, EntersInto, NextInto};
-ghost use Rattle.gix_config_value_c.specs.Numbers.{flag_number};
+ghost use Rattle.gix_config_value_c.specs.Walks.{AreUrls, flags, IsKnown, name_in, include_status};
+ghost use Rattle.gix_config_value_c.specs.Walks.{step_struct, line_struct};
 ghost use Rattle.gix_config_value_c.specs.Values.{IsNoValue};
-ghost use Rattle.gix_config_value_c.specs.Walks.{AreUrls};
-ghost use Rattle.gix_config_value_c.specs.Walks.{flags, IsKnown, name_in, include_status, step_struct, line_struct};
 
 use crate::files::{Setting, fault_status, push_text, push_value};
 use crate::numbers::{flag_of, role_number};

@@ -1,8 +1,8 @@
 -- The laws of color texts: how joined and split words are read, how names are placed, and that a text has at
 -- most one color.
-use Rattle.std.proofs.Common.{◌≡◌, ◌≢◌, take, drop, ℕ, ◌+◌, ◌≤◌, ◌⊎◌, inl, inr, List, []}
-use Rattle.std.proofs.Common.{◌∷◌, ◌++◌, length, Option, Some, None, refl, sym, ap, ◌∙◌, append_assoc}
-use Rattle.std.proofs.Common.{arith, zero, suc, ◌-◌, length-take-le}
+use Rattle.std.proofs.Common.{◌≡◌, ◌≢◌, take, drop, ℕ, ◌+◌, ◌≤◌, ◌⊎◌, inl, inr, List, [], ◌∷◌, ◌++◌, length}
+use Rattle.std.proofs.Common.{Option, Some, None, refl, sym, ap, ◌∙◌, append_assoc, arith, zero, suc, ◌-◌}
+use Rattle.std.proofs.Common.{length-take-le}
 use Rattle.std.specs.Int.RustNames.{bit_or}
 use Rattle.std.specs.Int.Bits.{or_zero_l, or_zero_r}
 use Rattle.std.proofs.lemmas.Bool.Decides.{eqb_tells}
@@ -20,8 +20,7 @@ use Rattle.config_color.specs.Reading.Color.{read_from, color_of}
 use Rattle.std.specs.Option.{option_and_then, option_to_list}
 use Rattle.config_word.specs.Name.{NameText}
 use Rattle.config_text.specs.Value.{IsAccepted, IsRefused, Reads}
-use Rattle.config_text.specs.Laws.Value.{IsValueOf}
-use Rattle.config_text.specs.Laws.Value.{decided_by, one_value_by, read_by, reads_by}
+use Rattle.config_text.specs.Laws.Value.{IsValueOf, decided_by, one_value_by, read_by, reads_by}
 use Rattle.config_word.specs.Item.{ItemText}
 use Rattle.config_word.specs.Laws.Item.{item-law, item_one_value, long_refused, not_both}
 use Rattle.config_color.specs.Words.{piece}

@@ -1,8 +1,8 @@
 -- The laws of `Value` for colors: each canonical text has a color, a color has at most one canonical text,
 -- and it is the text that the color is shown as.
-use Rattle.std.proofs.Common.{◌≡◌, ◌≢◌, ℕ, zero, suc, ◌+◌, ◌^◌, ◌<◌, ◌≤◌, ◌↔◌, ◌⊎◌, inl, inr, ◌&&◌}
-use Rattle.std.proofs.Common.{Bool, true, false, ◌==◌, List, [], ◌∷◌, ◌++◌, length, map, filter, Option, Some}
-use Rattle.std.proofs.Common.{None, bit_and, refl, sym, ap, ◌∙◌, length-append, arith}
+use Rattle.std.proofs.Common.{◌≡◌, ◌≢◌, ℕ, zero, suc, ◌+◌, ◌^◌, ◌<◌, ◌≤◌, ◌↔◌, ◌⊎◌, inl, inr, ◌&&◌, Bool}
+use Rattle.std.proofs.Common.{true, false, ◌==◌, List, [], ◌∷◌, ◌++◌, length, map, filter, Option, Some, None}
+use Rattle.std.proofs.Common.{bit_and, refl, sym, ap, ◌∙◌, length-append, arith}
 use Rattle.std.specs.Bool.{⊤, IsTrue}
 use Rattle.std.specs.Option.{option_eq, is_some}
 use Rattle.std.specs.Prelude.{not}
@@ -39,8 +39,7 @@ use Rattle.config_word.specs.Laws.Name.{name_shown_is_text, name_has_text}
 use Rattle.config_text.specs.OneOf.{OneOf}
 use Rattle.config_text.specs.Laws.OneOf.{all-one}
 use Rattle.config_text.specs.Laws.Value.{IsShown, canonical_reads_by, one_text_by}
-use Rattle.config_color.specs.Laws.PlainWords.{is_plain_word, words_spaced, chosen_plain}
-use Rattle.config_color.specs.Laws.PlainWords.{names_plain}
+use Rattle.config_color.specs.Laws.PlainWords.{is_plain_word, words_spaced, chosen_plain, names_plain}
 use Rattle.config_text.specs.Value.{IsAccepted, HasText, IsTextOf}
 use Rattle.config_color.specs.Reading.Split.{words}
 

@@ -13,9 +13,8 @@ use Rattle.config_word.specs.declared.item.Item.{Item}
 use Rattle.config_word.specs.declared.item.Item.TheVariants as items
 use Rattle.config_color.specs.Color.{no_color, part_shown}
 use Rattle.config_color.specs.Space.{Space}
-use Rattle.config_color.specs.Reading.Split.{IsWithoutSpace}
+use Rattle.config_color.specs.Reading.Split.{IsWithoutSpace, words}
 use Rattle.config_word.specs.Reading.Item.{item_of, plus_sign}
-use Rattle.config_color.specs.Reading.Split.{words}
 
 -- the item that a word means
 unfoldable pub word_item : List ℕ → Option Item

@@ -1,7 +1,7 @@
 -- `integer_of` computes the grammar of integers, and a text has at most one product.
-use Rattle.std.proofs.Common.{◌≡◌, refl, sym, ap, ◌∙◌, subst, arith, ℕ, ℤ, ◌<◌, ◌≤◌, ◌⊎◌, inl, inr}
-use Rattle.std.proofs.Common.{Bool, true, false, cond, List, [], ◌∷◌, ◌++◌, append_assoc, get_or, drop}
-use Rattle.std.proofs.Common.{Option, Some, None}
+use Rattle.std.proofs.Common.{◌≡◌, refl, sym, ap, ◌∙◌, subst, arith, ℕ, ℤ, ◌<◌, ◌≤◌, ◌⊎◌, inl, inr, Bool}
+use Rattle.std.proofs.Common.{true, false, cond, List, [], ◌∷◌, ◌++◌, append_assoc, get_or, drop, Option}
+use Rattle.std.proofs.Common.{Some, None}
 use Rattle.std.proofs.lemmas.Bool.{eqb-true}
 use Rattle.std.proofs.lemmas.Bool.Decides.{nat_tests}
 use Rattle.std.proofs.lemmas.Int.{ints}
@@ -13,16 +13,14 @@ use Rattle.config_text.specs.declared.errors.Fault.{Fault}
 use Rattle.config_text.specs.declared.errors.Fault.TheVariants as faults
 use Rattle.config_text.specs.Numerals.{IsInI64}
 use Rattle.config_text.specs.Value.{IsAccepted, IsRefused}
-use Rattle.config_text.specs.Laws.Value.{IsValueOf}
+use Rattle.config_text.specs.Laws.Value.{IsValueOf, one_value_by, decided_by}
 use Rattle.config_text.specs.Laws.Numerals.{range_told}
-use Rattle.config_text.specs.Laws.Value.{one_value_by, decided_by}
 use Rattle.config_integer.specs.declared.integer.Integer.{Integer}
 use Rattle.config_integer.specs.Integer.{Magnitude, SignedText, IntegerText, product, ProductText}
 use Rattle.config_integer.specs.Integer.{ProductInRange, IntegerFault}
 use Rattle.config_integer.specs.Integer.SignedText.{plain, plus, minus}
 use Rattle.config_integer.specs.Reading.Integer.{magnitude_of, sign_and_rest, largest, with_sign}
-use Rattle.config_integer.specs.Reading.Integer.{signed_integer}
-use Rattle.config_integer.specs.Reading.Integer.{integer_after, integer_of}
+use Rattle.config_integer.specs.Reading.Integer.{signed_integer, integer_after, integer_of}
 use Rattle.config_integer.specs.Laws.Magnitude.{magnitude_found, magnitude_derived, magnitude_first}
 
 -- ---- signs

@@ -7,9 +7,8 @@ use Rattle.std.proofs.lemmas.Option.{none-some, same_Some}
 use Rattle.config_integer.specs.declared.suffix.Suffix.{Suffix}
 use Rattle.config_integer.specs.declared.suffix.Suffix.TheVariants.{Kibi, Mebi, Gibi}
 use Rattle.config_text.specs.Value.{IsAccepted, IsRefused, HasText, IsTextOf}
-use Rattle.config_text.specs.Laws.Value.{IsValueOf}
+use Rattle.config_text.specs.Laws.Value.{IsValueOf, text_told, Told, either_told}
 use Rattle.config_text.specs.OneOf.{OneOf}
-use Rattle.config_text.specs.Laws.Value.{text_told, Told, either_told}
 use Rattle.config_text.specs.Laws.OneOf.{decided_among}
 use Rattle.config_integer.specs.Suffix.{SuffixText, CanonicalSuffix, suffix_shown}
 use Rattle.config_integer.specs.Reading.Integer.{unit_of, suffix_of}

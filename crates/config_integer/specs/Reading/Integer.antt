@@ -1,7 +1,6 @@
 -- A function that reads integer texts in one pass over the bytes, as the code does.
-use Rattle.std.specs.Prelude.{ℕ, ◌+◌, ◌*◌, nat_lt, nat_le, ◌==◌, ℤ, pos, neg_ℤ}
-use Rattle.std.specs.Prelude.{Bool, true, false, cond, ◌||◌, List, [], ◌∷◌, drop, slice_index, Option, Some}
-use Rattle.std.specs.Prelude.{None}
+use Rattle.std.specs.Prelude.{ℕ, ◌+◌, ◌*◌, nat_lt, nat_le, ◌==◌, ℤ, pos, neg_ℤ, Bool, true, false, cond, ◌||◌}
+use Rattle.std.specs.Prelude.{List, [], ◌∷◌, drop, slice_index, Option, Some, None}
 use Rattle.std.specs.Option.{option_map}
 use Rattle.std.specs.Char.{digit_value}
 use Rattle.config_integer.specs.declared.integer.Integer.{Integer}

@@ -24,8 +24,7 @@ use Rattle.config_text.specs.OneOf.{OneOf}
 use Rattle.config_text.specs.Laws.OneOf.{all-one, OneOf-map, OneOf-from_map, OneOf-front, OneOf-back}
 use Rattle.config_text.specs.Laws.OneOf.{OneOf-from_append, OneOf-flat_map, OneOf-from_flat_map}
 use Rattle.config_text.specs.Value.{Reads}
-use Rattle.config_text.specs.Laws.Value.{IsValueOf}
-use Rattle.config_text.specs.Laws.Value.{one_value_by, reads_by}
+use Rattle.config_text.specs.Laws.Value.{IsValueOf, one_value_by, reads_by}
 use Rattle.config_word.specs.Item.{ItemText}
 use Rattle.config_word.specs.Reading.Item.{WordRow, name_row, attribute_item, attribute_rows, word_table}
 use Rattle.config_word.specs.Reading.Item.{fits, found, known, of_length, decimal_from, palette_of}

@@ -1,7 +1,6 @@
 use Rattle.std.proofs.Common.{◌∙◌, ap}
-use Rattle.std.proofs.lemmas.Result.{IfOk-weaker}
+use Rattle.std.proofs.lemmas.Result.{IfOk-weaker, on_err_weaker}
 use Rattle.config_checks.specs.Rows.{rows_of}
-use Rattle.std.proofs.lemmas.Result.{on_err_weaker}
 use Rattle.config_checks.proofs.CheckLemmas.{fails_starting, fails_telling, completes}
 use Rattle.config_checks.proofs.check.check_file.Goals as goal
 

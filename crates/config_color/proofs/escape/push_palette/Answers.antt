@@ -1,8 +1,7 @@
 use Rattle.std.proofs.Common.{◌+◌, ◌-◌, ◌<◌, ◌≤◌, arith}
 use Rattle.std.proofs.lemmas.Bool.Decides.{nat_tests}
 use Rattle.config_color.proofs.EscapeLemmas.{continues_within, of_two, of_three, one_more, room_after}
-use Rattle.config_color.proofs.EscapeLemmas.{two_codes}
-use Rattle.config_color.proofs.EscapeLemmas.{palette_basic, palette_bright, palette_other}
+use Rattle.config_color.proofs.EscapeLemmas.{two_codes, palette_basic, palette_bright, palette_other}
 use Rattle.config_color.proofs.escape.push_palette.Goals as goal
 
 pub push_number-requires-3 : goal.push_number-requires-3

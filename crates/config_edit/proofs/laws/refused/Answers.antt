@@ -1,6 +1,5 @@
 use Rattle.std.proofs.Common.{◌≡◌, ℕ, ◌+◌, ◌-◌, ◌<◌, List, [], ◌∷◌, ◌++◌, Option, Some, None, codes, length}
-use Rattle.std.proofs.Common.{drop, get_or, refl, ap, ◌∙◌}
-use Rattle.std.proofs.Common.{arith, inr, length-append}
+use Rattle.std.proofs.Common.{drop, get_or, refl, ap, ◌∙◌, arith, inr, length-append}
 use Rattle.std.proofs.Math.Seq.{drop-append_seam}
 use Rattle.config_file.proofs.EachReading.{each_is_read}
 use Rattle.config_file.specs.Header.{Section}

@@ -1,18 +1,15 @@
-use Rattle.std.proofs.Common.{◌≡◌, ◌++◌, ◌∙◌, sym, ap}
-use Rattle.std.proofs.Common.{true≢false, append-nil}
+use Rattle.std.proofs.Common.{◌≡◌, ◌++◌, ◌∙◌, sym, ap, true≢false, append-nil}
 use Rattle.config_file.specs.KeyView.{key_of}
 use Rattle.config_edit.specs.Reading.{Clearing, ClearsPiece}
 use Rattle.config_edit.proofs.Edits.{header_listed, some_left}
 use Rattle.config_edit.proofs.Cleared.{clearing_begins, at_header, then_header, piece_clears, left_is_cut}
-use Rattle.config_edit.proofs.Cleared.{still_lost}
-use Rattle.config_edit.proofs.Cleared.{nothing_lost, kept_ends, lost_ends, none_cleared}
+use Rattle.config_edit.proofs.Cleared.{still_lost, nothing_lost, kept_ends, lost_ends, none_cleared}
 use Rattle.config_edit.proofs.sections.without_section.Goals as goal
 use Rattle.config_edit.proofs.sections.without_section.Goals.{in-Header+in_ok-in_line, in_default-held}
 use Rattle.config_edit.proofs.sections.without_section.Goals.{then-is_some}
 use Rattle.config_edit.proofs.sections.without_section.Goals.{else-is_some+in_ok-extend_from_slice}
 use Rattle.config_edit.proofs.sections.without_section.Goals.{in-Some-lost+in_ok-push_between}
-use Rattle.config_edit.proofs.sections.without_section.Goals.{in_default-lost, then-is_found}
-use Rattle.config_edit.proofs.sections.without_section.Goals.{else-is_found}
+use Rattle.config_edit.proofs.sections.without_section.Goals.{in_default-lost, then-is_found, else-is_found}
 
 pub pieces-init : goal.pieces-init
 pieces-init c =

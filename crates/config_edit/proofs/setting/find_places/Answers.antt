@@ -1,5 +1,4 @@
-use Rattle.std.proofs.Common.{◌≡◌, ◌⊎◌, ◌∙◌, inl, inr, sym, false, IsTrue, ◌&&◌, true}
-use Rattle.std.proofs.Common.{◌↔◌}
+use Rattle.std.proofs.Common.{◌≡◌, ◌⊎◌, ◌∙◌, inl, inr, sym, false, IsTrue, ◌&&◌, true, ◌↔◌}
 use Rattle.config_edit.specs.declared.setting.Places.{Places}
 use Rattle.config_file.specs.KeyView.{key_of}
 use Rattle.config_file.specs.declared.section.Section as code

@@ -1,12 +1,10 @@
-use Rattle.std.proofs.Common.{◌≡◌, ◌++◌, ◌∙◌, ap, sym}
-use Rattle.std.proofs.Common.{option_map, is_some, true≢false, append_assoc}
+use Rattle.std.proofs.Common.{◌≡◌, ◌++◌, ◌∙◌, ap, sym, option_map, is_some, true≢false, append_assoc}
 use Rattle.config_edit.specs.declared.setting.Found.{Found}
 use Rattle.config_file.specs.KeyView.{key_of}
 use Rattle.config_file.specs.Views.{section_of}
 use Rattle.config_edit.specs.Reading.{IsEntryHeld}
-use Rattle.config_edit.proofs.Replaced.{replacing_begins, replacing_passes, replacing_finds}
-use Rattle.config_edit.proofs.Replaced.{looked_past, no_entry_held, no_header_after}
-use Rattle.config_edit.proofs.Replaced.{none_replaced, one_replaced}
+use Rattle.config_edit.proofs.Replaced.{replacing_begins, replacing_passes, replacing_finds, looked_past}
+use Rattle.config_edit.proofs.Replaced.{no_entry_held, no_header_after, none_replaced, one_replaced}
 use Rattle.config_edit.proofs.Edits.{is_none_left, is_some_left, not_read}
 use Rattle.config_edit.proofs.setting.replace.Goals as goal
 use Rattle.config_edit.proofs.setting.replace.Goals.{in-Header}

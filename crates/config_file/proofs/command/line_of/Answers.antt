@@ -1,7 +1,6 @@
-use Rattle.std.proofs.Common.{◌∙◌, sym}
+use Rattle.std.proofs.Common.{◌∙◌, sym, option_copied}
 use Rattle.config_file.specs.Command.{key_value}
 use Rattle.config_file.specs.KeyView.{key_of}
-use Rattle.std.proofs.Common.{option_copied}
 use Rattle.std.proofs.lemmas.Bool.{or_from}
 use Rattle.config_file.proofs.Commands.{adds_one, never_refused, passed_on, memory_of_setting}
 use Rattle.config_file.proofs.command.line_of.Goals as goal

@@ -1,5 +1,4 @@
-use Rattle.std.proofs.Common.{◌≡◌, ℕ, List, ◌∷◌, Result, Ok, Err, Option, Some, None, IfOk, MatchOption}
-use Rattle.std.proofs.Common.{refl}
+use Rattle.std.proofs.Common.{◌≡◌, ℕ, List, ◌∷◌, Result, Ok, Err, Option, Some, None, IfOk, MatchOption, refl}
 use Rattle.std.specs.declared.alloc.AllocError.{AllocError}
 use Rattle.config_file.specs.declared.command.Quoted.{Quoted}
 use Rattle.config_file.specs.Command.{Quotes, TakesQuoted, opens}

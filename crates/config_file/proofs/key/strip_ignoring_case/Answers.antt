@@ -1,6 +1,5 @@
-use Rattle.std.proofs.Common.{rules, length}
+use Rattle.std.proofs.Common.{rules, length, sym}
 use Rattle.std.proofs.lemmas.List.{take-append-drop}
-use Rattle.std.proofs.Common.{sym}
 use Rattle.config_file.proofs.Keys.{goes_on_lower, lacks_lower}
 use Rattle.config_file.proofs.key.strip_ignoring_case.Goals as goal
 

@@ -1,5 +1,4 @@
-use Rattle.config_file.proofs.Sets.{goes_on_first, goes_on_found, goes_on_here, not_closed}
-use Rattle.config_file.proofs.Sets.{closing_after}
+use Rattle.config_file.proofs.Sets.{goes_on_first, goes_on_found, goes_on_here, not_closed, closing_after}
 use Rattle.config_file.proofs.set.members.Goals as goal
 
 pub members-init : goal.members-init

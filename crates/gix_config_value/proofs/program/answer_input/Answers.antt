@@ -2,8 +2,7 @@ use Rattle.std.proofs.Common.{arith, ◌∙◌}
 use Rattle.std.proofs.lemmas.Result.{IfErr-weaker, IfOk-weaker}
 use Rattle.gix_config_value.proofs.StepLemmas.{passed_on}
 use Rattle.gix_config_value.proofs.RunLemmas.{HasAnswered-start, HasAnswered-on, Fails-read, Fails-limit}
-use Rattle.gix_config_value.proofs.RunLemmas.{Fails-on, Fails-unsent, Completes-end, Fails-end}
-use Rattle.gix_config_value.proofs.RunLemmas.{at_the_end}
+use Rattle.gix_config_value.proofs.RunLemmas.{Fails-on, Fails-unsent, Completes-end, Fails-end, at_the_end}
 use Rattle.gix_config_value.proofs.program.answer_input.Goals as goal
 
 pub loop-init : goal.loop-init

@@ -1,8 +1,7 @@
 use Rattle.std.proofs.Common.{arith, rules, length, ap, ◌∙◌, []}
 use Rattle.config_file.specs.File as file
 use Rattle.config_file.proofs.Bounds.{header_shortens, header_stops_soon, run_shortens}
-use Rattle.config_file.proofs.Readings.{refused_as, no_item}
-use Rattle.config_file.proofs.Readings.{none_left, gives_from, begins_none}
+use Rattle.config_file.proofs.Readings.{refused_as, no_item, none_left, gives_from, begins_none}
 use Rattle.config_file.proofs.reader.EntriesIterator.next.Goals as goal
 
 pub items-preserved-then-is_blank : goal.items-preserved-then-is_blank
