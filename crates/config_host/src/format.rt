@@ -233,7 +233,7 @@ impl<'t> Format<'t> {
     }
 
     /// Takes what the file of the repository says, or that of a work tree of its own.
-    fn take_file(
+    pub fn take_file(
         &mut self,
         disk: &Disk<'t>,
         file: &[u8],
@@ -280,13 +280,4 @@ pub(crate) fn format_in<'t>(disk: &Disk<'t>, file: &[u8]) -> Result<Format<'t>, 
         Some(version) if 0 <= version => Ok(format),
         _ => Ok(Format::new()),
     }
-}
-
-/// Takes what the file of a work tree says of it.
-pub(crate) fn take_own_file<'t>(
-    disk: &Disk<'t>,
-    format: &mut Format<'t>,
-    file: &[u8],
-) -> Result<(), HereError<'t>> {
-    format.take_file(disk, file, true)
 }

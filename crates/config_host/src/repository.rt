@@ -3,7 +3,7 @@
 use crate::disk::{Disk, ReadError};
 use crate::environment::{kept_variable, variable};
 use crate::error::{HereError, Refusal};
-use crate::format::{Format, format_in, take_own_file};
+use crate::format::{Format, format_in};
 use crate::head::branch_of;
 use crate::names::{inside, resolved};
 use crate::search::{Folder, Form, Found, GitDir, opened_folder, search, shared_folder};
@@ -82,7 +82,7 @@ fn take_own<'t>(
     is_shared: bool,
 ) -> Result<(), HereError<'t>> {
     if format.has_worktree_files {
-        return take_own_file(disk, format, inside(disk, git_dir, b"config.worktree")?);
+        return format.take_file(disk, inside(disk, git_dir, b"config.worktree")?, true);
     }
     if is_shared {
         format.is_bare = false;

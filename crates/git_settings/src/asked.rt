@@ -18,35 +18,25 @@ pub enum Asked<'a> {
 
 /// Why words and options are refused, in Git's words: how the run ends, and the parts of the message.
 #[derive(Clone, Copy)]
-pub struct Misuse<'a>(Ending, [&'a str; 5]);
+pub struct Misuse<'a>(Ending, [&'a [u8]; 5]);
 
 impl Misuse<'_> {
     /// Tells it. Returns how the run ends.
     pub fn tell(&self, rt: &HostRuntime) -> Ending {
-        let [front, one, between, other, end] = self.1;
-        let (one, other) = (one.as_bytes(), other.as_bytes());
-        tell(
-            rt,
-            &[
-                front.as_bytes(),
-                one,
-                between.as_bytes(),
-                other,
-                end.as_bytes(),
-            ],
-        );
+        tell(rt, &self.1);
         self.0
     }
 }
 
 /// A misuse that ends with the status of a wrong usage.
 fn error<'a>(why: &'a str) -> Misuse<'a> {
-    Misuse(Ending::Misused, ["error: ", why, "", "", ""])
+    Misuse(Ending::Misused, [b"error: ", why.as_bytes(), b"", b"", b""])
 }
 
 /// A misuse of a word, for which Git has a status of its own.
 fn fatal<'a>(why: &'static str, text: &'a str, end: &'static str) -> Misuse<'a> {
-    Misuse(Ending::Refused, ["fatal: ", why, text, end, ""])
+    let (why, text, end) = (why.as_bytes(), text.as_bytes(), end.as_bytes());
+    Misuse(Ending::Refused, [b"fatal: ", why, text, end, b""])
 }
 
 /// The flags that name a scope.
@@ -172,9 +162,9 @@ fn older_action(options: &Options<'_>) -> Result<Counted, Misuse<'static>> {
         };
         match found {
             Some((other, _)) if other != given.name => {
-                let (front, end) = ("error: options '--", "' cannot be used together");
-                let parts = [front, given.name, "' and '--", other, end];
-                return Err(Misuse(Ending::Misused, parts));
+                let (front, end) = (b"error: options '--", b"' cannot be used together");
+                let (one, other) = (given.name.as_bytes(), other.as_bytes());
+                return Err(Misuse(Ending::Misused, [front, one, b"' and '--", other, end]));
             }
             _ => found = Some((given.name, counted)),
         }
@@ -222,8 +212,8 @@ fn word_action(action: Action, options: &Options<'_>) -> Action {
 fn worded<'a>(word: &Word, options: &Options<'a>) -> Result<Plain<'a>, Misuse<'a>> {
     match (word.action, options.words.as_slice()) {
         (Action::Set, [key]) => {
-            let front = "error: missing value to set to the variable '";
-            return Err(Misuse(Ending::Misused, [front, key, "'", "", ""]));
+            let front = b"error: missing value to set to the variable '";
+            return Err(Misuse(Ending::Misused, [front, key.as_bytes(), b"'", b"", b""]));
         }
         (_, words) => check_count(words.len(), word.count, word.count)?,
     }
