@@ -34,7 +34,7 @@ fn error<'a>(why: &'a str) -> Misuse<'a> {
 }
 
 /// A misuse of a word, for which Git has a status of its own.
-fn fatal<'a>(why: &'static str, text: &'a str, end: &'static str) -> Misuse<'a> {
+fn fatal<'a>(why: &'a str, text: &'a str, end: &'a str) -> Misuse<'a> {
     let (why, text, end) = (why.as_bytes(), text.as_bytes(), end.as_bytes());
     Misuse(Ending::Refused, [b"fatal: ", why, text, end, b""])
 }
