@@ -3,7 +3,7 @@
 
 use crate::text::Text;
 use std::alloc::{AllocError, Global};
-use std::fmt;
+use thiserror::Error;
 
 /// What an option takes.
 ///
@@ -85,25 +85,33 @@ pub enum Ends {
 /// let misuse = read(alloc, TABLES, &["--helpless"], Ends::AtWord).expect(&rt, "memory");
 /// assert!(rt; matches!(misuse, Err(Misuse::Unknown("helpless"))));
 /// ```
-#[derive(Clone, Copy, Debug)]
+#[derive(Clone, Copy, Debug, Error)]
 pub enum Misuse<'a> {
     /// There is no such option.
+    #[error("unknown option `{0}'")]
     Unknown(&'a str),
     /// There is no option with this letter.
-    Switch(&'a str),
+    #[error("unknown switch `{0}'")]
+    Switch(char),
     /// The name of an option follows one dash.
+    #[error("did you mean `--{0}` (with two dashes)?")]
     OneDash(&'a str),
     /// The beginning of a name is that of these two options, and perhaps of others. Before the name of each is `no-` if
     /// it is undone.
-    Ambiguous(&'a str, &'a str, &'a str, &'a str, &'a str),
+    #[error("ambiguous option: {0} (could be --{1}{2} or --{3}{4})")]
+    Ambiguous(&'a str, &'static str, &'static str, &'static str, &'static str),
     /// The option has no value.
-    NeedsValue(&'a str),
+    #[error("option `{0}' requires a value")]
+    NeedsValue(&'static str),
     /// The option of this letter has no value.
-    SwitchNeedsValue(&'a str),
+    #[error("switch `{0}' requires a value")]
+    SwitchNeedsValue(&'static str),
     /// The option has a value, and takes none. Before its name is `no-` if it is undone.
-    TakesNone(&'a str, &'a str),
+    #[error("option `{0}{1}' takes no value")]
+    TakesNone(&'static str, &'static str),
     /// The value of the option is none of its words.
-    NoWord(&'a str, &'a str),
+    #[error("no value of --{0}: {1}")]
+    NoWord(&'static str, &'a str),
 }
 
 impl Misuse<'_> {
@@ -113,38 +121,6 @@ impl Misuse<'_> {
             self,
             Misuse::Unknown(_) | Misuse::Switch(_) | Misuse::Ambiguous(..)
         )
-    }
-}
-
-/// Writes these parts.
-fn write_parts<W: fmt::Write>(f: &mut fmt::Formatter<W>, parts: &[&str]) -> fmt::Result {
-    for part in parts {
-        f.write_str(part)?;
-    }
-    Ok(())
-}
-
-impl fmt::Display for Misuse<'_> {
-    fn fmt<W: fmt::Write>(&self, f: &mut fmt::Formatter<W>) -> fmt::Result {
-        match *self {
-            Misuse::Unknown(name) => write_parts(f, &["unknown option `", name, "'"]),
-            Misuse::Switch(letter) => write_parts(f, &["unknown switch `", letter, "'"]),
-            Misuse::OneDash(name) => {
-                write_parts(f, &["did you mean `--", name, "` (with two dashes)?"])
-            }
-            Misuse::Ambiguous(name, no, one, other_no, other) => {
-                write_parts(f, &["ambiguous option: ", name, " (could be --", no, one])?;
-                write_parts(f, &[" or --", other_no, other, ")"])
-            }
-            Misuse::NeedsValue(name) => write_parts(f, &["option `", name, "' requires a value"]),
-            Misuse::SwitchNeedsValue(letter) => {
-                write_parts(f, &["switch `", letter, "' requires a value"])
-            }
-            Misuse::TakesNone(no, name) => {
-                write_parts(f, &["option `", no, name, "' takes no value"])
-            }
-            Misuse::NoWord(name, value) => write_parts(f, &["no value of --", name, ": ", value]),
-        }
     }
 }
 
@@ -375,16 +351,17 @@ impl<'w, 'a> Reading<'w, 'a> {
     /// Takes the options of letters, of which the last one may be followed by its value.
     fn take_lettered(&mut self, letters: &'a str) -> Result<(), Misuse<'a>> {
         for (at, letter) in letters.char_indices() {
-            let end = at.saturating_add(letter.len_utf8());
             let Some(row) = lettered(self.tables, letter) else {
                 check_dashes(self.tables, letters)?;
-                return Err(Misuse::Switch(letters.get(at..end).unwrap_or("")));
+                return Err(Misuse::Switch(letter));
             };
             if !matches!(row.2, Takes::Value(..)) {
                 self.keep(row, "", false);
                 continue;
             }
-            let rest = letters.get(end..).unwrap_or("");
+            let rest = letters
+                .get(at.saturating_add(letter.len_utf8())..)
+                .unwrap_or("");
             let value = if rest.is_empty() { None } else { Some(rest) };
             return self.take((row, false), value, Misuse::SwitchNeedsValue(row.1));
         }
