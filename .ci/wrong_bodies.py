@@ -101,11 +101,16 @@ class Crate:
             shutil.rmtree(self.room / part, ignore_errors=True)
             shutil.copytree(self.folder / part, self.room / part)
         self.cut(edits)
-        for path, old, new in [pair for edit in edits for pair in edit.pairs]:
-            text = (self.room / path).read_text(encoding="utf-8")
-            if not old or text.count(old) != 1:
-                raise ValueError(f"{path} has the old text {text.count(old)} times, and not once: {old}")
-            (self.room / path).write_text(text.replace(old, new), encoding="utf-8")
+        pairs = [pair for edit in edits for pair in edit.pairs]
+        files = {path: (self.room / path).read_text(encoding="utf-8") for path, *_ in pairs}
+        for number, (path, old, _) in enumerate(pairs):
+            if not old or files[path].count(old) != 1:
+                raise ValueError(f"{path} has the old text {files[path].count(old)} times, and not once: {old}")
+            # the new text follows later, since it may be the old one of another pair
+            files[path] = files[path].replace(old, f"\0{number}\0")
+        for path, text in files.items():
+            whole = re.sub("\0([0-9]+)\0", lambda it: pairs[int(it[1])][2], text)
+            (self.room / path).write_text(whole, encoding="utf-8")
         functions = sorted({function_of(place) for edit in edits for place, _ in edit.expected})
         only = [f"--only={it}" for it in functions] if all(functions) else []
         said = subprocess.run([*self.words, *only], cwd=self.room, stdin=subprocess.DEVNULL, stdout=subprocess.PIPE,
