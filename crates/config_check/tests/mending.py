@@ -141,6 +141,10 @@ def single(group, program):
         came = program.run(["--fix", "d"], cwd=folder)
         group.expect("a file that is not named", (1, b"[core]\n\tbare = ture\n", 1),
                      (came.status, (folder / "e").read_bytes(), came.output.count(b"\n")))
+        (folder / "ä b").write_bytes(b"[core]\n\tbare = ture\n")
+        came = program.run(["--diff", "ä b"], cwd=folder)
+        group.expect("a name that Git quotes", [b'--- "a/\\303\\244 b"\t', b'+++ "b/\\303\\244 b"\t'],
+                     came.output.splitlines()[:2])
         came = program.run(["--diff", "-"], b"[core]\n\tbare = ture\n")
         group.expect("standard input", b"--- a/-\n+++ b/-\n@@ -1,2 +1,2 @@\n [core]\n-\tbare = ture\n+\tbare = true\n", came.output)
 
