@@ -90,9 +90,9 @@ PATHS = ["h", "s", "p", "d/q", "d/e/r", "q", "e/r", "../h", "../s", "../../h", "
          "~no-such-user/h"]
 STARRED = ["*a", "*a", "*b", "a*", "?*", "**", "*/", "**/", "/**/", "*[ab]", "*ab", "a"]
 LONGEST_RUN = 60
-# a work tree, its branch, a condition that is slow if each star is tried again at all its places, whether it holds, and
-# the first Git that says so at once. Git knows no branch of 60,000 bytes, so it was asked about a URL of these bytes
-Star = collections.namedtuple("Star", "tree branch condition holds since")
+# a work tree, the text of its branch and of the URL of a remote, a condition that is slow if each star is tried again
+# at all its places, whether it holds, and the first Git that says so at once; Git knows no branch of 60,000 bytes
+Star = collections.namedtuple("Star", "tree text condition holds since")
 STARS = [Star(*row) for row in [
     ("R", "a" * 100, "onbranch:" + "*a" * 5 + "*ab", False, (2, 30)),
     ("R", "a" * 200, "onbranch:" + "*a" * 4 + "*ab", False, (2, 30)),
@@ -100,7 +100,7 @@ STARS = [Star(*row) for row in [
     ("R", "a" * 100, "onbranch:**/" + "a*" * 5 + "ab", False, (2, 30)),
     ("R", "a" * 100, "onbranch:*[" + "[:" * 2000, False, (2, 30)),
     ("a" * 100, "main", "gitdir:" + "*a" * 6 + "b/.git", False, (2, 41)),
-    ("R", "a" * 60_000, "onbranch:" + "*a" * 60_000, True, None),
+    ("R", "a" * 60_000, "hasconfig:remote.*.url:" + "*a" * 60_000, True, None),
 ]]
 
 # the words by which a file is listed with what it includes
@@ -431,7 +431,8 @@ class Comparison:
         """Compares the repositories of STARS with what Git said, and with this Git where it answers at once."""
         for number, star in enumerate(STARS):
             tree = Folder(folder / f"s{number}" / star.tree, f"?{star.condition}", self.git.command)
-            tree.head("ref:", f"refs/heads/{star.branch}")
+            tree.head("ref:", f"refs/heads/{star.text}")
+            tree.write("p", f'[includeIf "{star.condition}"]path=h\n[remote "r"]url={star.text}\n')
             began = processor_seconds()
             try:
                 holds = has_hit(tree.listed(self.words))

@@ -21,6 +21,7 @@ PATTERNS = ("v", "^$", "!v", "1|true", "!", "^v?$", ".")
 HEADERS = (b"[a]", b"[A]", b'[a "B"]', b"[a.B]", b'[a "b"]', b"[b]", b'[b "x y"]', b'[ b]', b"[c]", b'[a\t"B"]', b'[b "x\\y"]')
 ENTRIES = (b"k = v", b"k=v", b"k", b"K =", b"k = ", b"k\t=\t v ", b"j = 1", b"j", b"k = \"a b\"", b"k = a \\\n  b", b"j = x#k",
            b"k = 'v'", b"d = 2", b"k = \"a;b\" # k", b"j = \"[a]\"", b"k = v\\", b"k =\\\n", b"k = v ; c")
+BROKEN = (b"[a", b"[a.", b"[a. x", b'[a "B', b'[a "', b'[b "x."y', b"[]", b"[.]", b"9", b"[a]9", b'k = "v', b"k x", b"[a] [b")
 BETWEEN = (b"\n", b"\n", b"\n", b"\n\n", b" # c\n", b"\n; [a]\n", b"\n# k = v\n", b"\r\n", b"\n\t", b" \n", b"")
 
 
@@ -29,7 +30,7 @@ def draw(rng):
     parts = [rng.choice((b"", b"", b"", b"\xef\xbb\xbf", b"# top\n", b"k = 1\n"))]
     for _ in range(rng.randrange(7)):
         parts.append(rng.choice((b"", b"\t", b"  ")))
-        parts.append(rng.choice(HEADERS if rng.random() < 0.4 else ENTRIES))
+        parts.append(rng.choice(HEADERS if rng.random() < 0.4 else ENTRIES if rng.random() < 0.98 else BROKEN))
         parts.append(rng.choice(BETWEEN) if parts[-1][:1] != b"[" or rng.random() < 0.9 else b" ")
     text = b"".join(parts)
     return text.replace(b"\n", b"\r\n") if rng.random() < 0.1 else text
@@ -142,10 +143,10 @@ def keeps(word, arguments, old, new):
     return all(any(line == other for other in rest) for line in kept)
 
 
-def wanted(word, arguments, before):
-    """The statuses that an edit may have."""
+def wanted(word, arguments, before, gits):
+    """The statuses that an edit may have, if Git's is this."""
     if before is None:
-        return (1, 2, 3, 255)
+        return (128, 255) if word.endswith("section") else (gits,)
     if word == "rename-section":
         section = arguments[1].partition(".")[0]
         is_name = arguments[1] and all(byte.isascii() and (byte.isalnum() or byte == "-") for byte in section)
@@ -189,7 +190,7 @@ def main():
             ours, gits = words(word, arguments)
             status, new = run(folder, [program, *ours], text)
             git_status, git_new = run(folder, [options.git, *gits], text)
-            is_good = status in wanted(word, arguments, before)
+            is_good = status in wanted(word, arguments, before, git_status)
             if status == 0:
                 after = listed(folder, options.git, new)
                 is_good = is_good and is_right(word, arguments, before, after) and keeps(word, arguments, text, new)

@@ -3,10 +3,12 @@
 python3 gets.py PROGRAM [--seed N] [--gets N] [--git COMMAND]
 
 PROGRAM is git_settings. Each file has one key: with no value, with one or with several, or alone. The key is read as a
-type, also with a default, all values, names, NULs, origins, a pattern or a URL. The status and the output have to be
-Git's. If they differ, one of the texts has to differ by itself too, in a class of classes.py that is expected in the
-version of this Git; or it is a path that begins with `%(prefix)/`, which the program refuses; or Git crashes at a key
-alone. The run is the same for the same seed on the same machine. The last line is 'N passed, M failed', in gets.
+type, also with a default, all values, names, NULs, origins, a pattern or a URL, by the word `get` or by the key alone,
+from a file, from that of GIT_CONFIG or from standard input; each of them includes another one. The status and the
+output have to be Git's. If they differ, one of the texts has to differ by itself too, in a class of classes.py that is
+expected in the version of this Git; or it is a path that begins with `%(prefix)/`, which the program refuses; or Git
+crashes at a key alone. The run is the same for the same seed on the same machine. The last line is 'N passed, M
+failed', in gets.
 """
 import argparse
 import collections
@@ -34,8 +36,11 @@ TYPES = {"bool": "bool", "int": "int", "bool-or-int": "bool-or-int", "bool-or-st
 OPTIONS = [[], [], ["--all"], ["--show-names"], ["-z"], ["--all", "-z", "--show-names"], ["--value=[0-9]"],
            ["--value=!e", "--all"], ["--fixed-value", "--value=yes"], ["--regexp", "--all"], ["--show-origin"],
            ["--url=https://h.org/x"]]
-# a get of a key: the type, the options, the default and the values of the key, of which None is a key alone
-Get = collections.namedtuple("Get", "type options default values")
+# those that a key alone has too
+OLDER = [[], ["--show-names"], ["-z"], ["--show-origin"], ["-z", "--show-scope"], ["--includes"]]
+# a get of a key: its word, what is read, the type, the options, the default and the values of the key, of which None is
+# a key alone
+Get = collections.namedtuple("Get", "word source type options default values")
 
 
 def text_for(draw, kind):
@@ -55,7 +60,8 @@ def gets(draw, count):
         values = [None if draw.randrange(12) == 0 else text_for(draw, TYPES[kind])
                   for _ in range(draw.choice((0, 1, 1, 1, 1, 2, 3)))]
         default = text_for(draw, TYPES[kind]) if draw.randrange(4) == 0 or not values else None
-        yield Get(kind, draw.choice(OPTIONS), default, values)
+        word, source = draw.choice((["get"], ["get"], [])), draw.choice(("-f", "-f", "GIT_CONFIG", "-"))
+        yield Get(word, source, kind, draw.choice(OPTIONS if word else OLDER), default, values)
 
 
 class Readers:
@@ -65,22 +71,26 @@ class Readers:
         self.words = [program], [git.command, "config"]
         self.git, self.folder, self.install = git, pathlib.Path(folder), git.install()
         self.known = {"PATH": os.environ["PATH"], "LC_ALL": "C", "GIT_CONFIG_NOSYSTEM": "1", "HOME": HOME.decode()}
+        (self.folder / "included").write_bytes(b"[a]\n\tk = included\n")
 
     def answers(self, numbered):
         """The statuses and outputs of the program and of Git."""
         number, get = numbered
         file = self.folder / f"{number}"
         lines = [b"k\n" if value is None else b'k = "' + escaped(value) + b'"\n' for value in get.values]
-        file.write_bytes(b"[a]\n" + b"".join(lines))
-        asked = ["get", "-f", file, *([f"--type={get.type}"] if get.type else []), *get.options]
+        text = b"[include]\n\tpath = " + os.fsencode(self.folder / "included") + b"\n[a]\n" + b"".join(lines)
+        file.write_bytes(text)
+        known = self.known | ({"GIT_CONFIG": str(file)} if get.source == "GIT_CONFIG" else {})
+        asked = [*get.word, *{"-f": ["-f", file], "-": ["-f", "-"]}.get(get.source, [])]
+        asked += [*([f"--type={get.type}"] if get.type else []), *get.options]
         asked += ["a.k"] if get.default is None else [b"--default=" + get.default, "a.k"]
-        runs = [subprocess.run([*words, *asked], env=self.known, cwd=self.folder, capture_output=True, check=False)
-                for words in self.words]
+        runs = [subprocess.run([*words, *asked], env=known, cwd=self.folder, input=text, capture_output=True,
+                               check=False) for words in self.words]
         return [(run.returncode, run.stdout) for run in runs]
 
     def case(self, kind, text):
         """The case of a text that is the only value of its kind."""
-        both = self.answers(("alone", Get(kind, [], None, [text])))
+        both = self.answers(("alone", Get(["get"], "-f", kind, [], None, [text])))
         shown = [{0: out[:-1], 1: NOT_SET}.get(status) for status, out in both]
         return Case(Question(kind, text, HOME), user_of(text)[1], self.install, *shown)
 

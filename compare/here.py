@@ -144,7 +144,10 @@ class Place:
             head.symlink_to(self.one("refs/heads/linked", "refs/x", "elsewhere"))
         elif not self.rarely(0.03):
             head.write_text(self.one("ref: refs/heads/main\n", "ref: refs/heads/main\n", "ref: refs/heads/a/b\n",
-                                     "ref:refs/heads/main", "ref: refs/tags/x\n", "0" * 40 + "\n", "x\n"))
+                                     "ref:refs/heads/main", "ref: refs/tags/x\n", "0" * 40 + "\n", "x\n",
+                                     "ref: refs/heads/a..b\n"))
+        if self.rarely(0.05):
+            self.write(f"{name}/refs/heads/main", self.one("ref: refs/heads/a/b\n", "0" * 40 + "\n", "x"))
         if not self.rarely(0.05):
             self.write(f"{name}/config", self.format(name) + self.settings("local"))
 
@@ -206,7 +209,7 @@ class Place:
                                  'includeIf "onbranch:main"', 'includeIf "onbranch:a/"', "include",
                                  *(f'includeIf "hasconfig:remote.*.url:{url}"'
                                    for url in ("https://*/**", "**", "git@x:y")),
-                                 'includeIf "gitdir:./top/.git"')
+                                 'includeIf "gitdir:./top/.git"', 'includeIf "gitdir:./"')
             name = f"included-{self.draw.randrange(4)}"
             if "hasconfig" in condition:
                 self.words.add("hasconfig")
@@ -228,7 +231,7 @@ class Place:
         if self.rarely(0.3):
             text += SECTION % ("safe", "directory" + self.safe())
         if self.rarely(0.05):
-            text += SECTION % ("safe", "bareRepository = " + self.one("explicit", "all"))
+            text += SECTION % ("safe", "bareRepository = " + self.one("explicit", "all", "Explicit"))
             self.words.add("safe.bareRepository")
         if self.rarely(0.02):
             text += "[bad\n"
@@ -270,6 +273,11 @@ class Place:
             self.words.add("GIT_DIR")
         if self.rarely(0.07):
             self.known["GIT_WORK_TREE"] = self.one(f"{folder}/top", ".", "..", f"{folder}/other")
+        if self.rarely(0.03):
+            self.known["GIT_OBJECT_DIRECTORY"] = self.one(f"{folder}/top/deep", "deep", "missing", "")
+        if self.rarely(0.05):
+            self.known["GIT_REFERENCE_BACKEND"] = self.one("files", "files://../../held", "reftable", "files://x", "x")
+            self.words.add("store")
         if self.rarely(0.05):
             del self.known["HOME"]
 
@@ -324,18 +332,35 @@ def class_of(place, ours, git, running):
         classes.OF_COMMAND: "relative condition" in place.words and b"must come from files" in git.told,
         classes.COMMAND_KEY: "blank key" in place.words and b"invalid key" in ours.told,
         classes.REFUSED_DIR: "GIT_DIR" in place.words and git.told.startswith(b"warning: "),
-        classes.SOUGHT_DIR: "GIT_DIR" in place.words and git.told.startswith(b"fatal: remote URLs cannot be "),
+        classes.FIRST_DIR: "GIT_DIR" in place.words and git.told.startswith((b"fatal: remote URLs cannot be ",
+                                                                             b"error: relative config includes ")),
         classes.BARE: "safe.bareRepository" in place.words and ".git" in place.where.split("/"),
+        classes.NO_WORD: git.status == -11 and "word alone" in place.words,
+        classes.NO_STORE: "store" in place.words and b"main_ref_store outside of repository" in git.told,
+        classes.STORED: "store" in place.words,
     }
     return next((name for name, holds in rules.items()
                  if holds and classes.is_expected(classes.OF_PLACES[name], running)), None)
 
 
-# a place in which a class is shown: the class, the words of its rule, variables, the folder, and the texts of files
+# a place in which a class is shown, or one without a class: the class, the words of its rule, variables, the folder,
+# and the texts of files
 Shown = collections.namedtuple("Shown", "name words known where texts kind", defaults=["file"])
 REPOSITORY = {"top/.git/HEAD": "ref: refs/heads/main\n", "top/.git/objects/x": "", "top/.git/refs/x": "",
               "more": "[a]more=1\n"}
-ON_MAIN, ON_DIR = ('[includeIf "%s"]path=F/more\n' % condition for condition in ("onbranch:main", "gitdir:/"))
+ON_MAIN, ON_DIR, ON_OTHER, ON_ANY, BESIDE = ('[includeIf "%s"]path=F/more\n' % condition for condition in (
+    "onbranch:main", "gitdir:/", "onbranch:other", "onbranch:**", "gitdir:./"))
+TO_OTHER, BARE_WORD = "ref: refs/heads/other\n", "[safe]bareRepository"
+# references in a place of their own, in which work trees have folders
+STORE = {"top/.git/own/HEAD": TO_OTHER, "top/.git/own/worktrees/w/HEAD": TO_OTHER, "system": ON_OTHER}
+TREE = {"other/.git": "gitdir: F/top/.git/worktrees/w\n", "top/.git/worktrees/w/commondir": "../..\n",
+        "top/.git/worktrees/w/HEAD": "ref: refs/heads/w\n"}
+# texts of HEAD, of which most name no branch or are not Git's
+HEADS = [*(f"ref: refs/heads/{name}\n" for name in (
+    "a..b", "a.lock", "a.lock/b", ".a", "a.", "a b", "", "/a", "a//b", "a/", "../../x", "a\x1b", "a\x7f", "a\nb", "a\f",
+    "a~", "a^", "a:", "a?", "a*", "a[", "a\\", "a@{b", "a@{", "@", "a{", "-a", "a\0x", "a \0x", "x" * 300)),
+         "ref:\frefs/heads/a", "ref:\n\t refs/heads/a \r\n", "0" * 41,
+         *(f"ref:{' ' * blanks}refs/heads/a" for blanks in (246, 247, 300))]
 PLACES = [
     Shown(classes.NO_URL, {"URL alone"}, {}, "top",
           {"system": '[remote "r"]url\n[includeIf "hasconfig:remote.*.url:x"]path=F/more\n'}),
@@ -356,9 +381,29 @@ PLACES = [
           {"top/deep/.git": "gitdir: nowhere\n", "top/.git/config": "[a]b=1\n"}),
     Shown(classes.NO_TREE, set(), {}, "top", {"top/.git/config": "[core]repositoryformatversion=0\n worktree=../x\n"}),
     Shown(classes.NO_PATH, {"GIT_DIR"}, {"GIT_DIR": ""}, "top", {"system": ON_DIR}),
-    Shown(classes.SOUGHT_DIR, {"GIT_DIR"}, {"GIT_DIR": "missing"}, "top",
+    Shown(classes.FIRST_DIR, {"GIT_DIR"}, {"GIT_DIR": "missing"}, "top",
           {"system": '[includeIf "gitdir:missing"]path=F/url\n[includeIf "hasconfig:remote.*.url:x"]path=F/more\n',
            "url": '[remote "r"]url=x\n'}),
+    Shown(classes.NO_WORD, {"word alone"}, {}, "top/.git", {"system": BARE_WORD}),
+    Shown(classes.STORED, {"store"}, {}, "top", STORE | {
+        "top/.git/config": "[core]repositoryformatversion=1\n[extensions]refStorage=files://own\n"}),
+    Shown(classes.STORED, {"store"}, {"GIT_REFERENCE_BACKEND": "files://own"}, "top", STORE),
+    Shown(classes.STORED, {"store"}, {"GIT_REFERENCE_BACKEND": "files://own"}, "other", STORE | TREE),
+    Shown(classes.STORED, {"store"}, {"GIT_REFERENCE_BACKEND": "x"}, "home", {}),
+    Shown(classes.NO_STORE, {"store"}, {"GIT_REFERENCE_BACKEND": "files"}, "home", {"system": ON_ANY}),
+    *(Shown(None, set(), {}, "top/.git", {"system": f"{BARE_WORD}{word}\n{BARE_WORD}=all\n"}) for word in ("=x", "=")),
+    Shown(None, set(), {}, "bare", {"bare/HEAD": TO_OTHER, "bare/objects/x": "", "bare/refs/x": "",
+                                    "bare/config": BESIDE, "home/.gitconfig": BARE_WORD + "=All"}),
+    *(Shown(None, set(), {}, "top", {"top/.git/HEAD": head, "system": ON_ANY}) for head in HEADS),
+    *(Shown(None, set(), {}, "top", {"top/.git/refs/heads/main": text, "system": ON_MAIN})
+      for text in (TO_OTHER, "x", "0" * 40, "0" * 40 + " x", "0" * 41, "ref: refs/heads/main", "ref: refs/heads/a..b")),
+    Shown(None, set(), {}, "top", {"top/.git/refs/heads/main/x": "", "system": ON_MAIN}),
+    *(Shown(None, set(), {}, where, {"top/.git/config": BESIDE}) for where in ("top", "top/.git", "top/.git/refs")),
+    *(Shown(None, set(), {"GIT_OBJECT_DIRECTORY": name}, "top/deep", {"top/deep/x": "", "top/.git/config": "[a]b=1\n"})
+      for name in ("missing", "", "../deep")),
+    *(Shown(None, set(), {}, "top", {f"top/.git/commondir{more}": text})
+      for more, text in (("", ""), ("/x", ""), ("", "../missing/x"), ("", "../missing"), ("", "\n"))),
+    Shown(None, set(), {}, "other", {"other/.git": "gitdir: ../top/.git\0x", "top/.git/config": "[a]b=1\n"}),
 ]
 MADE = r"""
 git init -q -b main work; git -C work commit -q --allow-empty -m x; mkdir -p work/deep
@@ -378,6 +423,7 @@ git clone -q moved loose; git -C moved checkout -q -b in/deep; git -C loose chec
 git init -q -b main long; git -C long commit -q --allow-empty -m x; git -C long config reftable.blockSize 1048576
 seq -f "create refs/heads/b%g $(git -C long rev-parse HEAD)" 3000 | git -C long update-ref --stdin
 git -C long pack-refs
+git init -q -b by/name named; git -C named symbolic-ref refs/heads/by/name refs/heads/in/named
 """
 SAFE = {"GIT_CONFIG_COUNT": "1", "GIT_CONFIG_KEY_0": "safe.directory", "GIT_CONFIG_VALUE_0": "*"}
 COUNTED = {"GIT_CONFIG_COUNT": "2", "GIT_CONFIG_KEY_0": "a.b", "GIT_CONFIG_VALUE_0": "c",
@@ -397,8 +443,10 @@ LAYOUTS = [
     # in Git since 2.45 with a reftable
     Layout("a table", "table"), Layout("a table of a linked work tree", "tables"),
     Layout("a branch after another", "moved"), Layout("a detached HEAD after a branch", "loose"),
-    Layout("a table whose first block is long", "long"),
+    Layout("a table whose first block is long", "long"), Layout("a branch that names another one", "named"),
 ]
+# in Git since 2.54
+PLACED = [Layout("a table in a place of its own", "work", {"GIT_REFERENCE_BACKEND": "reftable://../../moved/.git"})]
 # those that need root
 OF_ROOT = [Layout("another owner", "owned"), Layout("another owner that is safe", "owned", SAFE),
            Layout("a mount", "above/mounted", {}, MOUNT)]
@@ -447,14 +495,16 @@ class Comparison:
 
 
     def shown(self):
-        """Asks in the place of each class."""
+        """Asks in the place of each class, and in those without one."""
         for number, place in enumerate(PLACES):
             folder = self.folder / f"shown-{number}"
             for name, text in (REPOSITORY | place.texts).items():
                 (folder / name).parent.mkdir(parents=True, exist_ok=True)
                 (folder / name).write_text(text.replace("F/", f"{folder}/"))
             known = {name: value.replace("F/", f"{folder}/") for name, value in place.known.items()}
-            self.ask("places of classes that are not expected", folder / place.where, plain(folder) | known, place)
+            name = "places of classes that are not expected" if place.name else "single places"
+            (folder / place.where).mkdir(parents=True, exist_ok=True)
+            self.ask(name, folder / place.where, plain(folder) | known, place)
 
     def called(self, layout, reader):
         """What a reader answers that is called in a layout."""
@@ -476,7 +526,7 @@ class Comparison:
             subprocess.run(["chown", "-R", str(OTHER), self.folder / "owned"], check=True)
         else:
             print(f"skipped: {len(OF_ROOT)} layouts, which need root")
-        for layout in LAYOUTS + OF_ROOT * IS_ROOT:
+        for layout in LAYOUTS + PLACED * (self.git.running["Git"] >= (2, 54)) + OF_ROOT * IS_ROOT:
             git = of_git(self.called(layout, listing(self.git.command, "config")))
             if layout.words == MOUNT and git.status != 0:
                 print(f"skipped: {layout.name}, since {git.told.decode(errors='replace').strip()}")

@@ -210,12 +210,11 @@ static PyObject *entry_at(const Entries *self, size_t at)
 
 /* Walks */
 
-/* A walk, and for each file that it is in its source, and the tuple from which the walk borrows. `conditional` is the
- * depth of the first condition on the way to the entry, or 0. */
+/* A walk, and for each file that it is in its source, and the tuple from which the walk borrows. */
 typedef struct {
     gcv_walk walk;
     PyObject *files[GCV_MOST_FRAMES];
-    size_t sources[GCV_MOST_FRAMES], conditional;
+    size_t sources[GCV_MOST_FRAMES];
     PyObject *scope;
     int is_long, seeks_urls;
 } Walk;
@@ -264,7 +263,6 @@ static gcv_status take(Entries *self, Walk *walk, const gcv_known *known, gcv_st
         if (status != GCV_OK)
             return status;
         keep(self, step->value, step->line, walk->sources[walk->walk.count - 1]);
-        walk->conditional = walk->walk.count <= walk->conditional ? 0 : walk->conditional;
         self->asks_urls |= walk->seeks_urls && step->role == GCV_URL_CONDITION;
         is_followed = step->include != GCV_NO_INCLUDE || (walk->seeks_urls && step->role == GCV_REMOTE_URL);
     }
@@ -272,10 +270,10 @@ static gcv_status take(Entries *self, Walk *walk, const gcv_known *known, gcv_st
 }
 
 /* Takes the text of the last entry, which is a URL that is sought. */
-static gcv_status take_url(Entries *self, const Walk *walk)
+static gcv_status take_url(Entries *self, const gcv_step *step)
 {
     size_t text = self->rows[self->count - 1].text;
-    if (walk->conditional && self->refused == 0)
+    if (step->include == GCV_FORBIDDEN_URL && self->refused == 0)
         self->refused = self->count;
     if (text == NO_TEXT)
         return GCV_OK;
@@ -290,13 +288,11 @@ static gcv_status take_url(Entries *self, const Walk *walk)
 static gcv_status follow(Entries *self, Walk *walk, const gcv_step *step, PyObject *open)
 {
     if (walk->seeks_urls && step->role == GCV_REMOTE_URL)
-        return take_url(self, walk);
-    if (step->include == GCV_NO_INCLUDE)
+        return take_url(self, step);
+    if (step->include == GCV_NO_INCLUDE || step->include == GCV_FORBIDDEN_URL)
         return GCV_OK;
     if (step->include == GCV_NO_VALUE)
         return GCV_NO_VALUE;
-    if (walk->conditional == 0 && step->role != GCV_PLAIN)
-        walk->conditional = walk->walk.count;
     PyObject *name = step->included ? PyBytes_FromString(step->included) : counted(Py_None);
     PyObject *entry = name ? entry_at(self, self->count - 1) : NULL;
     PyObject *file = entry ? PyObject_CallFunctionObjArgs(open, entry, name, NULL) : NULL;

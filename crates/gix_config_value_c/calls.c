@@ -98,6 +98,8 @@ const char *gcv_status_text(gcv_status status)
         return "no header can have the section";
     case GCV_SEVERAL:
         return "several entries have the key";
+    case GCV_FORBIDDEN_URL:
+        return "the URL of a remote is in a file that is included on a condition";
     }
     return "unknown status";
 }
@@ -491,7 +493,7 @@ gcv_status gcv_list_key(const char *key, size_t length, char *GCV_TO buffer, siz
 gcv_status gcv_enter(gcv_walk *GCV_TO walk, const char *file, size_t file_length, const char *real_dir,
                      size_t real_dir_length, const char *text, size_t length)
 {
-    gcv_frame frame = {"", 0, "", 0, "", 0, "", 0, "", 0, 0, 0};
+    gcv_frame frame = {"", 0, "", 0, "", 0, "", 0, "", 0, 0, 0, 0};
     gcv_status status = gcv_raw_enter(&walk->count, &frame, bytes_of(file, file_length), file_length,
                                       bytes_of(real_dir, real_dir_length), real_dir_length, bytes_of(text, length),
                                       length);

@@ -71,6 +71,7 @@ GCV_ASSERT(offsetof(gcv_frame, rest) == 64);
 GCV_ASSERT(offsetof(gcv_frame, rest_length) == 72);
 GCV_ASSERT(offsetof(gcv_frame, line) == 80);
 GCV_ASSERT(offsetof(gcv_frame, parts) == 88);
+GCV_ASSERT(offsetof(gcv_frame, forbids_urls) == 92);
 GCV_ASSERT(sizeof(gcv_frame) == 96);
 GCV_ASSERT(offsetof(gcv_text, bytes) == 0);
 GCV_ASSERT(offsetof(gcv_text, length) == 8);

@@ -197,9 +197,8 @@ gcv_status gcv_open_file(void *state, const char *name, gcv_file *out)
     return GCV_OK;
 }
 
-/* What is read. Files have memory by their depth. `conditional` is the depth of the first condition on the way to the
- * entry, or 0. `urls` are those of remotes, if they are sought, and `refused` is the first of them in a file that is
- * included on a condition. */
+/* What is read. Files have memory by their depth. `urls` are those of remotes, if they are sought, and `refused` is the
+ * first of them in a file that is included on a condition. */
 typedef struct {
     gcv_settings *settings;
     gcv_memory *memory;
@@ -209,7 +208,6 @@ typedef struct {
     size_t source;
     gcv_walk walk;
     gcv_file files[GCV_MOST_FRAMES + 1];
-    size_t conditional;
     int asks_urls;
     gcv_text *urls;
     size_t urls_count, urls_room;
@@ -283,7 +281,7 @@ static gcv_status append(reading *to, gcv_step *step)
 /* Takes the URL of a remote, if URLs are sought and the entry has one. */
 static gcv_status take_url(reading *to, const gcv_step *step)
 {
-    if (to->conditional && !to->refused_file) {
+    if (step->include == GCV_FORBIDDEN_URL && !to->refused_file) {
         to->refused_file = step->file;
         to->refused_line = step->line;
     }
@@ -308,7 +306,6 @@ static gcv_status take_url(reading *to, const gcv_step *step)
 static gcv_status take(reading *to, gcv_step *step)
 {
     to->asks_urls |= step->role == GCV_URL_CONDITION;
-    to->conditional = to->walk.count <= to->conditional ? 0 : to->conditional;
     gcv_status status = append(to, step);
     if (status == GCV_OK && step->role == GCV_REMOTE_URL) {
         return take_url(to, step);
@@ -319,9 +316,6 @@ static gcv_status take(reading *to, gcv_step *step)
     if (step->include != GCV_OK) {
         return step->include;
     }
-    if (!to->conditional && step->role != GCV_PLAIN) {
-        to->conditional = to->walk.count;
-    }
     return enter(to, step->included);
 }
 
@@ -331,7 +325,6 @@ static gcv_status read_file(reading *to, const char *name)
     gcv_step step = {"", 0, 0, NULL, NULL, NULL, GCV_OK, GCV_PLAIN, 0};
     const char *own = kept(to->memory, name);
     to->walk.count = 0;
-    to->conditional = 0;
     gcv_status status = own ? enter(to, own) : GCV_NO_MEMORY;
     step.file = own;
     while (status == GCV_OK && (status = next(to, &step)) == GCV_OK) {

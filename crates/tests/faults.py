@@ -232,8 +232,9 @@ def main():
         options = ["-shared", "-fPIC", "-O1", "-fno-builtin", "-o", library]
         subprocess.run([*compiler, *options, SOURCE, "-ldl"], check=True)
         settings, value, check = sys.argv[1:]
-        # the statuses are those of a failure; a `get` that cannot read its file says so, and ends with 1, as in Git
-        every = {Faults(settings, (1, 2, 3, 4, 128, 255), library, work): SETTINGS,
+        # the statuses are those of a failure; a `get` that cannot read its file says so, and ends with 1, as in Git, and
+        # 141 says without a word that nobody reads the output
+        every = {Faults(settings, (1, 2, 3, 4, 128, 141, 255), library, work): SETTINGS,
                  Lines(value, (2,), library, work): [VALUE], Checks(check, (1, 2), library, work): CHECK}
         for task in [pool.submit(*task) for one, runs in every.items() for run in runs for task in one.tasks(run)]:
             task.result()

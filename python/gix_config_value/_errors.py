@@ -62,9 +62,10 @@ class InvalidFile(ValueError):
     """A file that is no configuration, or settings with which Git does not go on.
 
     `fault` says why in a sentence, and `file` and `line` tell where. `code` is bad_line or nul for a line, no_value,
-    no_directory, unreadable, relative, too_deep or remote_url for an include, and bad_format for a setting of the
-    repository's format. In the variables that have the settings of a command, which have the name `command line` and
-    no line, it is the name of a status in the C header, in lower case and without `GCV_`, such as bad_count.
+    no_directory, unreadable, relative, too_deep or remote_url for an include, and bad_format for a setting, a variable
+    or a file that says which repository is used, and in which format; the last two have no line. In the variables that
+    have the settings of a command, which have the name `command line` and no line, it is the name of a status in the C
+    header, in lower case and without `GCV_`, such as bad_count.
     """
 
     __module__ = "gix_config_value"

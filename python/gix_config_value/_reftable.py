@@ -1,6 +1,8 @@
-"""HEAD of a directory of Git whose references are in a reftable, by the format in Git's technical/reftable."""
+"""References of a directory of Git that are in a reftable, by the format in Git's technical/reftable."""
 import contextlib
 import os
+
+from ._core import line
 
 # of each version of a table how many bytes its header has
 HEADERS = {b"REFT\1": 24, b"REFT\2": 28}
@@ -17,8 +19,8 @@ def _number(table, at):
     return value, at + 1
 
 
-def _references(table):
-    """The first five bytes of each name of the first block in their order, and the reference that it names, or `None`."""
+def _references(table, most):
+    """The first bytes of each name of the first block in their order, and the reference that it names, or `None`."""
     header = HEADERS[table[:5]]
     size = 32 if header == 28 and table[24:28] == b"s256" else 20
     length = int.from_bytes(table[header + 1:header + 4], "big")
@@ -27,7 +29,7 @@ def _references(table):
     while at < end and table[header] == ord("r"):
         kept, at = _number(table, at)
         more, at = _number(table, at)
-        name = (name[:kept] + table[at:at + min(more >> 3, 5)])[:5]
+        name = (name[:kept] + table[at:at + min(more >> 3, most)])[:most]
         _, at = _number(table, at + (more >> 3))
         long, at = _number(table, at) if more & 7 == 3 else (size * (more & 7), at)
         yield name, table[at:at + long] if more & 7 == 3 else None
@@ -49,14 +51,14 @@ def _first_block(file, left):
         return b""
 
 
-def reference(folder, names):
-    """What HEAD names in the tables of these names, of which a later one decides, or `None`."""
-    left = MOST
-    for file in reversed(names):
+def reference(folder, wanted):
+    """What a reference names in the tables of a folder, of which a later one decides, or `None`."""
+    folder, left, wanted = os.path.join(folder, "reftable"), MOST, os.fsencode(wanted)
+    for file in reversed((line(os.path.join(folder, "tables.list")) or "").split("\n")):
         table = _first_block(os.path.join(folder, file), left)
         left -= len(table)
         with contextlib.suppress(LookupError):
-            for name, target in _references(table):
-                if name == b"HEAD":
+            for name, target in _references(table, len(wanted) + 1):
+                if name == wanted:
                     return None if target is None else os.fsdecode(target)
     return None

@@ -3,7 +3,7 @@ import os
 from collections import namedtuple
 
 from . import _reftable, _walk
-from ._core import boolean, integer, line, link, variable
+from ._core import boolean, integer, line, link, read_file, variable
 from ._core import real as _real
 from ._errors import InvalidFile, Refused
 from ._values import home_of_user, interpolate
@@ -18,12 +18,18 @@ Repository = namedtuple("Repository", "path real_path branch files")
 # where Git works: a folder, the repository, and why Git uses none although one is there
 Place = namedtuple("Place", "folder repository refusal")
 
+# how references are stored, and where, if they are in a place of their own
+Store = namedtuple("Store", "form place")
+
 HASHES, STORES = ("sha1", "sha256"), ("files", "reftable")
 # the extensions that count in each version, and those that need version 1, with what Git asks of their values
 EARLY = {"noop": "any", "preciousobjects": "boolean", "worktreeconfig": "boolean", "partialclone": "text"}
 LATER = {"noop-v1": "any", "objectformat": HASHES, "compatobjectformat": HASHES, "refstorage": STORES,
          "relativeworktrees": "boolean", "submodulepathconfig": "boolean"}
-WHITE, HEXADECIMAL = " \t\n\f\r", set("0123456789abcdefABCDEF")
+# what is white around a reference, and the digits of an object
+WHITE, DIGITS = " \t\n\r", "0123456789abcdefABCDEF"
+# how many characters Git reads of HEAD to know it, and how many references of which each names the next
+START, DEPTH = 255, 5
 
 
 class NotUsed(Exception):
@@ -45,45 +51,92 @@ def _join(folder, name):
 # ---- directories of Git
 
 
-def _head(directory):
-    """What HEAD names: the reference, or `None`, and the text if it is no reference."""
+def _object(text):
+    """The digits of an object with which a text begins, if there are 40 or more."""
+    digits = text[:len(text) - len(text.lstrip(DIGITS))]
+    return digits if len(digits) >= 40 else ""
+
+
+def _is_no_reference(name):
+    """Whether no reference has this name, by git-check-ref-format(1)."""
+    return (any(letter <= " " or letter in "\177~^:?*[\\" for letter in name) or ".." in name or "@{" in name
+            or name.endswith(".") or any(not part or part[0] == "." or part.endswith(".lock") for part in name.split("/")))
+
+
+def _is_head(directory):
+    """Whether HEAD begins as Git's does: with a reference, or with an object by 40 digits or more."""
     file = _join(directory, "HEAD")
     target = link(file)
     if target is not None:
-        return target, None
+        return target.startswith("refs/")
+    text = (line(file) or "")[:START]
+    return text[4:].lstrip(WHITE).startswith("refs/") if text.startswith("ref:") else bool(_object(text))
+
+
+def _reference(file):
+    """The reference that is named in the file of this name, `None` for an object or no file, and a text that is no name
+    of a reference for what Git does not understand."""
+    target = link(file)
+    if target is not None and target.startswith("refs/") and not _is_no_reference(target):
+        return target
+    try:
+        text = read_file(file, os.fsencode(file), True).decode("utf-8", "surrogateescape")
+    except (FileNotFoundError, NotADirectoryError, IsADirectoryError):
+        return None
+    except OSError:
+        return ""
+    text = text.rstrip(WHITE).partition("\0")[0]
+    if text.startswith("ref:"):
+        return text[4:].lstrip(WHITE)
+    found = _object(text)
+    return None if len(found) in (40, 64) and text[len(found):][:1] in WHITE else ""
+
+
+def _branch(directory, store):
+    """The name of the branch to which HEAD leads, or `None`. HEAD is in a folder of its own if work trees share one."""
+    common, name, is_table = _common(directory), "HEAD", store.form == "reftable"
+    own, shared = directory, directory if common is None else common
+    if store.place is not None:
+        shared = _join(shared, store.place)
+        own = shared if common is None else f"{shared}/worktrees/{os.path.basename(directory)}"
+    for _ in range(DEPTH):
+        folder = own if name == "HEAD" else shared
+        target = _reftable.reference(folder, name) if is_table else _reference(_join(folder, name))
+        if target is None:
+            return name[11:] if name.startswith("refs/heads/") else None
+        if _is_no_reference(target):
+            return None
+        name = target
+    return None
+
+
+def _common(directory):
+    """The directory that the file commondir names, or `None` if there is no such file."""
+    file = _join(directory, "commondir")
+    if not os.path.lexists(file):
+        return None
     text = line(file)
-    if text is None or not text.startswith("ref:"):
-        return None, text
-    return text[4:].strip(WHITE), None
-
-
-def _branch(directory):
-    """The name of the branch, or `None` if HEAD names none. With a reftable its file names `.invalid`."""
-    reference, _ = _head(directory)
-    if reference == "refs/heads/.invalid":
-        folder = _join(directory, "reftable")
-        reference = _reftable.reference(folder, (line(_join(folder, "tables.list")) or "").split("\n"))
-    return reference[11:] if reference is not None and reference.startswith("refs/heads/") else None
+    common = _join(directory, text or "")
+    is_wrong = text is None or os.path.getsize(file) == 0
+    if is_wrong or not (os.path.isdir(common) or os.path.isdir(os.path.dirname(common))):
+        raise InvalidFile("bad_format", "no name of a folder", file, 0)
+    return common
 
 
 def _shared(directory):
     """The directory that worktrees share: that of GIT_COMMON_DIR or of a file, or `None`."""
     given = variable("GIT_COMMON_DIR")
-    if given is not None:
-        return given
-    shared = line(_join(directory, "commondir"))
-    return None if shared is None else _join(directory, shared)
+    return _common(directory) if given is None else given
 
 
-def _is_git_dir(directory):
-    """Whether HEAD is as Git writes it, and there are objects and refs."""
-    reference, text = _head(directory)
-    digits = (text or "")[:40]
-    is_object = len(digits) == 40 and HEXADECIMAL.issuperset(digits)
-    is_head = is_object if reference is None else reference.startswith("refs/")
-    common = _shared(directory)
+def _is_git_dir(asked, directory):
+    """Whether HEAD is as Git writes it, and there are objects, where GIT_OBJECT_DIRECTORY says, and refs."""
+    if not _is_head(directory):
+        return False
+    common, objects = _shared(directory), variable("GIT_OBJECT_DIRECTORY")
     common = directory if common is None else common
-    return is_head and os.path.isdir(_join(common, "objects")) and os.path.isdir(_join(common, "refs"))
+    objects = _join(common, "objects") if objects is None else objects and _join(asked.name, objects)
+    return os.path.isdir(objects) and os.path.isdir(_join(common, "refs"))
 
 
 def _linked(file):
@@ -138,10 +191,13 @@ def _is_safe(asked, folder):
 
 def _may_be_bare(asked, folder):
     """Whether `safe.bareRepository` lets Git find the bare repository in this folder."""
-    if folder.endswith("/.git") or "/.git/worktrees/" in folder or "/.git/modules/" in folder:
-        return True
-    values = [value for _, _, key, value, _ in _protected(asked) if key == "safe.barerepository"]
-    return ([value for value in values if value in ("explicit", "all")] or ["all"])[-1] == "all"
+    may_be = True
+    for entry in _protected(asked):
+        if entry[2] == "safe.barerepository":
+            if entry[3] not in ("all", "explicit"):
+                raise _wrong(entry, f"{_text(entry)!r} is neither 'all' nor 'explicit'")
+            may_be = entry[3] == "all"
+    return may_be or folder.endswith("/.git") or "/.git/worktrees/" in folder or "/.git/modules/" in folder
 
 
 def _safe(asked, found, *names):
@@ -172,10 +228,10 @@ def _found_in(asked, folder):
     """The directory of Git that a folder has or is, or `None`."""
     below, here = _join(folder.name, ".git"), folder.name or "."
     target = _linked(below)
-    if _is_git_dir(target or below):
+    if _is_git_dir(asked, target or below):
         found = Found(folder, target or below, target or ".git", "below")
         return _safe(asked, found, below, here, found.name)
-    if not _is_git_dir(folder.name):
+    if not _is_git_dir(asked, folder.name):
         return None
     if not _may_be_bare(asked, _real(here) or folder.path):
         raise NotUsed(f"cannot use bare repository '{folder.path}' (safe.bareRepository is 'explicit')")
@@ -197,7 +253,7 @@ def _search(asked):
     if given is not None:
         whole = _join(asked.name, given)
         target = _linked(whole)
-        if not given or not _is_git_dir(target or whole):
+        if not given or not _is_git_dir(asked, target or whole):
             raise NotUsed(f"not a git repository: '{given}'")
         return Found(asked, target or whole, target or given, "given")
     found = _found_in(asked, asked)
@@ -226,6 +282,7 @@ class Format:
     def __init__(self):
         self.version = self.unknown = self.of_later = self.work_tree = None
         self.is_bare = self.has_own_files = False
+        self.store = Store("files", None)
 
     def _extend(self, name, entry):
         wanted = EARLY.get(name) or LATER.get(name)
@@ -233,8 +290,10 @@ class Format:
             _value(boolean, entry)
         elif wanted not in (None, "any"):
             text = _text(entry)
-            if isinstance(wanted, tuple) and (text.split("://")[0] if wanted is STORES else text) not in wanted:
+            store = _store(text) if wanted is STORES else self.store
+            if store is None or (wanted is HASHES and text not in HASHES):
                 raise _wrong(entry, "no value of this extension")
+            self.store = store
         if name == "worktreeconfig":
             self.has_own_files = _value(boolean, entry)
         if name in LATER:
@@ -268,6 +327,21 @@ class Format:
             raise NotUsed(f"unknown repository extension found: {self.unknown}")
         if self.version != 1 and self.of_later:
             raise NotUsed(f"repo version is 0, but v1-only extension found: {self.of_later}")
+
+
+def _store(text):
+    """What a text says of how references are stored, or `None` if it says nothing that Git knows."""
+    form, mark, place = text.partition("://")
+    return Store(form, place if mark else None) if form in STORES else None
+
+
+def _given_store():
+    """What GIT_REFERENCE_BACKEND says of how references are stored, or `None` if it is not set."""
+    text = variable("GIT_REFERENCE_BACKEND")
+    store = None if text is None else _store(text)
+    if text is not None and store is None:
+        raise InvalidFile("bad_format", f"unknown ref storage format: {text!r}", "GIT_REFERENCE_BACKEND", 0)
+    return store
 
 
 def _wrong(entry, why):
@@ -350,12 +424,13 @@ def _located(asked, found, shared, told):
     files = [("local", _shown(common, "config"))]
     if told.has_own_files:
         files.append(("worktree", _shown(named, "config.worktree")))
-    return Place(place, Repository(path, _real(found.name) or path, _branch(found.name), files), None)
+    return Place(place, Repository(path, _real(found.name) or path, _branch(found.name, told.store), files), None)
 
 
 def find(name):
     """Where Git works if it is started in the folder of this name, and the repository that it uses."""
     asked = folder = _folder(name)
+    given = _given_store()
     try:
         found = _search(asked)
         if not found:
@@ -363,6 +438,7 @@ def find(name):
         folder, shared = found.folder, _shared(found.name)
         told = _format(found, shared)
         told.check()
+        told.store = given or told.store
         return _located(asked, found, shared, told)
     except NotUsed as refused:
         return Place(folder, None, str(refused))

@@ -39,10 +39,10 @@ TYPED = """[core]
 [branch "Main"]
     rebase
 """
-# conditions that are slow if each star is tried again at all its places, on a branch or a folder whose name is a run of
+# conditions that are slow if each star is tried again at all its places, on a branch, a folder or a URL that is a run of
 # this many letters; and whether they hold in Git 2.55.0, which needs no time
 STARS = [(100, "onbranch:" + "*a" * 5 + "*ab", False), (200, "onbranch:" + "*a" * 4 + "*ab", False),
-         (200, "onbranch:" + "*a" * 50, True), (60_000, "onbranch:" + "*a" * 60_000, True),
+         (200, "onbranch:" + "*a" * 50, True), (60_000, "hasconfig:remote.*.url:" + "*a" * 60_000, True),
          (100, "onbranch:**/" + "a*" * 5 + "ab", False), (100, "onbranch:*[" + "[:" * 2000, False),
          (100, "gitdir:" + "*a" * 6 + "b/.git", False), (100, "gitdir:" + "*a" * 6 + "/.git", True)]
 # files of a tree, of which `main` is read; {root} is the folder of the tree, and {user} the current user
@@ -602,9 +602,9 @@ class Configurations(Files):
         self.write({"main": "[a]b = x\ty \r z\t\n c=\t\"\t\" \\\n\t;\n d = p\t\\\n\tq\r\r\n"})
         self.assertEqual(dict(read("main")), {"a.b": "x\ty \r z", "a.c": "\t ", "a.d": "p\t\tq"})
 
-    def repository_of(self, folder, head, conditions):
+    def repository_of(self, folder, head, conditions, format=""):
         """Writes a repository that includes a file on each of these conditions, and returns which ones hold."""
-        config = "".join(f"[includeIf \"{condition}\"]path=../{at}\n" for at, condition in enumerate(conditions))
+        config = format + "".join(f"[includeIf \"{condition}\"]path=../{at}\n" for at, condition in enumerate(conditions))
         self.write({f"{folder}/.git/HEAD": head, f"{folder}/.git/objects/x": "", f"{folder}/.git/refs/x": "",
                     f"{folder}/.git/config": config})
         self.write({f"{folder}/{at}": f"[holds]c{at}" for at in range(len(conditions))})
@@ -622,12 +622,14 @@ class Configurations(Files):
         # who opens the pipe waits, and is ended
         self.addCleanup(signal.alarm, 0)
         signal.alarm(60)
-        self.assertEqual(self.repository_of("r", "ref: refs/heads/.invalid\n", ["onbranch:**"]), [False])
+        format = "[core]repositoryformatversion=1\n[extensions]refStorage=reftable\n"
+        self.assertEqual(self.repository_of("r", "ref: refs/heads/.invalid\n", ["onbranch:**"], format), [False])
 
     def stars(self):
         for letters, condition, holds in STARS:
             began = time.thread_time()
-            held = self.repository_of("a" * min(letters, 200), f"ref: refs/heads/{'a' * letters}\n", [condition])
+            name, url = "a" * min(letters, 200), f"[remote \"r\"]url={'a' * letters}\n"
+            held = self.repository_of(name, f"ref: refs/heads/{name}\n", [condition], url)
             self.assertEqual((held, time.thread_time() - began < 0.1), ([holds], True), condition[:40])
 
     def test_stars(self):

@@ -2,14 +2,17 @@
 
 use crate::diff::Span;
 use config_checks::finding::Finding;
-use config_checks::fix::{Fix, Judge, mend};
+use config_checks::fix::{Fix, Judge, change_for, mend};
 use config_checks::options::Options;
 use config_checks::row::Row;
 use config_checks::setting::Setting;
 use config_edit::{Change, EditError, change_entries};
-use config_file::FileError;
-use config_host::{Disk, LockError, Locked};
+use config_file::key::Key;
+use config_file::{FileError, Walk};
+use config_host::reading::next_entry;
+use config_host::{Disk, HereError, LockError, Locked, Surroundings};
 use std::alloc::{AllocError, Global};
+use std::collections::BTreeSet;
 use thiserror::Error;
 
 /// A change of the entry that this many entries precede, on these lines.
@@ -19,6 +22,17 @@ pub(crate) struct Mended {
     pub(crate) span: Span,
     pub(crate) name: Option<Vec<u8>>,
     pub(crate) value: Option<Vec<u8>>,
+    /// The key that it has from now on, as Git lists it, if its last part changes.
+    pub(crate) key: Option<Vec<u8>>,
+}
+
+/// The key of this text as Git lists it.
+fn listed(alloc: Global, text: &[u8]) -> Result<Vec<u8>, AllocError> {
+    let mut listed = Vec::new(alloc);
+    if let Some(key) = Key::split(text) {
+        key.push_to(&mut listed)?;
+    }
+    Ok(listed)
 }
 
 /// Looks for the changes that mend the findings of one file.
@@ -26,6 +40,8 @@ pub(crate) struct Mended {
 pub(crate) struct Mender<'r, 'w, 't> {
     judge: Judge<'r, 'w>,
     options: Options<'t>,
+    /// Whether changes are made that are not safe, too.
+    guesses: bool,
     /// The changes so far, in the order of the entries. None mends a file that Git does not read to its end.
     pub(crate) changes: Vec<Mended>,
 }
@@ -36,10 +52,12 @@ impl<'r, 'w, 't> Mender<'r, 'w, 't> {
         alloc: Global,
         rows: &'r [Row<'w>],
         options: Options<'t>,
+        guesses: bool,
     ) -> Result<Mender<'r, 'w, 't>, AllocError> {
         Ok(Mender {
             judge: Judge::new(alloc, rows)?,
             options,
+            guesses,
             changes: Vec::new(alloc),
         })
     }
@@ -62,9 +80,18 @@ impl<'r, 'w, 't> Mender<'r, 'w, 't> {
             },
             name: None,
             value: None,
+            key: None,
         };
-        match mend(alloc, &self.judge, &self.options, setting, finding)? {
-            Some(Fix::Name(name)) => mended.name = Some(name.to_vec(alloc)?),
+        let change = if self.guesses {
+            change_for(alloc, &self.judge, &self.options, setting, finding)?
+        } else {
+            mend(alloc, &self.judge, &self.options, setting, finding)?
+        };
+        match change {
+            Some(Fix::Name(name)) => {
+                mended.name = Some(name.to_vec(alloc)?);
+                mended.key = Some(listed(alloc, finding.suggested_key.unwrap_or(b""))?);
+            }
             Some(Fix::Value(value)) => mended.value = Some(value.to_vec(alloc)?),
             None => return Ok(None),
         }
@@ -82,6 +109,66 @@ impl<'r, 'w, 't> Mender<'r, 'w, 't> {
         }
         Ok(())
     }
+}
+
+/// The keys that these changes give, and those that several of them give.
+fn given_twice(
+    alloc: Global,
+    changes: &[Mended],
+) -> Result<(BTreeSet<Vec<u8>>, BTreeSet<Vec<u8>>), AllocError> {
+    let mut given = BTreeSet::new(alloc);
+    let mut twice = BTreeSet::new(alloc);
+    for change in changes {
+        let Some(key) = &change.key else {
+            continue;
+        };
+        if given.contains(key) {
+            twice.insert(key.as_slice().to_vec(alloc)?)?;
+        } else {
+            given.insert(key.as_slice().to_vec(alloc)?)?;
+        }
+    }
+    Ok((given, twice))
+}
+
+/// These changes without those by which an entry gets a key that this file, what it includes, or another of the
+/// changes has too: Git would take another value than before, so such a change is a guess.
+pub(crate) fn without_rivals<'t>(
+    alloc: Global,
+    disk: &Disk<'t>,
+    surroundings: &Surroundings<'t>,
+    file: &[u8],
+    text: &'t [u8],
+    changes: Vec<Mended>,
+) -> Result<Vec<Mended>, AllocError> {
+    let (given, mut rivals) = given_twice(alloc, &changes)?;
+    if given.is_empty() {
+        return Ok(changes);
+    }
+    let mut walk = Walk::new(disk.place(file)?, text);
+    for _ in 0..u64::MAX {
+        match next_entry(disk, &surroundings.known(), &mut walk) {
+            Ok(Some(taken)) => {
+                let key = taken.entry.key_text(alloc)?;
+                if given.contains(&key) {
+                    rivals.insert(key)?;
+                }
+            }
+            Err(HereError::Host(_)) => return Err(AllocError),
+            _ => break,
+        }
+    }
+    let mut left = Vec::new(alloc);
+    for change in changes {
+        let has_rival = match &change.key {
+            Some(key) => rivals.contains(key),
+            None => false,
+        };
+        if !has_rival {
+            left.push(change)?;
+        }
+    }
+    Ok(left)
 }
 
 /// Why a file is not changed. It then has its old text.

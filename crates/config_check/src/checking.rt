@@ -1,7 +1,7 @@
 //! A run over files, each of which is checked once, and over the files that they include.
 
 use crate::baseline::fingerprints;
-use crate::changes::{Mended, Mender, change_file, changed};
+use crate::changes::{Mended, Mender, change_file, changed, without_rivals};
 use crate::diff::diff_of;
 use crate::failure::{Failure, failed, tell, written};
 use crate::options::{Asked, Format, Output};
@@ -287,7 +287,7 @@ impl<'c, 't> Checking<'c, 't> {
         let alloc = self.rt.alloc();
         let options = self.options;
         let mender = if mends {
-            Some(Mender::new(alloc, rows, options)?)
+            Some(Mender::new(alloc, rows, options, self.asked.guesses)?)
         } else {
             None
         };
@@ -366,6 +366,17 @@ impl<'c, 't> Checking<'c, 't> {
         Ok(self.look_by_all(file, text, false)?.counts)
     }
 
+    /// The counts of a file, and the changes to make in it: with `--unsafe-fixes` all that are suggested.
+    fn look_for_changes(&mut self, file: &'t str, text: &'t [u8]) -> Result<Looked, Failure<'static>> {
+        let Looked { counts, changes } = self.look_by_all(file, text, true)?;
+        if self.asked.guesses {
+            return Ok(Looked { counts, changes });
+        }
+        let alloc = self.rt.alloc();
+        let changes = without_rivals(alloc, &self.disk, &self.surroundings, file.as_bytes(), text, changes)?;
+        Ok(Looked { counts, changes })
+    }
+
     /// Makes the changes in a file, and writes the findings that are left. Returns its text, which is the old one
     /// if it has no changes or is not changed, with its counts.
     fn mend(
@@ -373,7 +384,7 @@ impl<'c, 't> Checking<'c, 't> {
         file: &'t str,
         text: &'t [u8],
     ) -> Result<(&'t [u8], Counts), Failure<'static>> {
-        let Looked { counts, changes } = self.look_by_all(file, text, true)?;
+        let Looked { counts, changes } = self.look_for_changes(file, text)?;
         if counts.findings == 0 {
             return Ok((text, counts));
         }
@@ -407,7 +418,7 @@ impl<'c, 't> Checking<'c, 't> {
     /// Checks the text of a file, and shows what would be changed in it.
     fn show_changes(&mut self, file: &'t str, text: &'t [u8]) -> Result<Counts, Failure<'static>> {
         let alloc = self.rt.alloc();
-        let Looked { counts, changes } = self.look_by_all(file, text, true)?;
+        let Looked { counts, changes } = self.look_for_changes(file, text)?;
         if changes.is_empty() {
             return Ok(counts);
         }

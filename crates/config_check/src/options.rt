@@ -68,7 +68,13 @@ const ONCE: &[Row] = &[
         "fix",
         "",
         Takes::Ever,
-        "Change in each FILE what has one suggestion, and report the rest",
+        "Undo in each FILE what is surely a typing error, and report the rest",
+    ),
+    (
+        "unsafe-fixes",
+        "",
+        Takes::Ever,
+        "With --fix or --diff, take what is only a guess too, if it is the only suggestion",
     ),
     (
         "diff",
@@ -181,6 +187,8 @@ pub(crate) struct Asked<'r, 'm> {
     pub(crate) canonical: bool,
     pub(crate) style: Style,
     pub(crate) output: Output,
+    /// Whether changes are made that are not safe, too.
+    pub(crate) guesses: bool,
     pub(crate) fails_on: Severity,
     pub(crate) is_quiet: bool,
     pub(crate) follows: bool,
@@ -317,6 +325,18 @@ fn output_of(options: &Options<'_>) -> Result<Output, Failure<'static>> {
     }
 }
 
+/// Whether `--unsafe-fixes` is given, which says what `--fix` and `--diff` do.
+fn guesses_of(options: &Options<'_>) -> Result<bool, Failure<'static>> {
+    if !options.has("unsafe-fixes") {
+        return Ok(false);
+    }
+    if options.has("fix") || options.has("diff") {
+        Ok(true)
+    } else {
+        Err(Failure::Whole("--unsafe-fixes goes with --fix or --diff"))
+    }
+}
+
 impl<'r, 'm: 'r> Asked<'r, 'm> {
     /// What these options ask for, of which `--ignore` is read already.
     pub(crate) fn of(
@@ -333,6 +353,7 @@ impl<'r, 'm: 'r> Asked<'r, 'm> {
                 excerpts: rt.stdout().is_terminal(),
             },
             output: output_of(options)?,
+            guesses: guesses_of(options)?,
             fails_on: fails_on(options),
             is_quiet: options.has("quiet"),
             follows: !options.has("no-includes"),

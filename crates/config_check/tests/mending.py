@@ -17,6 +17,7 @@ KILLS = 6
 # where a run over all files takes longer, those that are killed have fewer files: a kill tears one file at most
 SECONDS_UNTIL_KILLED = 2
 COUNTS = re.compile(rb"config_check: .* (\d+) findings?(?:, (\d+) fixed)?\n")
+GUESSES = ["--unsafe-fixes"]
 # files, the arguments, and what --fix makes of them
 FIXED = [
     (b"[core]\n\tbare = ture\n", [], b"[core]\n\tbare = true\n"),
@@ -39,7 +40,22 @@ FIXED = [
     (b"[core]\n\tbare = yess\n", ["--canonical"], b"[core]\n\tbare = yess\n"),
     (b"[sendemail]\n\ttransferEncoding = 9bit\n", [], b"[sendemail]\n\ttransferEncoding = 9bit\n"),
     (b"[gc]\n\treflog = 90\n", [], b"[gc]\n\treflog = 90\n"),
-    (b"[push]\n\tautoSetup = 1\n", [], b"[push]\n\tautoSetupRemote = 1\n"),
+    # a word too many or missing, two typing errors and another digit are guesses
+    (b"[push]\n\tautoSetup = 1\n", [], b"[push]\n\tautoSetup = 1\n"),
+    (b"[push]\n\tautoSetup = 1\n", GUESSES, b"[push]\n\tautoSetupRemote = 1\n"),
+    (b"[http]\n\tsslVerifyHost = false\n\tproxyPassword = x\n", [], b"[http]\n\tsslVerifyHost = false\n\tproxyPassword = x\n"),
+    (b"[core]\n\tpagerOptions = -R\n\teditorArgs = --wait\n", [], b"[core]\n\tpagerOptions = -R\n\teditorArgs = --wait\n"),
+    (b"[diff]\n\texternalTool = meld\n", [], b"[diff]\n\texternalTool = meld\n"),
+    (b"[color \"diff\"]\n\tremoved = red\n", [], b"[color \"diff\"]\n\tremoved = red\n"),
+    (b"[init]\n\tdefaultObjectFormat = sha2\n", [], b"[init]\n\tdefaultObjectFormat = sha2\n"),
+    (b"[init]\n\tdefaultObjectFormat = sha2\n", GUESSES, b"[init]\n\tdefaultObjectFormat = sha1\n"),
+    (b"[http]\n\tsslVersion = tlsv2\n", [], b"[http]\n\tsslVersion = tlsv2\n"),
+    (b"[gpg]\n\tformat = ssl\n", [], b"[gpg]\n\tformat = ssh\n"),
+    # a key that the file has already, or that two changes would give
+    (b"[user]\n\tname = A\n\tnmae = B\n", [], b"[user]\n\tname = A\n\tnmae = B\n"),
+    (b"[user]\n\tnmae = B\n[USER]\n\tNAME = A\n", [], b"[user]\n\tnmae = B\n[USER]\n\tNAME = A\n"),
+    (b"[user]\n\tnmae = B\n\tnam = A\n", [], b"[user]\n\tnmae = B\n\tnam = A\n"),
+    (b"[user]\n\tname = A\n\tnmae = B\n", GUESSES, b"[user]\n\tname = A\n\tname = B\n"),
     (b"[color \"diff\"]\n\tmeta = bue\n", [], b"[color \"diff\"]\n\tmeta = blue\n"),
     (b"[color \"diff\"]\n\tmeta = redd grean\n", [], b"[color \"diff\"]\n\tmeta = redd grean\n"),
     (b"[gc]\n\tauto = 1,5\n", [], b"[gc]\n\tauto = 1,5\n"),
@@ -120,10 +136,17 @@ def single(group, program):
         came = program.run(["--fix", "c"], cwd=folder)
         group.expect("lines of the new text", (1, b"c:3:2: error: core.editor: no value [no-value]\n",
                                                b"config_check: 2 entries, 2 judged, 0 unknown keys, 1 finding, 1 fixed\n"), came)
-        (folder / "c").write_bytes(b"[include]\n\tpat = d\n\tpath = d\n")
+        (folder / "c").write_bytes(b"[include]\n\tpath = d\n[core]\n\tbrae = true\n")
+        (folder / "d").write_bytes(b"[core]\n\tbare = false\n")
+        came = program.run(["--fix", "c"], cwd=folder)
+        group.expect("a key that an included file has", (1, b"[include]\n\tpath = d\n[core]\n\tbrae = true\n", 1),
+                     (came.status, (folder / "c").read_bytes(), came.output.count(b"\n")))
+        came = program.run(["--unsafe-fixes", "c"], cwd=folder)
+        group.expect("--unsafe-fixes alone", Ended(2, b"", b"config_check: --unsafe-fixes goes with --fix or --diff\n"), came)
+        (folder / "c").write_bytes(b"[include]\n\tpat = d\n")
         (folder / "d").write_bytes(b"[core]\n\tbare = x\n")
         came = program.run(["--fix", "c"], cwd=folder)
-        group.expect("an include that is mended", (1, b"[include]\n\tpath = d\n\tpath = d\n", 1),
+        group.expect("an include that is mended", (1, b"[include]\n\tpath = d\n", 1),
                      (came.status, (folder / "c").read_bytes(), came.output.count(b"\n")))
         (folder / "rows").write_bytes(b"a.b is=true bool\na.c is=off bool\na.d is=1k int\n")
         (folder / "c").write_bytes(b"[a]\n\tb = no ; x\n\tb = yes\n\tc\n\td = 1023\n\td = 1024\n\td = x\n")

@@ -1,12 +1,12 @@
 -- What mends a finding.
-use Rattle.std.proofs.Common.{◌≡◌, ◌↔◌, ℕ, List, reverse, Bool, true, IsTrue, Option, None, Some, option_map}
+use Rattle.std.proofs.Common.{◌≡◌, ◌≢◌, ◌≤◌, ◌<◌, ◌↔◌, ℕ, List, reverse, Bool, true, IsTrue, Option, None, Some, option_map}
 use Rattle.std.proofs.Common.{refl, sym, ap, subst, ◌∙◌, if◌then◌else◌, Bor, arith}
 use Rattle.std.proofs.lemmas.Str.{IsUtf8-from_is_utf8, is_utf8-from_IsUtf8}
 use Rattle.std.specs.Str.{IsUtf8, is_utf8}
 use Rattle.serde_json.specs.Data.{Data, null}
 use Rattle.config_file.specs.Key.{written}
 use Rattle.config_checks.specs.declared.code.Code.{Code}
-use Rattle.config_checks.specs.declared.code.Code.TheVariants.{NotAWord}
+use Rattle.config_checks.specs.declared.code.Code.TheVariants.{NotAWord, NotCanonical, OtherValue}
 use Rattle.config_checks.specs.declared.fix.Fix.{Fix}
 use Rattle.config_checks.specs.declared.fix.Fix.TheVariants.{Name, Value}
 use Rattle.config_checks.specs.declared.kind.SettingKind.TheVariants as kinds
@@ -18,6 +18,10 @@ use Rattle.config_checks.specs.declared.setting.Setting.{Setting}
 use Rattle.config_checks.specs.declared.suggestion.UnknownKey.{UnknownKey}
 use Rattle.config_checks.specs.Findings.{Finding}
 use Rattle.config_checks.specs.Fixes.{IsClean, IsOnlyMeant, IsOnlyKey, MendsValue, IsRenamed, MendsKey, Mends}
+use Rattle.config_checks.specs.Fixes.{IsSafe, IsSafeName, IsSafeValue, spelled, asked, mistyped, IsTypingError}
+use Rattle.config_checks.specs.Nearest.{FewEdits, most_edits}
+use Rattle.config_file.specs.Key.{Key, IsCut}
+use Rattle.config_file.proofs.OneKey.{cut_same}
 use Rattle.config_checks.specs.Reasons.{HasFinding, IsMeant, WordEdits}
 use Rattle.config_checks.specs.Report.{key_meant}
 use Rattle.config_checks.specs.Rows.{Decides}
@@ -108,3 +112,52 @@ no_name rows options setting f key (Name name) none some other (also, meant, lac
     let both : Some also ≡ Some key = sym meant ∙ some in
     let same : also ≡ key = cc in
     other name.now (subst (λ k. IsRenamed setting.key.items k name.now) same renamed)
+
+-- ---- safe changes
+
+pub few_far : (was now : List ℕ) → ((n : ℕ) → FewEdits 5 now was n → 3 < n) → ¬ (IsTypingError was now)
+few_far was now far t =
+    let most : 1 ≤ most_edits 5 now was = grind arith in
+    let least = t.one in
+    let more = far t.edits (t.are, omega (arith, most, least)) in
+    omega (arith, more, least)
+
+module _ (setting : Setting) where
+  pub safe_name : (name : List ℕ) (key : Key) (b : Bool) → IsCut setting.key.items key
+      → (IsTrue b ↔ IsTypingError key.name name) → IsTrue b ↔ IsSafeName setting name
+  safe_name name key b cut is = (
+    λ yes. record { key = key; is = cut; mistyped = is.0 yes },
+    λ safe. is.1 (rw (cut_same safe.is cut) at safe.mistyped),
+  )
+
+  pub safe_value : (code : Code) (new value : List ℕ) (b : Bool) → value_of setting ≡ Some value → code ≢ NotCanonical
+      → code ≢ OtherValue → (IsTrue b ↔ IsTypingError value new) → IsTrue b ↔ IsSafeValue setting code new
+  safe_value code new value b held no_spelling unasked is = (
+    λ yes. mistyped value held (is.0 yes),
+    λ safe. elim safe [
+      | spelled so ↦ absurd (no_spelling so)
+      | asked so ↦ absurd (unasked so)
+      | mistyped other also typed ↦
+          let both : Some other ≡ Some value = sym also ∙ held in
+          let same : other ≡ value = cc in
+          is.1 (rw same at typed)
+    ],
+  )
+
+  -- a finding has one change
+  pub safe_same : (rows : List Row) (options : Options) (f : Finding) (code : Code) (a b : Fix) → Mends rows options setting f a
+      → Mends rows options setting f b → IsSafe setting code b → IsSafe setting code a
+  safe_same rows options f code (Value x) (Value y) (meant, mends) (also, mends_too) safe =
+      let both : Some x.now ≡ Some y.now = sym meant ∙ also in
+      let same : x.now ≡ y.now = cc in
+      rw same safe
+  safe_same rows options f code (Value x) (Name n) (meant, mends) (key, also, none, is, renamed, mends_too) safe =
+      let both : None ≡ Some x.now = sym none ∙ meant in absurd (cc)
+  safe_same rows options f code (Name m) (Value y) (key, also, none, is, renamed, mends_too) (meant, mends) safe =
+      let both : None ≡ Some y.now = sym none ∙ meant in absurd (cc)
+  safe_same rows options f code (Name m) (Name n) (key, meant, none, is, renamed, mends) (other, also, lacks, so, renamed_too, mends_too) safe =
+      let both : Some key ≡ Some other = sym meant ∙ also in
+      let same : key ≡ other = cc in
+      let to = cut_same (rw same at renamed.becomes) renamed_too.becomes in
+      let names : m.now ≡ n.now = sym renamed.last ∙ ap (λ k. k.name) to ∙ renamed_too.last in
+      rw names safe

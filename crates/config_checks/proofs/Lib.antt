@@ -15,3 +15,4 @@ mod OneSuggestion
 mod OneReport
 mod OneLine
 mod FixLemmas
+mod StandardFacts

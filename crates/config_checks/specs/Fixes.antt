@@ -1,5 +1,7 @@
--- Which change of an entry mends its finding.
-use Rattle.std.specs.Prelude.{◌≡◌, ⊤, ℕ, List, reverse, Option, None, Some}
+-- Which change of an entry mends its finding, and which changes are safe.
+use Rattle.std.specs.Prelude.{◌≡◌, ◌≤◌, ◌&&◌, ◌==◌, not, ⊤, ℕ, Bool, false, List, reverse, Option, None, Some}
+use Rattle.std.specs.Char.{is_ascii_digit}
+use Rattle.std.specs.List.{list_any}
 use denote.Ref.{Bor}
 use Rattle.config_text.specs.SameWord.{SameWord}
 use Rattle.config_file.specs.Key.{Key, IsCut}
@@ -14,6 +16,7 @@ use Rattle.config_checks.specs.declared.row.Row.{Row}
 use Rattle.config_checks.specs.declared.setting.Setting.{Setting}
 use Rattle.config_checks.specs.declared.suggestion.UnknownKey.{UnknownKey}
 use Rattle.config_checks.specs.Findings.{Finding}
+use Rattle.config_checks.specs.Nearest.{Edits}
 use Rattle.config_checks.specs.Reasons.{HasFinding, IsMeant}
 use Rattle.config_checks.specs.Report.{key_meant}
 use Rattle.config_checks.specs.Rows.{Decides}
@@ -62,3 +65,33 @@ Mends rows options setting f (Value new) =
     (f.suggested_value ≡ Some new.now) × MendsValue rows options setting f.code new.now
 Mends rows options setting f (Name name) = (key : List ℕ) × (f.suggested_key ≡ Some key) × (f.suggested_value ≡ None)
     × (f.code ≡ kind.UnknownKey) × IsRenamed setting.key.items key name.now × MendsKey rows options setting key
+
+-- a digit of the first text is not in the second one
+abbrev pub lacks_digit : List ℕ → List ℕ → Bool
+lacks_digit text other = list_any (λ b. is_ascii_digit b && not (list_any (λ c. c == b) other)) text
+
+-- One typing error at most leads from one text to the other: a byte less, more or other, or two in the wrong order. The case
+-- of letters is none, and no digit is taken for another one.
+pub record IsTypingError (was now : List ℕ) : Type 0 where
+  pub edits : ℕ
+  pub are : Edits now was edits
+  pub one : edits ≤ 1
+  pub kept : lacks_digit was now ≡ false
+  pub old : lacks_digit now was ≡ false
+
+-- the new value means the same as the old one, or a row asks for it, or the old one is a typing error of it
+pub data IsSafeValue (setting : Setting) (code : Code) (new : List ℕ) : Type 0 where
+  spelled : code ≡ kind.NotCanonical → IsSafeValue setting code new
+  asked : code ≡ kind.OtherValue → IsSafeValue setting code new
+  mistyped : (value : List ℕ) → value_of setting ≡ Some value → IsTypingError value new → IsSafeValue setting code new
+
+-- the last part of the key is a typing error of the new one
+pub record IsSafeName (setting : Setting) (name : List ℕ) : Type 0 where
+  pub key : Key
+  pub is : IsCut setting.key.items key
+  pub mistyped : IsTypingError key.name name
+
+-- the change of a setting with a finding of this code is safe: it undoes one typing error, or writes what was asked for
+abbrev pub IsSafe : Setting → Code → Fix → Type 0
+IsSafe setting code (Value new) = IsSafeValue setting code new.now
+IsSafe setting code (Name name) = IsSafeName setting name.now

@@ -1,5 +1,5 @@
 -- What the checks of several files come to: the sum of their counts, and the exit status.
-use Rattle.std.specs.Prelude.{◌⊎◌, ℕ, ◌+◌, ◌-◌, ◌^◌, ◌<◌, min}
+use Rattle.std.specs.Prelude.{◌≡◌, ◌⊎◌, ℕ, ◌+◌, ◌-◌, ◌^◌, ◌<◌, min, Bool, true, false}
 use Rattle.config_checks.specs.declared.check.Counts.{Counts}
 use Rattle.config_checks.specs.declared.reason.Severity.{Severity}
 use Rattle.config_checks.specs.declared.reason.Severity.TheVariants.{Error, Warning, Note}
@@ -23,3 +23,9 @@ abbrev pub HasAtLeast : Severity → Counts → Type 0
 HasAtLeast Note s = 0 < s.findings
 HasAtLeast Warning s = (0 < s.errors) ⊎ (0 < s.warnings)
 HasAtLeast Error s = 0 < s.errors
+
+-- the exit status: 2 if a file could not be read, otherwise 1 if there is a finding of at least this severity,
+-- and otherwise 0
+abbrev pub IsStatus : Severity → (is_unread : Bool) → Counts → ℕ → Type 0
+IsStatus least true s status = status ≡ 2
+IsStatus least false s status = (HasAtLeast least s × (status ≡ 1)) ⊎ (¬ (HasAtLeast least s) × (status ≡ 0))

@@ -1,4 +1,4 @@
-//! Which change of an entry mends its finding.
+//! Which change of an entry mends its finding, and which changes are safe.
 ghost use Rattle.std.specs.Prelude.{◌≡◌, ◌↔◌, ℕ, List, IsTrue, IfOk, MatchOption, None, Some};
 ghost use Rattle.std.specs.Prelude.{option_copied, reverse, ◌∷◌, []};
 ghost use Rattle.config_text.specs.SameWord.{SameWord};
@@ -7,11 +7,12 @@ ghost use Rattle.config_checks.specs.declared.code.Code.TheVariants.{NotAWord};
 ghost use Rattle.config_checks.specs.declared.fix.Fix.{Fix};
 ghost use Rattle.config_checks.specs.Findings.{finding_of};
 ghost use Rattle.config_checks.specs.Fixes.{IsClean, IsOnlyMeant, IsOnlyKey};
-ghost use Rattle.config_checks.specs.Fixes.{MendsValue, IsRenamed, MendsKey, Mends};
+ghost use Rattle.config_checks.specs.Fixes.{MendsValue, IsRenamed, MendsKey, Mends, IsSafe, IsSafeName, IsSafeValue, IsTypingError, lacks_digit};
 ghost use Rattle.config_checks.specs.Reasons.{HasFinding};
 ghost use Rattle.config_checks.specs.Rows.{rows_of, IsUnknown};
 
 use crate::code::Code;
+use crate::edits::{LONG, few_edits};
 use crate::finding::{Finding, key_meant, value_of};
 use crate::key::is_same_word;
 use crate::kind::SettingKind;
@@ -272,10 +273,75 @@ fn mends_key(
     is_only_key(alloc, &judge.backwards, &setting.key, key)
 }
 
+/// Whether a digit of the first text is not in the second one.
+fn lacks_digit(text: &[u8], other: &[u8]) -> bool
+    ensures { result ≡ lacks_digit text.now other.now }
+{
+    text.iter().any(|byte| byte.is_ascii_digit() && !other.contains(byte))
+}
+
+/// Whether one typing error at most leads from one text to the other.
+fn is_typing_error(alloc: Global, was: &[u8], now: &[u8]) -> Result<bool, AllocError>
+    ensures { IfOk result (λ is. IsTrue is ↔ IsTypingError was.now now.now) }
+{
+    if lacks_digit(was, now) || lacks_digit(now, was) {
+        return Ok(false);
+    }
+    match few_edits(alloc, LONG, now, was)? {
+        Some(edits) => Ok(edits <= 1),
+        None => Ok(false),
+    }
+}
+
+/// Whether a new value is safe.
+fn is_safe_value(
+    alloc: Global,
+    setting: &Setting<'_>,
+    code: Code,
+    new: &[u8],
+) -> Result<bool, AllocError>
+    ensures { IfOk result (λ safe. IsTrue safe ↔ IsSafeValue setting.now code new.now) }
+{
+    if code == Code::NotCanonical || code == Code::OtherValue {
+        return Ok(true);
+    }
+    match value_of(setting) {
+        Some(value) => is_typing_error(alloc, value, new),
+        None => Ok(false),
+    }
+}
+
+/// Whether a new last part of the key is safe.
+fn is_safe_name(alloc: Global, setting: &Setting<'_>, name: &[u8]) -> Result<bool, AllocError>
+    ensures { IfOk result (λ safe. IsTrue safe ↔ IsSafeName setting.now name.now) }
+{
+    match Key::split(&setting.key) {
+        Some(key) => is_typing_error(alloc, key.name(), name),
+        None => Ok(false),
+    }
+}
+
+/// Whether a change of a setting with a finding of this code is safe: it undoes one typing error, a byte less,
+/// more or other, or two in the wrong order, or it writes what a row asks for, or the same value as Git writes
+/// it. Two typing errors, a missing word and another digit are guesses. It fails only if memory is refused.
+pub fn is_safe(
+    alloc: Global,
+    setting: &Setting<'_>,
+    code: Code,
+    change: &Fix<'_>,
+) -> Result<bool, AllocError>
+    ensures { IfOk result (λ safe. IsTrue safe ↔ IsSafe setting.now code change.now) }
+{
+    match change {
+        Fix::Value(new) => is_safe_value(alloc, setting, code, new),
+        Fix::Name(name) => is_safe_name(alloc, setting, name),
+    }
+}
+
 /// The change of a setting that its finding suggests, if the changed setting has no finding left: the value
 /// that is suggested, unless another word is as near, or the last part of the key that is suggested in place
 /// of an unknown one, if the other parts stay and no other key is as near. It fails only if memory is refused.
-pub fn mend<'f>(
+pub fn change_for<'f>(
     alloc: Global,
     judge: &Judge<'_, '_>,
     options: &Options<'_>,
@@ -304,5 +370,30 @@ pub fn mend<'f>(
             Ok(None)
         }
         _ => Ok(None),
+    }
+}
+
+/// What [`change_for`] gives, if it is safe ([`is_safe`]): a program can make such a change unseen. It fails only if
+/// memory is refused.
+pub fn mend<'f>(
+    alloc: Global,
+    judge: &Judge<'_, '_>,
+    options: &Options<'_>,
+    setting: &Setting<'_>,
+    finding: &Finding<'f>,
+) -> Result<Option<Fix<'f>>, AllocError>
+    ensures { IfOk result (λ r. MatchOption r
+        ((change : Fix) → Mends (rows_of judge.now.runs.items) options.now setting.now (finding_of finding.now) change
+        → ¬ (IsSafe setting.now finding.now.code change))
+        (λ change. Mends (rows_of judge.now.runs.items) options.now setting.now (finding_of finding.now) change
+        × IsSafe setting.now finding.now.code change)) }
+{
+    let Some(change) = change_for(alloc, judge, options, setting, finding)? else {
+        return Ok(None);
+    };
+    if is_safe(alloc, setting, finding.code, &change)? {
+        Ok(Some(change))
+    } else {
+        Ok(None)
     }
 }

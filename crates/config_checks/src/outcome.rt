@@ -1,6 +1,6 @@
 //! The outcome of the checks of several files.
-ghost use Rattle.std.specs.Prelude.{◌≡◌, ◌↔◌, ◌≤◌, IsTrue};
-ghost use Rattle.config_checks.specs.Outcome.{counts_of_both, HasAtLeast};
+ghost use Rattle.std.specs.Prelude.{◌≡◌, ◌↔◌, IsTrue};
+ghost use Rattle.config_checks.specs.Outcome.{counts_of_both, HasAtLeast, IsStatus};
 
 use crate::check::Counts;
 use crate::reason::Severity;
@@ -54,10 +54,7 @@ impl Outcome {
     /// The exit status: 2 if a file could not be read, otherwise 1 if there is a finding of at least this
     /// severity, and otherwise 0.
     pub fn status(&self, fails_on: Severity) -> u8
-        ensures unread { (result ≡ 2) ↔ (IsTrue self.now.is_unread) }
-        ensures found { (result ≡ 1)
-            ↔ (¬ (IsTrue self.now.is_unread) × HasAtLeast fails_on self.now.counts) }
-        ensures other { result ≤ 2 }
+        ensures { IsStatus fails_on self.now.is_unread self.now.counts result }
     {
         if self.is_unread {
             2

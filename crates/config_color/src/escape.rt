@@ -271,7 +271,8 @@ impl Color {
     /// assert_eq!(rt; Color::default().escape().as_str(), "");
     /// ```
     pub fn escape(&self) -> Escape
-        ensures { result.bytes ≡ escape_sequence self.now }
+        ensures bytes { result.bytes ≡ escape_sequence self.now }
+        ensures short { length result.bytes ≤ 69 }
     {
         let mut text = Escape::new();
         push_set(self.attributes, &mut text);

@@ -28,12 +28,23 @@ use Rattle.config_file.specs.Spelling.{SpellsOptional, SpellsSection, spelled_se
 use Rattle.config_file.specs.Key.{Key, is_name, stem, dotted}
 use Rattle.config_edit.specs.Edit as spec
 use Rattle.config_edit.specs.Edit.{Content, IsIn, WithoutIn, NoneIn, SameEntry, IsLineEnd, AddsContent}
-use Rattle.config_edit.specs.Edit.{PutsLine, IsNewHeader, entry_line, HasValue, NoCommentNext, IsApart}
-use Rattle.config_edit.specs.Edit.{AreBlank, IsEntry, IsTail, absent}
+use Rattle.config_edit.specs.Edit.{HasValue, IsEntry, CanFollow, IsPlace, EndsParts, IsFeedAt, IsOpen}
+use Rattle.config_edit.specs.Cut as cut
+use Rattle.config_edit.specs.Cut.{absent, Part, Cuts, part_bytes, parts_bytes, ends_line, ends_in_header, section_from}
 use Rattle.config_edit.specs.Reading.{Holds, Ends, Passed, anywhere, at_end, IsRead, IsMade, IsPiece}
 use Rattle.config_edit.specs.Reading.{IsHeaderAt, contents_in, section_after, IsPast, IsEndOf, Closes}
-use Rattle.config_edit.specs.Reading.{line_ends, is_item, IsPlace, IsPlaceSoFar, Placing, ArePlaces}
-use Rattle.config_edit.specs.Reading.{ComesBehind, IsAdded, new_line}
+use Rattle.config_edit.specs.Reading as edit
+use Rattle.config_edit.specs.Reading.{line_ends, is_item, holds_header, IsPlaceIn, IsPlaceSoFar, Placing, ArePlaces}
+use Rattle.config_edit.specs.Reading.{EndsNoLine, IsAdded, IsOpenEntry, IsOpenHeld, new_line}
+use Rattle.config_file.specs.declared.entry.EntryParts.{EntryParts}
+use Rattle.config_file.specs.Views.{value_of}
+use Rattle.config_file.specs.File.{TakesEntry}
+use Rattle.config_file.proofs.OneValue.{Outcome, value_is}
+use Rattle.std.proofs.Common.{Result, Ok, Err, ◌≢◌, ◌+◌}
+use Rattle.std.proofs.lemmas.List.{append_cancel_left, length-append}
+use Rattle.config_edit.proofs.Cuts.{IsPartOf, no_part, same_last}
+use Rattle.config_edit.proofs.CutLoops.{CutMore, cut_begins, cut_step, bytes_join}
+use Rattle.config_edit.proofs.Changed.{how_ends, before_rest, before_nothing}
 use Rattle.config_file.specs.Reading.Spellings.{is_section, is_spellable}
 use Rattle.config_edit.proofs.Pieces.{header_holds, entry_holds, made_passed, blank_no_sign}
 use Rattle.config_file.proofs.LineEnds.{not_none}
@@ -47,6 +58,11 @@ use Rattle.config_edit.proofs.Changed.{spells_between}
 use Rattle.config_edit.proofs.Replaced.{in_some, other_after, past_begins, past_more, end_holds}
 use Rattle.config_edit.proofs.Closed.{return_of, return_blank, same_entries, both_same, piece_closes}
 
+-- no place before any part
+nowhere : (key : Key) (front back : List Part) → [] ≡ front ++ back → ¬ (CanFollow key front)
+nowhere key [] back e = λ (before, last, joined, in_section, either). no_part before last joined
+nowhere key (part ∷ front) back e = cc
+
 -- the place of a new entry
 pub placing_begins : (key : Key) (text : List ℕ) → Placing key text text false false None end.Line
 placing_begins key text =
@@ -55,9 +71,13 @@ placing_begins key text =
       contents = [];
       section = None;
       past = past_begins text;
+      parts = [];
       inside_is = (λ is. true≢false (sym is), λ is. absurd is);
+      cuts = cut_begins text;
+      after_is = refl;
+      are_ends = λ feed. spec.empty;
       closes = λ line_end is. ([], holds_nothing None, tt);
-      place = (spec.none, refl);
+      place = (spec.none, refl, cut_begins text, λ front back e. nowhere key front back e);
     }
 
 closes_more : {text rest front : List ℕ} {contents : List Content} {section : Option Section} {e : End}
@@ -74,50 +94,41 @@ closes_more {rest = rest} {front = front} {contents = contents} {section = secti
       both_same contents contents (contents_in piece.held section) now (same_entries contents) same,
     )
 
--- whether a line can come behind a piece
-nothing_next : (rest : List ℕ) → rest ≡ [] → NoCommentNext rest
-nothing_next rest none = λ blanks more b e all. absurd (not_none blanks more b (sym e ∙ none))
+-- the parts behind one that is not the last place
+last_here : (key : Key) (parts : List Part) (more left : List Part) → [] ≡ more ++ left → CanFollow key (parts ++ more)
+    → more ≡ []
+last_here key parts [] left e can = refl
+last_here key parts (part ∷ more) left e can = cc
 
-apart_with : {bytes rest tail : List ℕ} {is_line : Bool} (front lead : List ℕ) → bytes ≡ lead ++ tail → IsTail tail rest is_line
-    → IsApart (front ++ bytes) rest
-apart_with {rest = rest} front lead joined t = elim t.ends [
-  | inl line ↦ inl (front ++ (lead ++ (t.blanks ++ t.comment)), rw (joined, line.1) (simp append_assoc))
-  | inr end ↦ inr (nothing_next rest end.1)
+cut_last : (later more left : List Part) (part : Part) → later ++ part ∷ [] ≡ more ++ left
+    → ((left ≡ []) × (more ≡ later ++ part ∷ [])) ⊎ ((back : List Part) × (later ≡ more ++ back))
+cut_last later [] left part e = inr (later, refl)
+cut_last [] (x ∷ []) left part e = inl (cc, cc)
+cut_last [] (x ∷ y ∷ more) left part e = absurd (cc)
+cut_last (z ∷ later) (x ∷ more) left part e = elim (cut_last later more left part (cc)) [
+  | inl (none, all) ↦ inl (none, cc)
+  | inr (back, is) ↦ inr (back, cc)
 ]
 
-piece_apart : (h : Held) (blanks bytes rest front : List ℕ) (is_line : Bool) → IsMade h blanks bytes rest is_line
-    → IsApart (front ++ bytes) rest ⊎ ((new : code.Section) × (h ≡ held.Header new))
-piece_apart (held.Entry parts) blanks bytes rest front is_line made =
-    inl (apart_with front (blanks ++ made.front) (made.joined ∙ sym (append_assoc blanks made.front made.tail)) made.is_tail)
-piece_apart (held.Header new) blanks bytes rest front is_line made = inr (new, refl)
-piece_apart h blanks bytes rest front is_line made = inl (apart_with front blanks made.1 made.2)
+item_held : (h : Held) (blanks bytes rest : List ℕ) (is_line : Bool) (part : Part)
+    → IsPartOf h blanks bytes rest is_line part → spec.is_item part ≡ is_item h
+item_held (held.Header section) blanks bytes rest is_line part (inner, is) = rw is refl
+item_held (held.Entry parts) blanks bytes rest is_line part (between, tail, is, left) = rw is refl
+item_held held.Nothing blanks bytes rest is_line part is = rw is refl
+item_held held.Comment blanks bytes rest is_line part is = rw is refl
 
-no_comment_at : (before : List ℕ) (c : ℕ) (rest : List ℕ) → AreBlank before → is_blank c ≡ false
-    → is_comment_sign c ≡ false
-    → (blanks more : List ℕ) (b : ℕ) → before ++ c ∷ rest ≡ blanks ++ b ∷ more → AreBlank blanks
-    → is_comment_sign b ≡ false
-no_comment_at before c rest all no_blank other blanks more b e also = elim (cases_Bool (is_blank b)) [
-  | inl blank ↦ false_from_ne_true (is_comment_sign b) (blank_no_sign b blank)
-  | inr none ↦
-      let left = (run_same is_blank before blanks (c ∷ rest) (b ∷ more) all also no_blank none e).1 in
-      let same : c ≡ b = cc in
-      rw same at other
-]
-
-pub header_next : {rest : List ℕ} (h : Held) (blanks bytes more : List ℕ) (is_line : Bool) (new : code.Section)
-    → h ≡ held.Header new → AreBlank blanks → IsMade h blanks bytes more is_line → rest ≡ bytes ++ more → NoCommentNext rest
-header_next h blanks bytes more is_line new e all made joined =
-    let at : IsHeaderAt (section_of new) blanks bytes = rw e at made in
-    rw (joined, at.joined, append_assoc blanks (91 ∷ at.inner) more)
-    (no_comment_at blanks 91 (at.inner ++ more) all refl refl)
-
--- where a text is passed, its reading comes
-past_comes : {text rest front : List ℕ} {contents : List Content} {section : Option Section}
-    → IsPast text rest front contents section → ComesBehind text contents rest
-past_comes {front = front} {section = section} past = elim past.passed [
-  | anywhere holds ↦ inl (section, (front, past.joined, holds))
-  | at_end none ends ↦ inr (none, rw (past.joined, none, append-nil front) ends)
-]
+-- a part behind which no new entry can stand
+cannot_follow : {section : Option Section} (key : Key) (before : List Part) (h : Held) (blanks bytes rest : List ℕ) (is_line : Bool)
+    (part : Part) → IsPartOf h blanks bytes rest is_line part → section_from None (before ++ part ∷ []) ≡ section
+    → ¬ (IsIn key section) ⊎ ((is_item h ≡ false) × (ends_in_header before ≡ false)) → ¬ (CanFollow key (before ++ part ∷ []))
+cannot_follow key before h blanks bytes rest is_line part of section_is (inl outside) = λ (front, last, joined, in_section, either).
+    outside (subst (λ s. IsIn key s) section_is in_section)
+cannot_follow key before h blanks bytes rest is_line part of section_is (inr (no_item, no_header)) = λ (front, last, joined, in_section, either).
+    let (fronts, parts) = same_last before front part last joined in
+    elim either [
+      | inl item ↦ true≢false (sym (rw (← parts) at item) ∙ item_held h blanks bytes rest is_line part of ∙ no_item)
+      | inr header ↦ true≢false (sym (rw (← fronts) at header) ∙ no_header)
+    ]
 
 no_item_after : (h : Held) (section : Option Section) → is_item h ≡ false → section_after h section ≡ section
 no_item_after (held.Header new) section none = absurd (true≢false none)
@@ -135,119 +146,195 @@ still_outside key section was is_inside h before false_is after (inr no_item) =
     false_from_ne_true is_inside
     (λ inside. outside key section before false_is (rw (no_item_after h section no_item) at (after.0 inside)))
 
-place_kept : {key : Key} {text rest : List ℕ} {was before : Bool} {e : End} (inside : Option Insertion)
-    (p : Placing key text rest was before inside e) {piece : Piece} → IsPiece rest piece → length piece.rest.now < length rest
-    → (is_inside after : Bool) → (IsTrue is_inside ↔ IsIn key (section_after piece.held p.section))
-    → ((was && before) ≡ true → NoCommentNext rest) → (is_inside ≡ false) ⊎ (is_item piece.held ≡ false)
-    → IsPlaceSoFar key text piece.rest.now (p.contents ++ contents_in piece.held p.section) (section_after piece.held p.section) is_inside after inside
-place_kept {key = key} {was = was} None p {piece = piece} is shorter is_inside after inside_is apart either =
-    let (nothing, false_is) = p.place in
-    let now = still_outside key p.section was is_inside piece.held p.inside_is false_is inside_is either in
-    let other = outside key (section_after piece.held p.section) inside_is now in
-    (without_in_both p.contents p.contents nothing (none_in_piece key piece.held p.section (inl other)), now)
-place_kept {key = key} {rest = rest} (Some place) p {piece = piece} is shorter is_inside after inside_is apart either =
-    let r = p.place in
-    record {
-      front = r.front;
-      between = r.between ++ piece.bytes.now;
-      before = r.before;
-      after = r.after ++ contents_in piece.held p.section;
-      there = r.there;
-      joined = r.joined;
-      cut = joined_more place.rest.now r.between rest piece.bytes.now piece.rest.now r.cut is.joined;
-      comes = r.comes;
-      apart = elim r.apart [
-        | inl apart_is ↦ inl apart_is
-        | inr pending ↦ inl (inr (rw pending.0 (apart pending.1)))
-      ];
-      closes = r.closes;
-      in_section = r.in_section;
-      passed = passed_join (some_left rest piece.rest.now shorter) r.passed
-          (made_passed piece.held piece.blanks.now piece.is_line is.blank is.made p.section);
-      last = without_in_both r.after r.after r.last (none_in_piece key piece.held p.section (elim either [
-        | inl false_is ↦ inl (outside key (section_after piece.held p.section) inside_is false_is)
-        | inr no_item ↦ inr no_item
-      ]));
-      contents_are = ap (λ c. c ++ contents_in piece.held p.section) r.contents_are
-          ∙ append_assoc r.before r.after (contents_in piece.held p.section);
-    }
+-- what ends parts
+abbrev lines_of : Outcome → ℕ
+lines_of (Ok p) = p.1
+lines_of (Err p) = 0
+
+pub one_ending : {raw first second : List ℕ} → SpellsValue raw first spells.outside → SpellsValue raw second spells.at_backslash → ⊥
+one_ending {raw = raw} closed_is open_is =
+    let taken = value_is raw (Ok (raw, line_feeds raw, [])) (closed (sym (append-nil raw)) closed_is tt) in
+    let other = value_is raw (Ok (raw, line_feeds raw + 1, [])) (spells.open_end open_is) in
+    let counts : line_feeds raw ≡ line_feeds raw + 1 = ap lines_of (taken ∙ sym other) in
+    absurd (omega arith)
+
+open_there : {text key at : List ℕ} (parts : EntryParts) (raw : List ℕ) → value_of parts.value ≡ Some raw
+    → TakesEntry text key (Some raw) parts.lines at → line_feeds raw ≢ parts.lines
+    → (value : List ℕ) × SpellsValue raw value spells.at_backslash
+open_there parts raw held takes other = elim (how_ends takes) [
+  | before_rest text s lines ↦ absurd (other (sym lines))
+  | before_nothing text s lines none ↦ (text, s)
+]
+
+open_back : {text name at : List ℕ} (parts : EntryParts) (was : Option (List ℕ)) (blanks key between tail : List ℕ) (is_line : Bool)
+    → value_of parts.value ≡ was → TakesEntry text name was parts.lines at → IsOpen (cut.entry blanks key between was tail is_line)
+    → IsOpenEntry parts
+open_back parts None blanks key between tail is_line held takes is = absurd is
+open_back parts (Some raw) blanks key between tail is_line held takes (value, s) = elim (how_ends takes) [
+  | before_rest text o lines ↦ absurd (one_ending o s)
+  | before_nothing text o lines none ↦ (raw, held, λ same. omega arith)
+]
+
+-- how the part of a piece ends
+ends_held : (h : Held) (blanks bytes rest : List ℕ) (is_line : Bool) (part : Part) → IsMade h blanks bytes rest is_line
+    → (holds_header h ≡ true → is_line ≡ false) → IsPartOf h blanks bytes rest is_line part
+    → (ends_line part ≡ is_line) × (IsOpen part → IsOpenHeld h) × (IsOpenHeld h → IsOpen part)
+ends_held (held.Header section) blanks bytes rest is_line part made not_ended (inner, is) =
+    (rw is (sym (not_ended refl)), λ o. rw is at o, λ o. absurd o)
+ends_held (held.Entry parts) blanks bytes rest is_line part made not_ended (between, tail, is, left) = (
+  rw is refl,
+  λ o. open_back parts (value_of parts.value) blanks parts.key.now between tail is_line refl made.takes (rw is at o),
+  λ (raw, held, other). rw is (subst (λ v. IsOpen (cut.entry blanks parts.key.now between v tail is_line)) (sym held)
+      (open_there parts raw held (rw held at made.takes) other)),
+)
+ends_held held.Nothing blanks bytes rest is_line part made not_ended is = (rw is refl, λ o. rw is at o, λ o. absurd o)
+ends_held held.Comment blanks bytes rest is_line part made not_ended is = (rw is refl, λ o. rw is at o, λ o. absurd o)
+
+part_ends : {text : List ℕ} {f : End} (feed : List ℕ) (before : List Part) (part : Part) (piece : Piece) → IsPiece text piece
+    → IsEndOf piece f → (holds_header piece.held ≡ true → piece.is_line ≡ false)
+    → IsPartOf piece.held piece.blanks.now piece.bytes.now piece.rest.now piece.is_line part
+    → EndsParts feed (before ++ part ∷ []) (line_ends f feed)
+part_ends feed before part piece is (edit.line on) not_ended of =
+    let (ends, there, back) = ends_held piece.held piece.blanks.now piece.bytes.now piece.rest.now piece.is_line part is.made not_ended of in spec.ended before part (ends ∙ on)
+part_ends feed before part piece is (edit.unended off other) not_ended of =
+    let (ends, there, back) = ends_held piece.held piece.blanks.now piece.bytes.now piece.rest.now piece.is_line part is.made not_ended of in spec.unended before part (ends ∙ off) (λ o. other (there o))
+part_ends feed before part piece is (edit.backslashed off opened) not_ended of =
+    let (ends, there, back) = ends_held piece.held piece.blanks.now piece.bytes.now piece.rest.now piece.is_line part is.made not_ended of in spec.open_entry before part (ends ∙ off) (back opened)
+
+places_at_end : (key : Key) (text : List ℕ) (contents : List Content) (section : Option Section)
+    (is_inside after : Bool) (inside : Option Insertion) (parts : List Part)
+    → IsPlaceSoFar key text [] contents section is_inside after inside parts
+    → MatchOption inside
+    (NoneIn key contents × ((front back : List Part) → parts ≡ front ++ back → ¬ (CanFollow key front)))
+    (λ place. (p : IsPlaceIn key text [] contents section place) × (parts ≡ p.parts ++ p.later))
+places_at_end key text contents section is_inside after None parts (nothing, false_is, cuts, never) = (nothing, never)
+places_at_end key text contents section is_inside after (Some place) parts r = r
 
 module _ {key : Key} {text rest : List ℕ} {was before : Bool} {inside : Option Insertion} {e f : End}
     (p : Placing key text rest was before inside e) {piece : Piece} (is : IsPiece rest piece)
-    (shorter : length piece.rest.now < length rest) (end_is : IsEndOf piece f) (is_inside after : Bool)
-    (inside_is : IsTrue is_inside ↔ IsIn key (section_after piece.held p.section)) where
-  placing_more : (now : Option Insertion)
-      → IsPlaceSoFar key text piece.rest.now (p.contents ++ contents_in piece.held p.section) (section_after piece.held p.section) is_inside after now
+    (shorter : length piece.rest.now < length rest) (end_is : IsEndOf piece f) (not_ended : holds_header piece.held ≡ true → piece.is_line ≡ false)
+    (is_inside after : Bool)
+    (inside_is : IsTrue is_inside ↔ IsIn key (section_after piece.held p.section)) (after_is : after ≡ holds_header piece.held) where
+  more_is : length p.contents + length (contents_in piece.held p.section) ≡ length (p.contents ++ contents_in piece.held p.section)
+  more_is = sym (length-append p.contents (contents_in piece.held p.section))
+
+  placing_more : (now : Option Insertion) → (m : CutMore text p.section (length p.contents) p.parts piece)
+      → IsPlaceSoFar key text piece.rest.now (p.contents ++ contents_in piece.held p.section) (section_after piece.held p.section) is_inside after now (p.parts ++ m.part ∷ [])
       → Placing key text piece.rest.now is_inside after now f
-  placing_more now place =
+  placing_more now m place =
       record {
         front = p.front ++ piece.bytes.now;
         contents = p.contents ++ contents_in piece.held p.section;
         section = section_after piece.held p.section;
+        parts = p.parts ++ m.part ∷ [];
         past = past_more piece p.past is shorter;
         inside_is = inside_is;
         closes = closes_more piece p.past is shorter end_is;
+        cuts = rw more_is at m.cut;
+        after_is = after_is ∙ m.in_header;
+        are_ends = λ feed. part_ends feed p.parts m.part piece is end_is not_ended m.is_of;
         place = place;
       }
 
-  pub placing_here : is_inside ≡ true → ((new : code.Section) → piece.held ≡ held.Header new → after ≡ true)
+  pub placing_here : is_inside ≡ true → (before ≡ true) ⊎ (is_item piece.held ≡ true)
       → Placing key text piece.rest.now is_inside after (Some (record { rest = piece.rest; end = f })) f
-  placing_here inside_now header =
+  placing_here inside_now either =
       let past = past_more piece p.past is shorter in
-      placing_more (Some (record { rest = piece.rest; end = f })) (record {
+      let m = cut_step piece p.cuts is shorter in
+      let there = section_after piece.held p.section in
+      let contents = p.contents ++ contents_in piece.held p.section in
+      let parts = p.parts ++ m.part ∷ [] in
+      let joined = rw more_is at m.cut in
+      let can : CanFollow key parts =
+      (p.parts, m.part, refl, subst (λ s. IsIn key s) (sym m.cut.section_is) (inside_is.0 inside_now), elim either [
+        | inl behind ↦ inr (sym p.after_is ∙ behind)
+        | inr item ↦ inl (item_held piece.held piece.blanks.now piece.bytes.now piece.rest.now piece.is_line m.part m.is_of ∙ item)
+      ]) in
+      let place : IsPlaceIn key text piece.rest.now contents there (record { rest = piece.rest; end = f }) =
+      record {
         front = p.front ++ piece.bytes.now;
         between = [];
-        before = p.contents ++ contents_in piece.held p.section;
+        before = contents;
         after = [];
-        there = section_after piece.held p.section;
+        there = there;
+        parts = parts;
+        later = [];
         joined = past.joined;
         cut = refl;
-        comes = past_comes past;
-        apart = elim (piece_apart piece.held piece.blanks.now piece.bytes.now piece.rest.now p.front piece.is_line is.made) [
-          | inl apart ↦ inl apart
-          | inr (new, held_is) ↦ inr (refl, rw (inside_now, header new held_is) refl)
-        ];
+        front_is = append_cancel_right (p.front ++ piece.bytes.now) (parts_bytes parts) piece.rest.now (sym past.joined ∙ m.cut.joined);
+        cuts = rw (append-nil parts) joined;
+        can_follow = can;
+        is_last = last_here key parts;
+        are_ends = λ feed. part_ends feed p.parts m.part piece is end_is not_ended m.is_of;
         closes = closes_more piece p.past is shorter end_is;
         in_section = inside_is.0 inside_now;
-        passed = anywhere (holds_nothing (section_after piece.held p.section));
+        passed = anywhere (holds_nothing there);
         last = spec.none;
-        contents_are = sym (append-nil (p.contents ++ contents_in piece.held p.section));
-      })
+        contents_are = sym (append-nil contents);
+      } in
+      placing_more (Some (record { rest = piece.rest; end = f })) m (place, sym (append-nil parts))
 
-  pub placing_kept : ((was && before) ≡ true → NoCommentNext rest) → (is_inside ≡ false) ⊎ (is_item piece.held ≡ false)
+  place_kept : (now : Option Insertion) (m : CutMore text p.section (length p.contents) p.parts piece)
+      → IsPlaceSoFar key text rest p.contents p.section was before now p.parts
+      → (is_inside ≡ false) ⊎ ((is_item piece.held ≡ false) × (before ≡ false))
+      → IsPlaceSoFar key text piece.rest.now (p.contents ++ contents_in piece.held p.section) (section_after piece.held p.section) is_inside after now (p.parts ++ m.part ∷ [])
+  place_kept None m (nothing, false_is, cuts, never) either =
+      let no_item : (is_inside ≡ false) ⊎ (is_item piece.held ≡ false) = elim either [ inl off ↦ inl off | inr both ↦ inr both.0 ] in
+      let off = still_outside key p.section was is_inside piece.held p.inside_is false_is inside_is no_item in
+      let other = outside key (section_after piece.held p.section) inside_is off in
+      (
+        without_in_both p.contents p.contents nothing (none_in_piece key piece.held p.section (inl other)),
+        off,
+        rw more_is at m.cut,
+        λ front back e can. elim (cut_last p.parts front back m.part e) [
+          | inl (none, all) ↦ cannot_follow key p.parts piece.held piece.blanks.now piece.bytes.now piece.rest.now piece.is_line m.part m.is_of m.cut.section_is (inl other) (rw all at can)
+          | inr (left, is_front) ↦ never front left is_front can
+        ],
+      )
+  place_kept (Some place) m (r, parts_are) either =
+      let cannot = cannot_follow key p.parts piece.held piece.blanks.now piece.bytes.now piece.rest.now piece.is_line m.part m.is_of m.cut.section_is (elim either [
+        | inl off ↦ inl (outside key (section_after piece.held p.section) inside_is off)
+        | inr both ↦ inr (both.0, sym p.after_is ∙ both.1)
+      ]) in
+      let joined : p.parts ++ m.part ∷ [] ≡ r.parts ++ (r.later ++ m.part ∷ []) =
+      ap (λ t. t ++ m.part ∷ []) parts_are ∙ append_assoc r.parts r.later (m.part ∷ []) in
+      let more = contents_in piece.held p.section in
+      let kept : IsPlaceIn key text piece.rest.now (p.contents ++ more) (section_after piece.held p.section) place =
+      record {
+        front = r.front;
+        between = r.between ++ piece.bytes.now;
+        before = r.before;
+        after = r.after ++ more;
+        there = r.there;
+        parts = r.parts;
+        later = r.later ++ m.part ∷ [];
+        joined = r.joined;
+        cut = joined_more place.rest.now r.between rest piece.bytes.now piece.rest.now r.cut is.joined;
+        front_is = r.front_is;
+        cuts = rw joined at (rw more_is at m.cut);
+        can_follow = r.can_follow;
+        is_last = λ front back e can. elim (cut_last r.later front back m.part e) [
+          | inl (none, all) ↦ absurd (cannot (subst (λ t. CanFollow key t) (ap (λ f. r.parts ++ f) all ∙ sym joined) can))
+          | inr (left, is_front) ↦ r.is_last front left is_front can
+        ];
+        are_ends = r.are_ends;
+        closes = r.closes;
+        in_section = r.in_section;
+        passed = passed_join (some_left rest piece.rest.now shorter) r.passed
+            (made_passed piece.held piece.blanks.now piece.is_line is.blank is.made p.section);
+        last = without_in_both r.after r.after r.last (none_in_piece key piece.held p.section (elim either [
+          | inl false_is ↦ inl (outside key (section_after piece.held p.section) inside_is false_is)
+          | inr both ↦ inr both.0
+        ]));
+        contents_are = ap (λ c. c ++ more) r.contents_are ∙ append_assoc r.before r.after more;
+      } in
+      (kept, joined)
+
+  pub placing_kept : (is_inside ≡ false) ⊎ ((is_item piece.held ≡ false) × (before ≡ false))
       → Placing key text piece.rest.now is_inside after inside f
-  placing_kept apart either =
-      placing_more inside (place_kept inside p is shorter is_inside after inside_is apart either)
-
-places_at_end : (key : Key) (text : List ℕ) (contents : List Content) (section : Option Section)
-    (is_inside after : Bool) (inside : Option Insertion)
-    → IsPlaceSoFar key text [] contents section is_inside after inside
-    → MatchOption inside (NoneIn key contents) (λ place. IsPlace key text [] contents section true place)
-places_at_end key text contents section is_inside after None (nothing, false_is) = nothing
-places_at_end key text contents section is_inside after (Some place) r =
-    record {
-      front = r.front;
-      between = r.between;
-      before = r.before;
-      after = r.after;
-      there = r.there;
-      joined = r.joined;
-      cut = r.cut;
-      comes = r.comes;
-      apart = elim r.apart [ inl apart ↦ inl apart | inr pending ↦ inr (pending.0, refl) ];
-      closes = r.closes;
-      in_section = r.in_section;
-      passed = r.passed;
-      last = r.last;
-      contents_are = r.contents_are;
-    }
-
-place_apart : {key : Key} {text : List ℕ} {contents : List Content} {section : Option Section} {place : Insertion}
-    (r : IsPlace key text [] contents section true place) → IsApart r.front place.rest.now
-place_apart {place = place} r = elim r.apart [
-  | inl apart ↦ apart
-  | inr pending ↦ inr (nothing_next place.rest.now pending.0)
-]
+  placing_kept either =
+      let m = cut_step piece p.cuts is shorter in
+      placing_more inside m (place_kept inside m p.place either)
 
 pub placing_ends : {key : Key} {text rest : List ℕ} {contents : List Content} {is_inside after : Bool}
     (places : Places)
@@ -255,10 +342,14 @@ pub placing_ends : {key : Key} {text rest : List ℕ} {contents : List Content} 
     → (rest ≡ []) ⊎ (¬ (IsRead rest)) → ArePlaces key text contents places
 placing_ends {key = key} {text = text} {contents = contents} {is_inside = is_inside} {after = after} places p whole left =
     let (rest_is, text_is, contents_are) = all_passed p.past.joined p.past.passed whole left in
+    let cuts = rw rest_is at p.cuts.cuts in
     record {
       section = p.section;
+      parts = p.parts;
       closes = rw (← text_is, contents_are) at p.closes;
-      inside = places_at_end key text contents p.section is_inside after places.inside (rw (rest_is, contents_are) at p.place);
+      cuts = rw append-nil at (cuts [] cut.ends);
+      are_ends = p.are_ends;
+      inside = places_at_end key text contents p.section is_inside after places.inside p.parts (rw (rest_is, contents_are) at p.place);
     }
 
 -- the line of a new entry
@@ -298,31 +389,38 @@ line_holds name value feed is spellable is_feed section =
     } in
     (raw, (spells.outside, whole), entry_holds (9 ∷ []) refl entry section)
 
-are_ends : (e : End) (feed : List ℕ)
-    → (line_ends e feed ≡ []) ⊎ (line_ends e feed ≡ feed) ⊎ (line_ends e feed ≡ feed ++ feed)
-are_ends end.Line feed = inl refl
-are_ends end.Open feed = inr (inl refl)
-are_ends end.Backslash feed = inr (inr refl)
+pub cut_bytes : {text : List ℕ} {parts : List Part} → Cuts text parts → text ≡ parts_bytes parts
+cut_bytes cut.ends = refl
+cut_bytes (cut.begins part is more) = ap (λ t. part_bytes part ++ t) (cut_bytes more)
+
+feed_of : {front text feed also other : List ℕ} → IsFeedAt front text feed → front ≡ also → text ≡ other → IsFeedAt also other feed
+feed_of is fronts texts = rw (fronts, texts) at is
 
 -- an entry behind a text that is closed, or behind a header that is put there
 added : {key : Key} {value text new : List ℕ} {contents : List Content} {there : Option Section} {s : Section}
-    (front back feed header : List ℕ) (before after : List Content) (e : End)
+    (parts later : List Part) (front back feed header headed : List ℕ) (before after : List Content) (e : End)
     → is_name key.name ≡ true → is_spellable value ≡ true → IsLineEnd feed → Closes None front before there e
-    → Holds there header [] (Some s) → Ends (Some s) back after → IsIn key (Some s) → NoneIn key after
+    → Holds there headed [] (Some s) → Ends (Some s) back after → IsIn key (Some s) → NoneIn key after
     → contents ≡ before ++ after → text ≡ front ++ back
-    → new ≡ front ++ (line_ends e feed ++ (header ++ (new_line key.name value feed ++ back)))
-    → ComesBehind text before back → IsApart front back → IsNewHeader key contents back feed header
+    → new ≡ front ++ (line_ends e feed ++ (headed ++ (new_line key.name value feed ++ back)))
+    → Cuts text (parts ++ later) → front ≡ parts_bytes parts → IsFeedAt front text feed → EndsParts feed parts (line_ends e feed)
+    → IsPlace key header feed parts later headed
     → IsAdded key value text contents new
-added {key = key} {value = value} {s = s} front back feed header before after e is_a_name spellable is_feed closes head later in_section last old_is cut new_is place apart is_header =
+added {key = key} {value = value} {text = text} {s = s} parts later front back feed header headed before after e is_a_name spellable is_feed closes head
+    left in_section last old_is joined new_is cuts front_is feed_at ends_parts place =
     let ends = line_ends e feed in
     let line = new_line key.name value feed in
     let (kept, holds, same) = closes feed is_feed in
     let (raw, has_value, line_is) = line_holds key.name value feed is_a_name spellable is_feed (Some s) in
-    let behind = holds_end header (line ++ back) head (holds_end line back line_is later) in
+    let behind = holds_end headed (line ++ back) head (holds_end line back line_is left) in
+    let text_is : text ≡ parts_bytes (parts ++ later) = cut_bytes cuts in
+    let back_is : back ≡ parts_bytes later =
+    append_cancel_left front back (parts_bytes later)
+    (sym joined ∙ text_is ∙ bytes_join parts later ∙ ap (λ f. f ++ parts_bytes later) (sym front_is)) in
     record {
       now = kept ++ (Some s, key.name, Some raw) ∷ after;
-      ends = rw (new_is, ← append_assoc front ends (header ++ (line ++ back)))
-          (holds_end (front ++ ends) (header ++ (line ++ back)) holds behind);
+      ends = rw (new_is, ← append_assoc front ends (headed ++ (line ++ back)))
+          (holds_end (front ++ ends) (headed ++ (line ++ back)) holds behind);
       adds = record {
         before = before;
         kept = kept;
@@ -337,39 +435,41 @@ added {key = key} {value = value} {s = s} front back feed header before after e 
         last = last;
       };
       bytes = record {
-        front = front;
-        back = back;
+        front = parts;
+        back = later;
         feed = feed;
         ends = ends;
         header = header;
+        headed = headed;
         spelling = git_spelled value;
-        old_is = cut;
-        new_is = new_is;
-        is_feed = is_feed;
-        are_ends = are_ends e feed;
-        place = place;
-        apart = apart;
-        is_header = is_header;
+        cuts = cuts;
+        is_feed = feed_of feed_at front_is text_is;
+        are_ends = ends_parts;
+        is_place = place;
         spells = (git_spelling value spellable, refl);
+        new_is = new_is ∙ ap (λ f. f ++ (ends ++ (headed ++ (line ++ back)))) front_is
+            ∙ ap (λ b. parts_bytes parts ++ (ends ++ (headed ++ (line ++ b)))) back_is;
       };
     }
 
 pub added_inside : {key : Key} (value text new feed front : List ℕ) {contents : List Content}
     {section : Option Section} {place : Insertion}
     → is_name key.name ≡ true → is_spellable value ≡ true
-    → IsPlace key text [] contents section true place → IsLineEnd feed → text ≡ front ++ place.rest.now
+    → IsPlaceIn key text [] contents section place → IsLineEnd feed → IsFeedAt front text feed → text ≡ front ++ place.rest.now
     → new ≡ front ++ (line_ends place.end feed ++ (new_line key.name value feed ++ place.rest.now))
     → IsAdded key value text contents new
-added_inside {key = key} value text new feed front {place = place} is_a_name spellable r is_feed cut new_is =
+added_inside {key = key} value text new feed front {place = place} is_a_name spellable r is_feed feed_at joined new_is =
     let rest = place.rest.now in
-    let front_is : front ≡ r.front = append_cancel_right front r.front rest (sym cut ∙ r.joined) in
+    let front_is : front ≡ r.front = append_cancel_right front r.front rest (sym joined ∙ r.joined) in
     let (s, there_is, in_there) = in_some key r.there r.in_section in
     let rest_is : rest ≡ r.between = r.cut ∙ append-nil r.between in
     let later : Ends r.there rest r.after = rw rest_is (passed_ends refl r.passed) in
     let later_there : Ends (Some s) rest r.after = subst (λ t. Ends t rest r.after) there_is later in
     let head : Holds r.there [] [] (Some s) = subst (λ t. Holds r.there [] [] t) there_is (holds_nothing r.there) in
-    added r.front rest feed [] r.before r.after place.end is_a_name spellable is_feed r.closes head later_there in_there r.last
-    r.contents_are r.joined (rw front_is at new_is) r.comes (place_apart r) (inl refl)
+    let cuts = rw append-nil at (r.cuts.cuts [] cut.ends) in
+    added r.parts r.later r.front rest feed [] [] r.before r.after place.end is_a_name spellable is_feed r.closes head later_there in_there
+    r.last r.contents_are r.joined (rw front_is at new_is) cuts r.front_is (rw front_is at feed_at) (r.are_ends feed)
+    (spec.inside r.can_follow r.is_last)
 
 -- a new section
 listed_as_stem : (name : List ℕ) (raw text : Option (List ℕ)) → SpellsOptional SpellsSubsection raw text
@@ -383,25 +483,35 @@ names_in : (key : Key) (section : Section) → SpellsSection section key.section
     → IsIn key (Some section)
 names_in key section (name_is, spells) = rw (← name_is) (listed_as_stem section.0 section.1 key.subsection spells)
 
+-- a text without a header of the key
+pub record NoPlaces (key : Key) (text : List ℕ) (contents : List Content) (e : End) : Type 0 where
+  pub parts : List Part
+  pub cuts : Cuts text parts
+  pub are_ends : (feed : List ℕ) → EndsParts feed parts (line_ends e feed)
+  pub nothing : NoneIn key contents
+  pub never : (front back : List Part) → parts ≡ front ++ back → ¬ (CanFollow key front)
+
 pub added_behind : (key : Key) (value text new feed : List ℕ) (contents : List Content)
     (section : Option Section) (e : End)
     → is_name key.name ≡ true → is_spellable value ≡ true
-    → is_section key.section key.subsection ≡ true → NoneIn key contents → Closes None text contents section e
-    → IsLineEnd feed → Ends None text contents
+    → is_section key.section key.subsection ≡ true → (places : NoPlaces key text contents e)
+    → Closes None text contents section e
+    → IsLineEnd feed → IsFeedAt text text feed
     → new ≡ text ++ (line_ends e feed ++ ((91 ∷ spelled_section key.section key.subsection) ++ (feed ++ new_line key.name value feed)))
     → IsAdded key value text contents new
-added_behind key value text new feed contents section e is_a_name spellable is_a_section nothing closes is_feed whole_text new_is =
+added_behind key value text new feed contents section e is_a_name spellable is_a_section places closes is_feed feed_at new_is =
     let line = new_line key.name value feed in
     let header = 91 ∷ spelled_section key.section key.subsection in
-    let is_header = header_spelled key.section key.subsection is_a_section in
-    let (inner, s, header_is, names, header_at) = is_header in
+    let holds_header = header_spelled key.section key.subsection is_a_section in
+    let (inner, s, header_is, names, header_at) = holds_header in
     let at : IsHeaderAt s [] header = record { inner = inner; joined = header_is; header = header_at } in
     let head : Holds section (header ++ feed) [] (Some s) =
     holds_join header feed (header_holds refl at section) (end_holds (Some s) feed (inr is_feed)) in
-    added text [] feed (header ++ feed) contents [] e is_a_name spellable is_feed closes head
+    added places.parts [] text [] feed header (header ++ feed) contents [] e is_a_name spellable is_feed closes head
     (passed_ends refl (anywhere (holds_nothing (Some s)))) (names_in key s names) spec.none (sym (append-nil contents))
-    (sym (append-nil text)) (rw (append-nil line, append_assoc header feed line) new_is) (inr (refl, whole_text))
-    (inr (nothing_next [] refl)) (inr (header, (is_header, refl), refl, refl, nothing))
+    (sym (append-nil text)) (rw (append-nil line, append_assoc header feed line) new_is)
+    (rw (append-nil places.parts) places.cuts) (cut_bytes places.cuts) feed_at (places.are_ends feed)
+    (spec.at_end places.never (holds_header, refl))
 
 -- what the code knows of the section after a piece
 pub inside_after_header : (key : Key) (before : Option Section) (is_inside : Bool) (h : Held)
@@ -423,4 +533,15 @@ pub place_within : {key : Key} {text rest : List ℕ} {is_inside after : Bool} (
     → Placing key text rest is_inside after inside e
     → IfSome inside (λ place. (front : List ℕ) × (text ≡ front ++ place.rest.now))
 place_within None p = tt
-place_within (Some place) p = (p.place.front, p.place.joined)
+place_within (Some place) p = (p.place.0.front, p.place.0.joined)
+
+pub header_after : (h : Held) (is : Bool) → ((new : code.Section) → h ≡ held.Header new → ⊥) → is ≡ false → is ≡ holds_header h
+header_after (held.Header new) is other e = absurd (other new refl)
+header_after h is other e = e
+
+
+pub ends_no_line : {is_line : Bool} (h : Held) → EndsNoLine h is_line → holds_header h ≡ true → is_line ≡ false
+ends_no_line (held.Header new) is on = is
+ends_no_line (held.Entry parts) is on = absurd (true≢false (sym on))
+ends_no_line held.Nothing is on = absurd (true≢false (sym on))
+ends_no_line held.Comment is on = absurd (true≢false (sym on))

@@ -1,7 +1,7 @@
 -- Values that stand in the place of others.
 use Rattle.std.proofs.Common.{◌≡◌, ◌≢◌, ℕ, ◌+◌, Bool, true, false, List, [], ◌∷◌, ◌++◌, Option, Some, None}
 use Rattle.std.proofs.Common.{refl, sym, ap, ◌∙◌, subst, append_assoc, append-nil, arith, inl, inr, ◌⊎◌, ◌↔◌}
-use Rattle.std.proofs.Common.{IsTrue, true≢false}
+use Rattle.std.proofs.Common.{IsTrue, true≢false, length}
 use Rattle.std.specs.List.{list_all}
 use Rattle.std.specs.Char.{is_ascii_alphabetic}
 use Rattle.std.proofs.lemmas.Bool.{and_parts}
@@ -17,14 +17,17 @@ use Rattle.config_file.specs.Value.{Ending, outside, inside, at_backslash, Spell
 use Rattle.config_file.specs.Value.{TakesValue, closed, open_end, EndsValue, line_feeds}
 use Rattle.config_file.specs.File.{TakesKey, TakesEntry, alone, valued}
 use Rattle.config_edit.specs.Edit as spec
-use Rattle.config_edit.specs.Edit.{HasValue, IsGap, PutsValue, IsLineEnd, value_bytes, AreBlank, IsTail}
-use Rattle.config_edit.specs.Edit.{IsEntry, IsComment, absent, present}
-use Rattle.config_edit.specs.Reading.{HasHow, IsGiven, IsPutIn, IsSet}
+use Rattle.config_edit.specs.Edit.{HasValue, SpaceIf, PartsBlanks, BeginsWithSign, PutsValue, ChangesValueTo, IsLineEnd}
+use Rattle.config_edit.specs.Cut.{value_bytes, AreBlank, IsTail}
+use Rattle.config_edit.specs.Edit.{IsEntry}
+use Rattle.config_edit.specs.Cut.{IsComment, absent, present}
+use Rattle.config_edit.specs.Reading.{HasHow, IsPutIn, IsShaped, IsValued, entry_part, space_if}
 use Rattle.config_file.specs.Reading.Spellings.{is_spellable}
 use Rattle.config_file.specs.Spelling.{git_spelled}
 use Rattle.config_file.specs.Views.{value_of}
 use Rattle.config_edit.proofs.Pieces.{key_before_value, key_joined, first_blank, other_blanks}
 use Rattle.config_file.proofs.Spellings.{git_spelling}
+use Rattle.config_file.proofs.SpelledHeaders.{letter_is_key_byte}
 
 -- blanks around the bytes of a value change nothing
 held_free : {w : ℕ → ℕ} {held raw text : List ℕ} {ending : Ending} → Spells w false [] held raw text ending
@@ -101,7 +104,7 @@ no_core (b ∷ trail) rest run some joined all none =
 pub put_between : {raw : List ℕ} (lead rest core trail value : List ℕ) → is_spellable value ≡ true
     → Run is_blank raw lead rest → rest ≢ [] → rest ≡ core ++ trail → AreBlank trail
     → ((more : List ℕ) (b : ℕ) → core ≡ more ++ b ∷ [] → is_blank b ≡ false)
-    → IsPutIn raw value (lead ++ (git_spelled value ++ trail))
+    → {between tail : List ℕ} → IsPutIn between tail raw value (lead ++ (git_spelled value ++ trail))
 put_between lead rest core trail value spellable run some joined all last =
     let spelling = git_spelling value spellable in
     let begins : (b : ℕ) (more : List ℕ) → core ≡ b ∷ more → is_blank b ≡ false =
@@ -113,9 +116,17 @@ put_between lead rest core trail value spellable run some joined all last =
           (spelling, refl));
     }
 
-pub gap_blank : (gap : List ℕ) → IsGap gap → AreBlank gap
-gap_blank gap (inl none) = rw none refl
-gap_blank gap (inr space) = rw space refl
+pub gap_spaces : {Wanted : Type 0} {gap : List ℕ} → SpaceIf Wanted gap → list_all is_space gap ≡ true
+gap_spaces (spec.wanted is) = refl
+gap_spaces (spec.unwanted is) = refl
+
+pub gap_blank : {Wanted : Type 0} {gap : List ℕ} → SpaceIf Wanted gap → AreBlank gap
+gap_blank (spec.wanted is) = refl
+gap_blank (spec.unwanted is) = refl
+
+pub space_is : {Wanted : Type 0} (b : Bool) → (IsTrue b ↔ Wanted) → SpaceIf Wanted (space_if b)
+space_is true (there, back) = spec.wanted (there refl)
+space_is false (there, back) = spec.unwanted (λ is. true≢false (sym (back is)))
 
 pub parts_blank : (a b : List ℕ) → AreBlank (a ++ b) → AreBlank a × AreBlank b
 parts_blank a b all =
@@ -124,20 +135,79 @@ parts_blank a b all =
 pub both_blank : (a b : List ℕ) → AreBlank a → AreBlank b → AreBlank (a ++ b)
 both_blank a b all also = rw (list_all-append is_blank a b, all, also) refl
 
-pub put_in_blanks : (blanks lead trail gap later value : List ℕ) → is_spellable value ≡ true → AreBlank blanks
-    → blanks ≡ lead ++ trail → IsGap gap → IsGap later
-    → IsPutIn blanks value (lead ++ ((gap ++ (git_spelled value ++ later)) ++ trail))
-put_in_blanks blanks lead trail gap later value spellable all joined is also =
+pub put_in_blanks : (blanks lead trail between tail value : List ℕ) (spaced signed : Bool) → is_spellable value ≡ true
+    → AreBlank blanks → blanks ≡ lead ++ trail → PartsBlanks lead trail
+    → (IsTrue spaced ↔ ((lead ≡ []) × (between ≢ 61 ∷ []))) → (IsTrue signed ↔ ((trail ≡ []) × BeginsWithSign tail))
+    → IsPutIn between tail blanks value (lead ++ ((space_if spaced ++ (git_spelled value ++ space_if signed)) ++ trail))
+put_in_blanks blanks lead trail between tail value spaced signed spellable all joined parts is also =
     let spelling = git_spelling value spellable in
     let both = rw joined at all in
     let (before, after) = parts_blank lead trail both in
+    let gap = space_if spaced in
+    let later = space_if signed in
+    let is_gap = space_is spaced is in
+    let is_later = space_is signed also in
     let spells =
-    spells_between (lead ++ gap) (later ++ trail) (both_blank lead gap before (gap_blank gap is))
-    (both_blank later trail (gap_blank later also) after) spelling.0 in
+    spells_between (lead ++ gap) (later ++ trail) (both_blank lead gap before (gap_blank is_gap))
+    (both_blank later trail (gap_blank is_later) after) spelling.0 in
     record {
       spells = simp append_assoc (simp append_assoc at spells);
-      puts = rw joined (spec.in_blanks lead trail both is (spelling, refl) also);
+      puts = rw joined (spec.in_blanks lead trail both parts is_gap (spelling, refl) is_later);
     }
+
+-- what the code takes of blanks
+pub first_one : (blanks lead trail rest : List ℕ) (b : ℕ) → blanks ≡ lead ++ trail → length lead ≡ 1
+    → blanks ≡ b ∷ rest → ¬ ((b ≡ 13) × (rest ≡ [])) → PartsBlanks lead trail
+first_one blanks [] trail rest b joined one cut other = cc
+first_one blanks (c ∷ d ∷ lead) trail rest b joined one cut other = absurd (omega arith)
+first_one blanks (c ∷ []) trail rest b joined one cut other =
+    let same : c ∷ trail ≡ b ∷ rest = sym joined ∙ cut in
+    spec.first (λ (is, none). other (cc, cc))
+
+pub none_first : (blanks lead trail : List ℕ) → blanks ≡ lead ++ trail → length lead ≡ 0
+    → (blanks ≡ []) ⊎ (blanks ≡ 13 ∷ []) → PartsBlanks lead trail
+none_first blanks (b ∷ lead) trail joined zero either = absurd (omega arith)
+none_first blanks [] trail joined zero (inl none) = rw (sym joined ∙ none) spec.none
+none_first blanks [] trail joined zero (inr return) = rw (sym joined ∙ return) spec.return
+
+-- the last of a list
+pub last_of : {A : Type 0} (a b : List A) (x y : A) → a ++ x ∷ [] ≡ b ++ y ∷ [] → (a ≡ b) × (x ≡ y)
+last_of [] [] x y e = (refl, cc)
+last_of [] (c ∷ []) x y e = absurd (cc)
+last_of [] (c ∷ d ∷ b) x y e = absurd (cc)
+last_of (c ∷ []) [] x y e = absurd (cc)
+last_of (c ∷ d ∷ a) [] x y e = absurd (cc)
+last_of (c ∷ a) (d ∷ b) x y e =
+    let (fronts, lasts) = last_of a b x y (cc) in (cc, lasts)
+
+pub some_last : {A : Type 0} (xs : List A) → (xs ≡ []) ⊎ ((front : List A) × (last : A) × (xs ≡ front ++ last ∷ []))
+some_last [] = inl refl
+some_last (x ∷ xs) = elim (some_last xs) [
+  | inl none ↦ inr ([], x, ap (λ t. x ∷ t) none)
+  | inr (front, last, is) ↦ inr (x ∷ front, last, ap (λ t. x ∷ t) is)
+]
+
+pub last_holds : (test : ℕ → Bool) (front : List ℕ) (b : ℕ) → list_all test (front ++ b ∷ []) ≡ true → test b ≡ true
+last_holds test front b all =
+    let (before, last) = and_parts (list_all test front) (list_all test (b ∷ [])) (sym (list_all-append test front (b ∷ [])) ∙ all) in
+    (and_parts (test b) true last).0
+
+key_no_blank : (b : ℕ) → is_key_byte b ≡ true → is_blank b ≡ false
+key_no_blank b is = grind (arith, nat_tests)
+
+space_blank : (b : ℕ) → is_space b ≡ true → is_blank b ≡ true
+space_blank b is = grind (arith, nat_tests)
+
+-- the last byte of a key is no blank
+key_last : {text key rest : List ℕ} → TakesKey text key rest → BeginsWithLetter text
+    → (front : List ℕ) × (b : ℕ) × (key ≡ front ++ b ∷ []) × (is_blank b ≡ false)
+key_last {key = key} t (l, more, text_is, letter) = elim (some_last key) [
+  | inl none ↦
+      let e : l ∷ more ≡ t.spaced = sym text_is ∙ t.key_run.joined ∙ ap (λ k. k ++ t.spaced) none in
+      let stops : is_key_byte l ≡ false = subst (StopsRun is_key_byte) (sym e) t.key_run.longest in
+      absurd (true≢false (sym (letter_is_key_byte l letter) ∙ stops))
+  | inr (front, b, is) ↦ (front, b, is, key_no_blank b (last_holds is_key_byte front b (rw is at t.key_run.pass)))
+]
 
 -- an entry with another value
 letter_before : (front : List ℕ) (b : ℕ) (after other : List ℕ) → BeginsWithLetter (front ++ b ∷ after)
@@ -159,6 +229,95 @@ pub value_ends : {after raw rest : List ℕ} {lines : ℕ} → TakesValue after 
     → (after ≡ raw ++ rest) × EndsValue rest
 value_ends (closed joined spells ends) = (joined, ends)
 value_ends (open_end {raw = raw} spells) = (sym (append-nil raw), tt)
+
+-- what precedes the value of an entry, and its bytes
+pub record Behind (text key : List ℕ) (value : Option (List ℕ)) (rest : List ℕ) : Type 0 where
+  pub between : List ℕ
+  pub spaces : List ℕ
+  pub joined : text ≡ (key ++ (between ++ value_bytes value)) ++ rest
+  pub are_spaces : list_all is_space spaces ≡ true
+  pub alone_is : value ≡ None → between ≡ spaces
+  pub valued_is : (raw : List ℕ) → value ≡ Some raw → between ≡ spaces ++ 61 ∷ []
+
+pub behind : {text key rest : List ℕ} {value : Option (List ℕ)} {lines : ℕ} → TakesEntry text key value lines rest
+    → Behind text key value rest
+behind (alone {rest = rest} t end) =
+    record { between = t.spaces; spaces = t.spaces; joined = key_joined rest t ∙ simp append-nil; are_spaces = t.space_run.pass; alone_is = λ none. refl; valued_is = λ raw some. cc }
+behind (valued {b = b} t is_sign value) =
+    let ends = (value_ends value).0 in
+    record {
+      between = t.spaces ++ b ∷ [];
+      spaces = t.spaces;
+      joined = simp (t.key_run.joined, t.space_run.joined, ends, append_assoc);
+      are_spaces = t.space_run.pass;
+      alone_is = λ none. cc;
+      valued_is = λ raw some. rw is_sign refl;
+    }
+
+-- what is appended one after the other
+pub appended : {first second third : List ℕ} (text start put tail : List ℕ) → third ≡ second ++ tail → second ≡ first ++ put
+    → first ≡ text ++ start → third ≡ text ++ (start ++ (put ++ tail))
+appended text start put tail last then one = rw (last, then, one) (simp append_assoc)
+
+not_alone : (front : List ℕ) (b c d : ℕ) → (front ++ b ∷ []) ++ c ∷ [] ≡ d ∷ [] → ⊥
+not_alone [] b c d e = cc
+not_alone (x ∷ []) b c d e = cc
+not_alone (x ∷ y ∷ front) b c d e = cc
+
+-- what the code finds before the `=`: whether blanks precede it
+pub spaced_of : {text rest start : List ℕ} {yes : Bool} (lead key spaces : List ℕ)
+    → TakesKey text key rest → BeginsWithLetter text → list_all is_space spaces ≡ true
+    → start ≡ lead ++ (key ++ (spaces ++ 61 ∷ []))
+    → ((before : List ℕ) (b c : ℕ) → start ≡ before ++ b ∷ c ∷ [] → yes ≡ is_blank b)
+    → IsTrue yes ↔ ((spaces ++ 61 ∷ []) ≢ 61 ∷ [])
+spaced_of lead key spaces t begins all start_is tests = elim (some_last spaces) [
+  | inl none ↦
+      let (front, b, key_is, other) = key_last t begins in
+      let whole : lead ++ (key ++ (spaces ++ 61 ∷ [])) ≡ (lead ++ front) ++ b ∷ 61 ∷ [] =
+      ap (λ k. lead ++ (k ++ (spaces ++ 61 ∷ []))) key_is ∙ ap (λ s. lead ++ ((front ++ b ∷ []) ++ (s ++ 61 ∷ []))) none
+      ∙ simp append_assoc in
+      let off = tests (lead ++ front) b 61 (start_is ∙ whole) in
+      (λ is. absurd (true≢false (sym is ∙ off ∙ other)), λ differs. absurd (differs (ap (λ s. s ++ 61 ∷ []) none)))
+  | inr (front, b, is) ↦
+      let whole : lead ++ (key ++ (spaces ++ 61 ∷ [])) ≡ (lead ++ (key ++ front)) ++ b ∷ 61 ∷ [] =
+      ap (λ s. lead ++ (key ++ (s ++ 61 ∷ []))) is ∙ simp append_assoc in
+      let on = tests (lead ++ (key ++ front)) b 61 (start_is ∙ whole) in
+      let blank = space_blank b (last_holds is_space front b (rw is at all)) in
+      (λ yes same. not_alone front b 61 61 (rw is at same), λ differs. on ∙ blank)
+]
+
+-- what the code finds behind a key alone: whether blanks are there
+pub closed_of : {text rest : List ℕ} (lead key spaces core blanks : List ℕ)
+    → TakesKey text key rest → BeginsWithLetter text → list_all is_space spaces ≡ true
+    → lead ++ (key ++ spaces) ≡ core ++ blanks → AreBlank blanks
+    → ((more : List ℕ) (b : ℕ) → core ≡ more ++ b ∷ [] → is_blank b ≡ false)
+    → (blanks ≡ []) ↔ (spaces ≡ [])
+closed_of lead key spaces core blanks t begins are_spaces joined all last = (
+  λ no_blanks. elim (some_last spaces) [
+    | inl is ↦ is
+    | inr (front, b, is) ↦
+        let blank = space_blank b (last_holds is_space front b (rw is at are_spaces)) in
+        let core_is : core ≡ (lead ++ (key ++ front)) ++ b ∷ [] =
+        sym (append-nil core) ∙ ap (λ x. core ++ x) (sym no_blanks) ∙ sym joined ∙ ap (λ s. lead ++ (key ++ s)) is ∙ simp append_assoc in
+        absurd (true≢false (sym blank ∙ last (lead ++ (key ++ front)) b core_is))
+  ],
+  λ no_spaces. elim (some_last blanks) [
+    | inl is ↦ is
+    | inr (front, b, is) ↦
+        let (more, k, key_is, other) = key_last t begins in
+        let ends : (core ++ front) ++ b ∷ [] ≡ (lead ++ more) ++ k ∷ [] =
+        append_assoc core front (b ∷ []) ∙ ap (λ x. core ++ x) (sym is) ∙ sym joined
+        ∙ ap (λ s. lead ++ (key ++ s)) no_spaces ∙ ap (λ k. lead ++ (k ++ [])) key_is ∙ simp (append_assoc, append-nil) in
+        let same = (last_of (core ++ front) (lead ++ more) b k ends).1 in
+        let blank = last_holds is_blank front b (rw is at all) in
+        absurd (true≢false (sym blank ∙ ap is_blank same ∙ other))
+  ],
+)
+
+pub key_taken : {text key rest : List ℕ} {value : Option (List ℕ)} {lines : ℕ} → TakesEntry text key value lines rest
+    → (left : List ℕ) × TakesKey text key left
+key_taken (alone {rest = rest} t end) = (rest, t)
+key_taken (valued {b = b} {after = after} t is_sign value) = (b ∷ after, t)
 
 pub can_hold : {text key raw at : List ℕ} {lines : ℕ} {held : Option (List ℕ)} (front : List ℕ)
     → text ≡ front ++ at → held ≡ Some raw → BeginsWithLetter text
@@ -202,63 +361,75 @@ IsEntryIn parts piece =
     IsEntry parts.key.now (value_of parts.value) parts.lines parts.rest.now
     piece.blanks.now piece.bytes.now piece.rest.now piece.is_line
 
--- the bytes of an entry, in which these come in the place of those of its value
-given_by : {parts : EntryParts} {piece : Piece} {value put : List ℕ}
-    (e : IsEntryIn parts piece)
-    (front now : List ℕ) → e.front ≡ front ++ value_bytes (value_of parts.value)
-    → put ≡ piece.blanks.now ++ ((front ++ now) ++ e.tail) → PutsValue value (value_of parts.value) now
-    → IsGiven parts piece value put
-given_by {parts = parts} e front now front_is put_is puts =
+-- an entry, whose bytes these are now behind its key
+pub shaped_by : {parts : EntryParts} {piece : Piece} {value put : List ℕ} (e : IsEntryIn parts piece) (between bytes : List ℕ)
+    → e.front ≡ parts.key.now ++ (between ++ value_bytes (value_of parts.value))
+    → put ≡ piece.blanks.now ++ ((parts.key.now ++ (between ++ bytes)) ++ e.tail)
+    → ChangesValueTo value between e.tail (value_of parts.value) bytes
+    → (HasValue (value_of parts.value) value → HasHow parts value)
+    → IsShaped parts.key.now (Some value) parts piece put
+shaped_by {parts = parts} {piece = piece} e between bytes front_is put_is changes how =
     record {
-      gone = e.front;
-      now = front ++ now;
+      between = between;
+      bytes = bytes;
       tail = e.tail;
       left = e.left;
-      bytes_are = e.joined;
+      bytes_are = e.joined ∙ ap (λ f. piece.blanks.now ++ (f ++ e.tail)) front_is;
       put_is = put_is;
-      gives = record {
-        lines = parts.lines;
-        front = front;
-        bytes = now;
-        begins = rw e.left at e.begins;
-        takes = rw e.left at e.takes;
-        gone_is = front_is;
-        put_is = refl;
-        puts = puts;
-      };
+      is_valued = changes;
+      how = how;
     }
 
-pub value_changed : {parts : EntryParts} {piece : Piece} (raw value put start : List ℕ)
+-- what precedes the value of an entry
+pub front_is_behind : (parts : EntryParts) (piece : Piece) (e : IsEntryIn parts piece)
+    (b : Behind (e.front ++ parts.rest.now) parts.key.now (value_of parts.value) parts.rest.now)
+    → e.front ≡ parts.key.now ++ (b.between ++ value_bytes (value_of parts.value))
+front_is_behind parts piece e b =
+    append_cancel_right e.front (parts.key.now ++ (b.between ++ value_bytes (value_of parts.value))) parts.rest.now b.joined
+
+-- what precedes the bytes of a value that is there
+pub start_is_behind : (parts : EntryParts) (piece : Piece) (raw start between : List ℕ) (e : IsEntryIn parts piece)
+    → e.front ≡ parts.key.now ++ (between ++ raw) → piece.bytes.now ≡ (start ++ raw) ++ e.tail
+    → start ≡ piece.blanks.now ++ (parts.key.now ++ between)
+start_is_behind parts piece raw start between e front_is bytes_is =
+    let whole = piece.blanks.now ++ (parts.key.now ++ between) in
+    append_cancel_right start whole raw
+    (append_cancel_right (start ++ raw) (whole ++ raw) e.tail
+    (sym bytes_is ∙ e.joined ∙ ap (λ f. piece.blanks.now ++ (f ++ e.tail)) front_is ∙ simp append_assoc))
+
+pub value_changed : {parts : EntryParts} {piece : Piece} (raw value put start between tail : List ℕ)
     → value_of parts.value ≡ Some raw
-    → (e : IsEntryIn parts piece)
-    → piece.bytes.now ≡ (start ++ raw) ++ e.tail → IsPutIn raw value put
-    → ¬ (HasValue (value_of parts.value) value) → IsSet parts piece value (start ++ (put ++ e.tail))
-value_changed {parts = parts} {piece = piece} raw value put start held e bytes_is is_put other =
+    → (e : IsEntryIn parts piece) → tail ≡ e.tail → e.front ≡ parts.key.now ++ (between ++ value_bytes (value_of parts.value))
+    → piece.bytes.now ≡ (start ++ raw) ++ e.tail → IsPutIn between tail raw value put
+    → ¬ (HasValue (value_of parts.value) value) → IsValued (Some value) parts piece (start ++ (put ++ tail))
+value_changed {parts = parts} {piece = piece} raw value put start between tail held e tail_is front_is bytes_is put_in_tail other =
+    let is_put : IsPutIn between e.tail raw value put = rw tail_is at put_in_tail in
+    let key = parts.key.now in
     let c = can_hold e.front refl held e.begins e.takes in
     let (takes, begins) = c.holds put value parts.rest.now is_put.spells c.ends in
     let blanks = piece.blanks.now in
-    let start_is : start ≡ blanks ++ c.start =
-    append_cancel_right start (blanks ++ c.start) raw
-    (append_cancel_right (start ++ raw) ((blanks ++ c.start) ++ raw) e.tail
-    (sym bytes_is ∙ e.joined ∙ ap (λ f. blanks ++ (f ++ e.tail)) c.joined ∙ simp append_assoc)) in
-    let front_is = c.joined ∙ ap (λ w. c.start ++ value_bytes w) (sym held) in
-    let whole : start ++ (put ++ e.tail) ≡ blanks ++ ((c.start ++ put) ++ e.tail) =
-    ap (λ s. s ++ (put ++ e.tail)) start_is ∙ simp append_assoc in
+    let raw_front : e.front ≡ key ++ (between ++ raw) = front_is ∙ ap (λ w. key ++ (between ++ value_bytes w)) held in
+    let c_is : c.start ≡ key ++ between =
+    append_cancel_right c.start (key ++ between) raw (sym c.joined ∙ raw_front ∙ sym (append_assoc key between raw)) in
+    let start_is = start_is_behind parts piece raw start between e raw_front bytes_is in
+    let whole : start ++ (put ++ tail) ≡ blanks ++ ((key ++ (between ++ put)) ++ e.tail) =
+    ap (λ t. start ++ (put ++ t)) tail_is ∙ ap (λ s. s ++ (put ++ e.tail)) start_is ∙ simp append_assoc in
+    let joined : c.start ++ put ≡ key ++ (between ++ put) = ap (λ s. s ++ put) c_is ∙ append_assoc key between put in
     record {
-      raw = put;
+      raw = Some put;
       lines = line_feeds put;
       at = parts.rest.now;
-      has_value = (outside, is_put.spells);
+      value_is = (outside, is_put.spells);
       entry = record {
-        front = c.start ++ put;
+        front = key ++ (between ++ put);
         tail = e.tail;
-        begins = begins;
-        takes = takes;
+        begins = rw joined at begins;
+        takes = rw joined at takes;
         left = e.left;
         is_tail = e.is_tail;
         joined = whole;
       };
-      given = inr (other, given_by e c.start put front_is whole (rw held is_put.puts));
+      shaped = shaped_by e between put front_is whole (inr (other, rw held is_put.puts)) (λ has. absurd (other has));
     }
 
 -- a value for a key alone
@@ -285,10 +456,6 @@ key_before t gap rest all stops ends =
       };
       space_run = record { joined = refl; pass = are; longest = ends };
     }
-
-gap_spaces : (gap : List ℕ) → IsGap gap → list_all is_space gap ≡ true
-gap_spaces gap (inl none) = rw none refl
-gap_spaces gap (inr space) = rw space refl
 
 -- the rest of a line, without its first blanks
 comment_ends_value : {comment : List ℕ} (more : List ℕ) → IsComment comment → EndsValue more
@@ -328,39 +495,46 @@ letter_in_front (x ∷ front) at other (b, more, e, letter) end = (b, front ++ o
 pub with_value : {text key at : List ℕ} {lines : ℕ} {held : Option (List ℕ)} (front gap raw value : List ℕ)
     {rest : List ℕ}
     → text ≡ front ++ at → held ≡ None → BeginsWithLetter text
-    → TakesEntry text key held lines at → IsGap gap → SpellsValue raw value outside → EndsValue rest
+    → TakesEntry text key held lines at → list_all is_space gap ≡ true → SpellsValue raw value outside → EndsValue rest
     → TakesEntry ((front ++ gap) ++ 61 ∷ (raw ++ rest)) key (Some raw) (line_feeds raw) rest × BeginsWithLetter ((front ++ gap) ++ 61 ∷ (raw ++ rest))
 with_value front gap raw value joined none begins (valued takes is taken) is_gap spells ends = cc
 with_value {key = key} {at = at} front gap raw value {rest = rest} joined none begins (alone takes end) is_gap spells ends =
     let front_is : front ≡ key ++ takes.spaces =
     append_cancel_right front (key ++ takes.spaces) at (sym joined ∙ key_joined at takes) in
-    let key_takes = key_before takes gap (61 ∷ (raw ++ rest)) (gap_spaces gap is_gap) refl refl in
+    let key_takes = key_before takes gap (61 ∷ (raw ++ rest)) is_gap refl refl in
     let begins_now =
     letter_in_front front at (gap ++ 61 ∷ (raw ++ rest)) (subst BeginsWithLetter joined begins) end in (
       rw append_assoc (rw front_is (valued key_takes refl (closed refl spells ends))),
       rw append_assoc begins_now,
     )
 
-pub value_given : {parts : EntryParts} {piece : Piece} {value gap : List ℕ} → value_of parts.value ≡ None
-    → (e : IsEntryIn parts piece)
-    → is_spellable value ≡ true → IsGap gap
-    → IsSet parts piece value ((piece.blanks.now ++ e.front) ++ ((gap ++ 61 ∷ 32 ∷ git_spelled value) ++ e.tail))
-value_given {parts = parts} {piece = piece} {value = value} {gap = gap} held e spellable is_gap =
+pub value_given : {parts : EntryParts} {piece : Piece} {value : List ℕ} (close : Bool) (between : List ℕ)
+    → value_of parts.value ≡ None
+    → (e : IsEntryIn parts piece) → e.front ≡ parts.key.now ++ (between ++ value_bytes (value_of parts.value))
+    → is_spellable value ≡ true → (IsTrue close ↔ (between ≡ []))
+    → IsValued (Some value) parts piece
+    ((piece.blanks.now ++ e.front) ++ ((space_if close ++ 61 ∷ 32 ∷ git_spelled value) ++ e.tail))
+value_given {parts = parts} {piece = piece} {value = value} close between held e front_is spellable close_is =
     let blanks = e.is_tail.blanks in
+    let key = parts.key.now in
     let (left, tail_is, is_tail, ends) = unblanked e.is_tail in
     let g = git_spelled value in
+    let gap = space_if close in
+    let is_gap = space_is close close_is in
     let spelling = git_spelling value spellable in
     let raw = 32 ∷ (g ++ blanks) in
     let spells : SpellsValue raw value outside =
     spells_between (32 ∷ []) blanks refl e.is_tail.are_blank spelling.0 in
-    let (takes, begins) = with_value e.front gap raw value refl held e.begins e.takes is_gap spells ends in
+    let (takes, begins) = with_value e.front gap raw value refl held e.begins e.takes (gap_spaces is_gap) spells ends in
     let put = gap ++ 61 ∷ 32 ∷ g in
     let rest = left ++ piece.rest.now in
+    let key_front : e.front ≡ key ++ between =
+    front_is ∙ ap (λ w. key ++ (between ++ value_bytes w)) held ∙ ap (λ b. key ++ b) (append-nil between) in
     record {
-      raw = raw;
+      raw = Some raw;
       lines = line_feeds raw;
       at = rest;
-      has_value = (outside, spells);
+      value_is = (outside, spells);
       entry = record {
         front = (e.front ++ gap) ++ 61 ∷ raw;
         tail = left;
@@ -370,11 +544,9 @@ value_given {parts = parts} {piece = piece} {value = value} {gap = gap} held e s
         is_tail = is_tail;
         joined = ap (λ x. (piece.blanks.now ++ e.front) ++ (put ++ x)) tail_is ∙ simp append_assoc;
       };
-      given = inr (
-        rw held (λ none. none),
-        given_by e e.front put (rw held (sym (append-nil e.front))) (simp append_assoc)
-            (rw held (spec.behind_key is_gap (spelling, refl))),
-      );
+      shaped = shaped_by e between put front_is
+          (ap (λ f. (piece.blanks.now ++ f) ++ (put ++ e.tail)) key_front ∙ simp append_assoc)
+          (inr (rw held (λ none. none), rw held (spec.behind_key is_gap (spelling, refl)))) (rw held (λ has. absurd has));
     }
 
 -- how the bytes of a value end: before what follows them, or at a backslash that ends the text
@@ -422,14 +594,17 @@ has_of parts (raw, held, inr how) = rw held (at_backslash, how.0)
 -- an entry that has the value already
 pub value_kept : {parts : EntryParts} {piece : Piece} {value : List ℕ} → HasHow parts value
     → (e : IsEntryIn parts piece)
-    → IsSet parts piece value piece.bytes.now
-value_kept {parts = parts} how e =
+    → IsValued (Some value) parts piece piece.bytes.now
+value_kept {parts = parts} {piece = piece} how e =
     let (raw, held, spells) = how in
+    let b = behind e.takes in
+    let front_is = front_is_behind parts piece e b in
     record {
-      raw = raw;
+      raw = Some raw;
       lines = parts.lines;
       at = parts.rest.now;
-      has_value = rw held at (has_of parts how);
+      value_is = rw held at (has_of parts how);
       entry = rw held at e;
-      given = inl (has_of parts how, refl, how);
+      shaped = shaped_by e b.between (value_bytes (value_of parts.value)) front_is
+          (e.joined ∙ ap (λ f. piece.blanks.now ++ (f ++ e.tail)) front_is) (inl (has_of parts how, refl)) (λ has. how);
     }

@@ -1,345 +1,581 @@
 -- Texts without the sections of a key.
-use Rattle.std.proofs.Common.{◌≡◌, ◌≢◌, ℕ, ◌<◌, Bool, true, false, List, [], ◌++◌, Option, Some, None}
-use Rattle.std.proofs.Common.{is_some, IfSome, MatchOption, length, refl, sym, ap, ◌∙◌, append_assoc}
-use Rattle.std.proofs.Common.{append-nil, inl, inr, ◌⊎◌, true≢false}
+use Rattle.std.proofs.Common.{◌≡◌, ◌≢◌, ℕ, ◌<◌, Bool, true, false, List, [], ◌∷◌, ◌++◌, Option, Some, None, length}
+use Rattle.std.proofs.Common.{MatchOption, IfSome, not, is_some, refl, sym, ap, ◌∙◌, subst, append_assoc, append-nil, inl, inr}
+use Rattle.std.proofs.Common.{◌⊎◌, arith, true≢false}
+use Rattle.std.specs.Prelude.{⊤}
+use Rattle.std.proofs.lemmas.Bool.Decides.{nat_tests}
+use Rattle.std.proofs.lemmas.List.{append_cancel_right}
 use Rattle.config_edit.specs.declared.sections.Lost.{Lost}
 use Rattle.config_edit.specs.declared.piece.Held.{Held}
 use Rattle.config_edit.specs.declared.piece.Held.TheVariants as held
 use Rattle.config_edit.specs.declared.piece.Piece.{Piece}
 use Rattle.config_file.specs.declared.section.Section as code
-use Rattle.config_file.specs.Key.{Key}
+use Rattle.config_file.specs.Bytes.{is_blank, is_comment_sign}
+use Rattle.config_file.specs.Runs.{StopsRun}
 use Rattle.config_file.specs.Header.{Section}
-use Rattle.config_edit.specs.Edit as spec
-use Rattle.config_edit.specs.Edit.{Content, IsIn, WithoutIn, NoneIn, Becomes, LosesSection, MayRemove, IsEnd, AreBlank, IsBody, IsTail}
-use Rattle.config_edit.specs.Reading.{Ends, Passed, anywhere, IsRead}
-use Rattle.config_edit.specs.Reading.{IsPiece, IsMade, contents_in, section_after, IsHead, IsCleared}
-use Rattle.config_edit.specs.Reading.{IsKept, IsLost, Clearing, ClearsPiece, IsBefore, Comes}
+use Rattle.config_file.specs.Key.{Key}
 use Rattle.config_file.specs.Views.{section_of}
-use Rattle.config_edit.proofs.Edits.{without_in_both, holds_nothing, holds_join, passed_holds, passed_join}
-use Rattle.config_edit.proofs.Edits.{passed_ends, all_passed, some_left}
-use Rattle.config_edit.proofs.Becomes.{becomes_before, becomes_both}
-use Rattle.config_edit.proofs.Replaced.{other_after, holds_then, past_begins, past_more, piece_passed}
-use Rattle.config_edit.proofs.Replaced.{end_holds}
-use Rattle.config_edit.proofs.Added.{none_in_piece}
-use Rattle.config_edit.proofs.Removed.{header_may_go}
-use Rattle.std.proofs.lemmas.List.{append_cancel_right}
+use Rattle.config_edit.proofs.Pieces.{comment_behind}
+use Rattle.config_edit.specs.Edit as edit
+use Rattle.config_edit.specs.Edit.{Content, IsIn, WithoutIn, IsEndOfLine, IsLineEnd}
+use Rattle.config_edit.specs.Cut as cut
+use Rattle.config_edit.specs.Cut.{Part, IsPart, Cuts, IsTail, IsComment, absent, present, HasComment}
+use Rattle.config_edit.specs.Cut.{AreBlank, part_bytes, parts_bytes, ends_line, section_behind}
+use Rattle.config_edit.proofs.Changed.{both_blank}
+use Rattle.config_edit.specs.Sections as spec
+use Rattle.config_edit.specs.Sections.{AllAre, NoneIs, IsHeaderIn, IsHeaderPart, IsCommentLine, BeginsWithHeader, Clears}
+use Rattle.config_edit.specs.Sections.{EndsInComments, EndsInNoComment, LastEnd, Stays, end_of, goes_on_behind}
+use Rattle.config_edit.specs.Reading.{Ends, IsRead, IsPiece, IsMade, IsHeaderHeld, IsFoundIn, Clearing, IsKept}
+use Rattle.config_edit.specs.Reading.{IsLost, IsAtLine, EndsNoLine, ClearsPiece}
+use Rattle.config_edit.proofs.Edits.{without_in_both, some_left}
+use Rattle.config_edit.proofs.Cuts.{part_of, one_cut, IsPartOf, no_part, same_last}
+use Rattle.config_edit.proofs.PartsRead.{part_contents, contents_of, part_moved, behind_begins, behind_more, behind_all}
+use Rattle.config_edit.proofs.PartsRead.{some_bytes, header_held, header_in, found_before, all_both, all_front}
 
-pub clearing_begins : (key : Key) (text : List ℕ) → Clearing key text text [] false None
+-- what the parts of pieces are
+line_of : (h : Held) (blanks bytes rest : List ℕ) (is_line : Bool) (part : Part) → EndsNoLine h is_line
+    → IsPartOf h blanks bytes rest is_line part → ends_line part ≡ is_line
+line_of (held.Header section) blanks bytes rest is_line part ends (inner, is) = rw (is, ends) refl
+line_of (held.Entry parts) blanks bytes rest is_line part ends (between, tail, is, left) = rw is refl
+line_of held.Nothing blanks bytes rest is_line part ends is = rw is refl
+line_of held.Comment blanks bytes rest is_line part ends is = rw is refl
+
+no_header_part : (h : Held) (blanks bytes rest : List ℕ) (is_line : Bool) (part : Part)
+    → ((header : code.Section) → h ≡ held.Header header → ⊥)
+    → IsPartOf h blanks bytes rest is_line part → ¬ (IsHeaderPart part)
+no_header_part (held.Header section) blanks bytes rest is_line part no_header is = absurd (no_header section refl)
+no_header_part (held.Entry parts) blanks bytes rest is_line part no_header (between, tail, is, left) = rw is (λ h. h)
+no_header_part held.Nothing blanks bytes rest is_line part no_header is = rw is (λ h. h)
+no_header_part held.Comment blanks bytes rest is_line part no_header is = rw is (λ h. h)
+
+header_part : (h : Held) (section : code.Section) (blanks bytes rest : List ℕ) (is_line : Bool) (part : Part)
+    → h ≡ held.Header section → IsPartOf h blanks bytes rest is_line part → IsHeaderPart part
+header_part (held.Header new) section blanks bytes rest is_line part e (inner, is) = rw is tt
+header_part h section blanks bytes rest is_line part e is = cc
+
+header_is : (key : Key) (part : Part) → IsHeaderIn key part → IsHeaderPart part
+header_is key (cut.header blanks section inner) is = tt
+header_is key (cut.entry blanks name between value tail is_line) is = is
+header_is key (cut.line tail is_line) is = is
+
+comment_in : (comment blanks more : List ℕ) → AreBlank blanks → IsComment comment → comment ≢ []
+    → HasComment (blanks ++ (comment ++ more))
+comment_in [] blanks more all is some = absurd (some refl)
+comment_in (sign ∷ bytes) blanks more all (present is pass) some = (blanks, bytes ++ more, sign, refl, all, is)
+
+comment_at : (blanks : List ℕ) {tail rest : List ℕ} {is_line : Bool} (t : IsTail tail rest is_line) → AreBlank blanks
+    → t.comment ≢ [] → HasComment (blanks ++ tail)
+comment_at blanks {tail = tail} t all some =
+    let (more, tail_is) : (more : List ℕ) × (tail ≡ t.blanks ++ (t.comment ++ more)) = elim t.ends [
+      | inl l ↦ (10 ∷ [], l.1)
+      | inr e ↦ ([], rw append-nil e.2)
+    ] in
+    let whole = ap (λ x. blanks ++ x) tail_is ∙ sym (append_assoc blanks t.blanks (t.comment ++ more)) in
+    rw whole (comment_in t.comment (blanks ++ t.blanks) more (both_blank blanks t.blanks all t.are_blank) t.is_comment some)
+
+no_sign : (b : ℕ) → (b ≡ 10) → is_comment_sign b ≡ true → ⊥
+no_sign b is sign = grind (arith, nat_tests)
+
+not_signed : (end : List ℕ) (sign : ℕ) (more : List ℕ) → (end ≡ []) ⊎ (end ≡ 10 ∷ []) → end ≡ sign ∷ more
+    → is_comment_sign sign ≡ true → ⊥
+not_signed end sign more (inl none) e is = let never : [] ≡ sign ∷ more = sym none ∙ e in cc
+not_signed end sign more (inr feed) e is = let same : 10 ∷ [] ≡ sign ∷ more = sym feed ∙ e in no_sign sign (cc) is
+
+ends_blanks : {end : List ℕ} → (end ≡ []) ⊎ (end ≡ 10 ∷ []) → StopsRun is_blank end
+ends_blanks (inl none) = rw none tt
+ends_blanks (inr feed) = rw feed refl
+
+blank_bytes : (blanks end : List ℕ) → AreBlank blanks → (end ≡ []) ⊎ (end ≡ 10 ∷ []) → ¬ (HasComment (blanks ++ end))
+blank_bytes blanks end all is has =
+    let (sign, more, e, is_sign) = comment_behind {at = end} (record { joined = refl; pass = all; longest = ends_blanks is }) has in
+    not_signed end sign more is e is_sign
+
+no_comment_at : (blanks : List ℕ) {tail rest : List ℕ} {is_line : Bool} (t : IsTail tail rest is_line) → AreBlank blanks
+    → t.comment ≡ [] → ¬ (HasComment (blanks ++ tail))
+no_comment_at blanks {tail = tail} t all none =
+    let (end, tail_is, is_end) : (end : List ℕ) × (tail ≡ t.blanks ++ end) × ((end ≡ []) ⊎ (end ≡ 10 ∷ [])) = elim t.ends [
+      | inl l ↦ (10 ∷ [], rw none at l.1, inr refl)
+      | inr e ↦ ([], rw none at e.2, inl refl)
+    ] in
+    let whole = ap (λ x. blanks ++ x) tail_is ∙ sym (append_assoc blanks t.blanks end) in
+    rw whole (blank_bytes (blanks ++ t.blanks) end (both_blank blanks t.blanks all t.are_blank) is_end)
+
+comment_part : (h : Held) (blanks bytes rest : List ℕ) (is_line : Bool) (part : Part) → h ≡ held.Comment → AreBlank blanks
+    → IsMade h blanks bytes rest is_line → IsPartOf h blanks bytes rest is_line part → IsCommentLine part
+comment_part held.Comment blanks bytes rest is_line part e all (tail, joined, t, some) is = rw (is, joined) (comment_at blanks t all some)
+comment_part h blanks bytes rest is_line part e all made is = cc
+
+no_comment_part : (h : Held) (blanks bytes rest : List ℕ) (is_line : Bool) (part : Part) → (h ≡ held.Comment → ⊥) → AreBlank blanks
+    → IsMade h blanks bytes rest is_line → IsPartOf h blanks bytes rest is_line part → ¬ (IsCommentLine part)
+no_comment_part (held.Header section) blanks bytes rest is_line part other all made (inner, is) = rw is (λ h. h)
+no_comment_part (held.Entry parts) blanks bytes rest is_line part other all made (between, tail, is, left) = rw is (λ h. h)
+no_comment_part held.Nothing blanks bytes rest is_line part other all (tail, joined, t, none) is =
+    rw (is, joined) (no_comment_at blanks t all none)
+no_comment_part held.Comment blanks bytes rest is_line part other all made is = absurd (other refl)
+
+-- behind a part that is no header a line begins, or the text ends
+line_or_end : (part : Part) (rest : List ℕ) → IsPart part rest → ¬ (IsHeaderPart part)
+    → (ends_line part ≡ true) ⊎ (rest ≡ [])
+line_or_end (cut.header blanks section inner) rest is other = absurd (other tt)
+line_or_end (cut.entry blanks key between value tail is_line) rest (all, letter, takes, t) other = elim t.ends [
+  | inl l ↦ inl l.0
+  | inr e ↦ inr e.1
+]
+line_or_end (cut.line tail is_line) rest (some, t) other = elim t.ends [
+  | inl l ↦ inl l.0
+  | inr e ↦ inr e.1
+]
+
+pub clearing_begins : (key : Key) (text : List ℕ) → Clearing key text text [] false None false true
 clearing_begins key text =
+    record { done = []; behind = behind_begins text; clears = λ later more any c. c; found = tt }
+
+-- a piece that stays
+keeps_part : {key : Key} {later : List Part} {more : List ℕ} {in_line : Bool} (part : Part) (bytes : List ℕ) (is_line : Bool)
+    → part_bytes part ≡ bytes → ends_line part ≡ is_line → ¬ (IsHeaderIn key part) → Clears key (not is_line) later more
+    → Clears key in_line (part ∷ later) (bytes ++ more)
+keeps_part part bytes is_line bytes_are ends other c = rw (← bytes_are) (spec.kept part other (rw (← ends) at c))
+
+pub piece_kept : {Next : List Part → Type 0} {key : Key} {text rest new : List ℕ} {is_found in_line : Bool} (piece : Piece)
+    → IsKept Next key text rest new is_found in_line → IsPiece rest piece → length piece.rest.now < length rest
+    → ¬ (IsHeaderHeld key piece.held)
+    → ((part : Part) → IsPartOf piece.held piece.blanks.now piece.bytes.now piece.rest.now piece.is_line part
+    → (later : List Part) → Next (part ∷ later))
+    → IsKept (λ later. ⊤) key text piece.rest.now (new ++ piece.bytes.now) is_found (not piece.is_line)
+piece_kept {key = key} {new = new} {is_found = is_found} piece r is shorter other next =
+    let (part, bytes_are, is_part, held_is) = part_of piece (some_bytes piece is shorter) is in
+    let ends = line_of piece.held _ _ _ piece.is_line part is.unended held_is in
+    let not_in : ¬ (IsHeaderIn key part) = λ h. other (header_in key piece.held _ _ _ piece.is_line part held_is h) in
     record {
-      front = [];
-      old = [];
-      now = [];
-      section = None;
-      past = past_begins text;
-      outside = λ is. is;
-      passed = anywhere (holds_nothing None);
-      without = spec.none;
-      changes = spec.none;
-      untouched = λ none. refl;
+      done = r.done ++ part ∷ [];
+      behind = behind_more piece r.behind is shorter part bytes_are is_part;
+      clears = λ later more any c.
+          rw (append_assoc r.done (part ∷ []) later, append_assoc new piece.bytes.now more)
+          (r.clears (part ∷ later) (piece.bytes.now ++ more) (next part held_is later)
+          (keeps_part part piece.bytes.now piece.is_line bytes_are ends not_in c));
+      found = found_before key r.done part is_found r.found not_in;
     }
 
--- at a header
-pub kept_before : {key : Key} {text rest new : List ℕ} {is_found : Bool} → rest ≢ []
-    → IsKept key text rest new is_found → IsBefore key text rest new is_found
-kept_before some r =
-    record {
-      front = r.front;
-      old = r.old;
-      now = r.now;
-      base = r.section;
-      section = r.section;
-      past = r.past;
-      new_is = passed_holds some r.passed;
-      without = r.without;
-      changes = r.changes;
-      untouched = r.untouched;
-    }
+not_held : (key : Key) (h : Held) → ((header : code.Section) → h ≡ held.Header header → ⊥) → ¬ (IsHeaderHeld key h)
+not_held key (held.Header section) no_header = absurd (no_header section refl)
+not_held key h no_header = λ is. is
 
-with_end : {key : Key} {gone rest : List ℕ} (end : List ℕ) → IsEnd end → LosesSection key gone [] rest
-    → LosesSection key gone end rest
-with_end end is loses =
-    record { blanks = loses.blanks; header = loses.header; body = loses.body; joined = loses.joined; are_blank = loses.are_blank; is_header = loses.is_header; is_body = loses.is_body; is_end = is }
-
-pub lost_before : {key : Key} {text rest new : List ℕ} {lost : Lost} {is_found : Bool} (end comments : List ℕ)
-    → rest ≢ [] → IsLost key text rest new lost → is_found ≡ true → IsEnd end
-    → lost.comments.now ≡ comments ++ rest → IsBefore key text rest (new ++ (end ++ comments)) is_found
-lost_before {key = key} {text = text} {rest = rest} {new = new} end comments some r found is_end cut =
-    let comments_is : comments ≡ r.comments =
-    append_cancel_right comments r.comments rest (sym cut ∙ r.cut) in
-    let are = passed_holds some (r.are_comments r.base) in
-    let holds =
-    holds_join new (end ++ r.comments) r.new_is
-    (holds_join end r.comments (end_holds r.base end is_end) are) in
-    let (at, there, place) = r.begins in
-    let goes : Becomes (Comes text) (MayRemove key) r.gone (r.comments ++ rest) end =
-    spec.changed spec.none place (with_end end is_end r.loses) in
-    rw comments_is (record {
-      front = r.front ++ (r.gone ++ r.comments);
-      old = r.old;
-      now = r.now;
-      base = r.base;
-      section = r.section;
-      past = r.past;
-      new_is = rw append-nil at holds;
-      without = r.without;
-      changes = becomes_both r.front new r.changes
-          (becomes_both r.gone end goes (spec.kept r.comments spec.none));
-      untouched = λ none. absurd (true≢false (sym found ∙ none));
+-- where a header follows, and nothing is lost before it, or this section
+pub at_header : (key : Key) (text rest new put : List ℕ) (is_found in_line starts_line goes_on : Bool) (was : Option Lost)
+    → Clearing key text rest new is_found was in_line starts_line
+    → MatchOption was ((put ≡ new) × (goes_on ≡ in_line)) (λ last. (comments : List ℕ) × (last.comments.now ≡ comments ++ rest)
+    × (put ≡ new ++ (end_of in_line last.line_end.now ++ comments)) × (goes_on ≡ goes_on_behind in_line last.line_end.now))
+    → IsKept BeginsWithHeader key text rest put is_found goes_on
+at_header key text rest new put is_found in_line starts_line goes_on None r (put_is, goes_is) =
+    rw (put_is, goes_is) (record { done = r.done; behind = r.behind; clears = λ later more begins c. r.clears later more tt c; found = r.found })
+at_header key text rest new put is_found in_line starts_line goes_on (Some lost) (r, found) (comments, is, put_is, goes_is) =
+    let same : comments ≡ parts_bytes r.comments =
+    append_cancel_right comments (parts_bytes r.comments) rest (sym is ∙ r.cut) in
+    let left = end_of in_line lost.line_end.now ++ parts_bytes r.comments in
+    rw (put_is, goes_is, found, same) (record {
+      done = r.before ++ r.head ∷ r.body;
+      behind = r.behind;
+      clears = λ later more begins c.
+          let gone = spec.lost r.head r.body r.comments r.is_header r.no_header (inl (begins, r.ends)) r.last_end c in
+          rw (append_assoc r.before (r.head ∷ r.body) later, append_assoc new left more)
+          (r.clears (r.head ∷ (r.body ++ later)) (left ++ more) (header_is key r.head r.is_header) gone);
+      found = λ none. (all_front _ r.before (r.head ∷ r.body) none).1.0 r.is_header;
     })
 
-pub header_lost : {key : Key} {text rest new : List ℕ} {is_found : Bool} (piece : Piece) (lost : Lost)
-    → IsBefore key text rest new is_found → IsPiece rest piece → length piece.rest.now < length rest
-    → (header : code.Section) → piece.held ≡ held.Header header → IsIn key (Some (section_of header))
-    → lost.comments.now ≡ piece.rest.now → IsEnd lost.line_end.now
-    → IsLost key text piece.rest.now new lost
-header_lost {key = key} {rest = rest} piece lost r is shorter header e is_in cut is_end =
-    let bytes = piece.bytes.now in
-    let head : IsHead key None r.old bytes piece.rest.now true =
-    header_may_go key None r.old piece.held header piece.blanks.now bytes piece.rest.now piece.is_line e is.blank is.made is_in true piece.rest.now in
-    record {
-      front = r.front;
-      gone = bytes;
-      comments = [];
-      old = r.old;
-      now = r.now;
-      base = r.base;
-      section = Some (section_of header);
-      past = rw append-nil (rw (e, append-nil) at (past_more piece r.past is shorter));
-      inside = is_in;
-      new_is = r.new_is;
-      cut = cut;
-      are_comments = λ any. anywhere (holds_nothing any);
-      is_body = spec.none;
-      is_end = is_end;
-      loses = record { blanks = head.blanks; header = head.header; body = head.tail; joined = head.joined; are_blank = head.are_blank; is_header = head.is_header; is_body = rw (head.alone refl) spec.none; is_end = inl refl };
-      without = r.without;
-      changes = rw append-nil (becomes_before r.changes is.joined);
-      begins = (
-        r.old,
-        r.section,
-        (r.front, r.past.joined ∙ ap (λ x. r.front ++ x) is.joined, passed_holds (some_left rest piece.rest.now shorter) r.past.passed),
-      );
-    }
-
-pub header_kept : {key : Key} {text rest new : List ℕ} {is_found : Bool} (piece : Piece)
-    → IsBefore key text rest new is_found → IsPiece rest piece → length piece.rest.now < length rest
-    → (header : code.Section) → piece.held ≡ held.Header header → ¬ (IsIn key (Some (section_of header)))
-    → IsKept key text piece.rest.now (new ++ piece.bytes.now) is_found
-header_kept {new = new} piece r is shorter header e other =
-    record {
-      front = r.front ++ piece.bytes.now;
-      old = r.old;
-      now = r.now;
-      section = Some (section_of header);
-      past = rw (e, append-nil) at (past_more piece r.past is shorter);
-      outside = other;
-      passed = rw (e, append-nil) at (holds_then new piece.bytes.now r.new_is (piece_passed piece is r.base));
-      without = r.without;
-      changes = spec.kept piece.bytes.now (becomes_before r.changes is.joined);
-      untouched = r.untouched;
-    }
-
--- a piece that is no header
-pub piece_kept : {key : Key} {text rest new : List ℕ} {is_found : Bool} (piece : Piece)
-    → IsKept key text rest new is_found → IsPiece rest piece → length piece.rest.now < length rest
-    → ((header : code.Section) → piece.held ≡ held.Header header → ⊥)
-    → IsKept key text piece.rest.now (new ++ piece.bytes.now) is_found
-piece_kept {key = key} {rest = rest} piece r is shorter no_header =
-    let more = contents_in piece.held r.section in
-    let outside : ¬ (IsIn key (section_after piece.held r.section)) =
-    rw (other_after piece.held r.section no_header) r.outside in
-    record {
-      front = r.front ++ piece.bytes.now;
-      old = r.old ++ more;
-      now = r.now ++ more;
-      section = section_after piece.held r.section;
-      past = past_more piece r.past is shorter;
-      outside = outside;
-      passed = passed_join (some_left rest piece.rest.now shorter) r.passed (piece_passed piece is r.section);
-      without = without_in_both r.old r.now r.without (none_in_piece key piece.held r.section (inl outside));
-      changes = spec.kept piece.bytes.now (becomes_before r.changes is.joined);
-      untouched = λ none. ap (λ n. n ++ more) (r.untouched none);
-    }
-
-all_lost : (key : Key) (h : Held) (section : Option Section) → IsIn key section
-    → WithoutIn key (contents_in h section) []
-all_lost key (held.Entry parts) section is = spec.lost _ spec.none is
-all_lost key h section is = spec.none
-
-body_joined : {first second rest : List ℕ} → IsBody first (second ++ rest) → IsBody second rest
-    → IsBody (first ++ second) rest
-body_joined is spec.none = rw append-nil is
-body_joined {first = first} is (spec.entry {body = body} {bytes = bytes} more entry) =
-    rw (← append_assoc first body bytes) (spec.entry (body_joined (rw append_assoc at is) more) entry)
-body_joined {first = first} is (spec.line {body = body} {tail = tail} blanks more all t) =
-    rw (← append_assoc first body (blanks ++ tail))
-    (spec.line blanks (body_joined (rw append_assoc at is) more) all t)
-
-piece_body : (h : Held) (blanks rest : List ℕ) (is_line : Bool) {bytes : List ℕ}
-    → ((header : code.Section) → h ≡ held.Header header → ⊥) → AreBlank blanks
-    → IsMade h blanks bytes rest is_line → IsBody bytes rest
-piece_body (held.Header header) blanks rest is_line no_header all made = absurd (no_header header refl)
-piece_body (held.Entry parts) blanks rest is_line no_header all made = spec.entry spec.none made
-piece_body held.Nothing blanks rest is_line no_header all (tail, joined, t, none) =
-    rw joined (spec.line blanks spec.none all t)
-piece_body held.Comment blanks rest is_line no_header all (tail, joined, t) =
-    rw joined (spec.line blanks spec.none all t)
-
-more_gone : {key : Key} {gone rest : List ℕ} (bytes : List ℕ) → IsBody bytes rest
-    → LosesSection key gone [] (bytes ++ rest) → LosesSection key (gone ++ bytes) [] rest
-more_gone bytes is_body loses =
-    record {
-      blanks = loses.blanks;
-      header = loses.header;
-      body = loses.body ++ bytes;
-      joined = ap (λ g. g ++ bytes) loses.joined ∙ simp append_assoc;
-      are_blank = loses.are_blank;
-      is_header = loses.is_header;
-      is_body = body_joined loses.is_body is_body;
-      is_end = loses.is_end;
-    }
-
--- one piece more of a section that is lost
-module _ {key : Key} {text rest new : List ℕ} {lost : Lost} (piece : Piece) (later : Lost)
-    (r : IsLost key text rest new lost) (is : IsPiece rest piece)
-    (shorter : length piece.rest.now < length rest)
-    (no_header : (header : code.Section) → piece.held ≡ held.Header header → ⊥)
-    (is_end : IsEnd later.line_end.now) where
-  more_lost : (gone comments : List ℕ) → (r.gone ++ r.comments) ++ piece.bytes.now ≡ gone ++ comments
-      → later.comments.now ≡ comments ++ piece.rest.now
-      → ((any : Option Section) → Passed any comments [] any piece.rest.now) → IsBody comments piece.rest.now
-      → LosesSection key gone [] (comments ++ piece.rest.now) → IsLost key text piece.rest.now new later
-  more_lost gone comments split cut are_comments is_body loses =
-      let more = contents_in piece.held r.section in
-      let without =
-      without_in_both r.old r.now r.without (all_lost key piece.held r.section r.inside) in
-      let whole : (r.gone ++ r.comments) ++ rest ≡ (gone ++ comments) ++ piece.rest.now =
-      ap (λ x. (r.gone ++ r.comments) ++ x) is.joined
-      ∙ rw (← append_assoc) (ap (λ x. x ++ piece.rest.now) split) in
-      record {
-        front = r.front;
-        gone = gone;
-        comments = comments;
-        old = r.old ++ more;
-        now = r.now;
-        base = r.base;
-        section = section_after piece.held r.section;
-        past = rw (append_assoc, split) at (past_more piece r.past is shorter);
-        inside = rw (other_after piece.held r.section no_header) r.inside;
-        new_is = r.new_is;
-        cut = cut;
-        are_comments = are_comments;
-        is_body = is_body;
-        is_end = is_end;
-        loses = loses;
-        without = rw append-nil at without;
-        changes = becomes_before r.changes whole;
-        begins = rw (← append_assoc r.gone r.comments rest, whole, append_assoc) at r.begins;
-      }
-
-  body : IsBody piece.bytes.now piece.rest.now
-  body = piece_body piece.held piece.blanks.now piece.rest.now piece.is_line no_header is.blank is.made
-
-  pub piece_lost : ((later.comments.now ≡ lost.comments.now) × (piece.held ≡ held.Comment))
-      ⊎ (later.comments.now ≡ piece.rest.now) → IsLost key text piece.rest.now new later
-  piece_lost (inl (same, comment)) =
-      more_lost r.gone (r.comments ++ piece.bytes.now) (append_assoc r.gone r.comments piece.bytes.now)
-      (same ∙ r.cut ∙ ap (λ x. r.comments ++ x) is.joined ∙ simp append_assoc)
-      (λ any. passed_join (some_left rest piece.rest.now shorter) (r.are_comments any)
-      (rw comment at (piece_passed piece is any)))
-      (body_joined (rw is.joined at r.is_body) body) (rw (is.joined, ← append_assoc) at r.loses)
-  piece_lost (inr begins) =
-      more_lost ((r.gone ++ r.comments) ++ piece.bytes.now) [] (sym (append-nil _)) begins
-      (λ any. anywhere (holds_nothing any)) spec.none
-      (more_gone piece.bytes.now body (rw is.joined at (more_gone r.comments r.is_body r.loses)))
-
--- a header follows
-pub at_header : (key : Key) (text rest new put : List ℕ) (is_found : Bool) (was : Option Lost) → rest ≢ []
-    → Clearing key text rest new is_found was
-    → MatchOption was (put ≡ new) (λ last. (end comments : List ℕ) × IsEnd end × (last.comments.now ≡ comments ++ rest) × (put ≡ new ++ (end ++ comments)))
-    → IsBefore key text rest put is_found
-at_header key text rest new put is_found None some r same = rw same (kept_before some r)
-at_header key text rest new put is_found (Some lost) some (r, found) (end, comments, is_end, cut, put_is) =
-    rw put_is (lost_before end comments some r found is_end cut)
-
-pub then_header : (key : Key) (text rest put : List ℕ) (is_found : Bool) (now : Option Lost) (piece : Piece)
-    → IsBefore key text rest put is_found → IsPiece rest piece → length piece.rest.now < length rest
+-- the header that follows
+pub then_header : (key : Key) (text rest put : List ℕ) (is_found in_line : Bool) (now : Option Lost) (piece : Piece)
+    → IsKept BeginsWithHeader key text rest put is_found in_line → IsPiece rest piece → length piece.rest.now < length rest
     → (header : code.Section) → piece.held ≡ held.Header header
-    → MatchOption now (¬ (IsIn key (Some (section_of header)))) (λ lost. IsIn key (Some (section_of header)) × (lost.comments.now ≡ piece.rest.now) × IsEnd lost.line_end.now)
-    → ClearsPiece key text piece put is_found now
-then_header key text rest put is_found None piece r is shorter header e other =
-    header_kept piece r is shorter header e other
-then_header key text rest put is_found (Some lost) piece r is shorter header e (is_in, cut, is_end) =
-    header_lost piece lost r is shorter header e is_in cut is_end
+    → MatchOption now (¬ (IsIn key (Some (section_of header)))) (λ lost. IsIn key (Some (section_of header))
+    × (lost.comments.now ≡ piece.rest.now) × (lost.line_end.now ≡ []))
+    → ClearsPiece key text piece put is_found in_line now
+then_header key text rest put is_found in_line None piece r is shorter header e other =
+    piece_kept piece r is shorter (λ h. other (subst (λ h. IsHeaderHeld key h) e h))
+    (λ part held_is later. header_part piece.held header _ _ _ piece.is_line part e held_is)
+then_header key text rest put is_found in_line (Some lost) piece r is shorter header e (is_in, cut, end_is) =
+    let (part, bytes_are, is_part, held_is) = part_of piece (some_bytes piece is shorter) is in
+    let in_key : IsHeaderIn key part = header_held key piece.held _ _ _ piece.is_line part held_is (subst (λ h. IsHeaderHeld key h) (sym e) is_in) in
+    let unended : piece.is_line ≡ false = subst (λ h. EndsNoLine h piece.is_line) e is.unended in
+    let ends = line_of piece.held _ _ _ piece.is_line part is.unended held_is ∙ unended in
+    record {
+      before = r.done;
+      head = part;
+      body = [];
+      comments = [];
+      behind = behind_more piece r.behind is shorter part bytes_are is_part;
+      clears = r.clears;
+      is_header = in_key;
+      no_header = tt;
+      cut = cut;
+      ends = spec.header_alone;
+      last_end = rw end_is (spec.before [] part ends spec.none);
+      at_line = unended;
+    }
 
-pub piece_clears : (key : Key) (text rest new : List ℕ) (is_found : Bool) (was now : Option Lost)
-    (piece : Piece)
-    → Clearing key text rest new is_found was → IsPiece rest piece → length piece.rest.now < length rest
+-- one part more in the body of a section
+bytes_more : (parts : List Part) (part : Part) (rest : List ℕ)
+    → parts_bytes parts ++ (part_bytes part ++ rest) ≡ parts_bytes (parts ++ part ∷ []) ++ rest
+bytes_more [] part rest = simp append-nil
+bytes_more (first ∷ parts) part rest =
+    append_assoc (part_bytes first) (parts_bytes parts) (part_bytes part ++ rest)
+    ∙ ap (λ x. part_bytes first ++ x) (bytes_more parts part rest)
+    ∙ sym (append_assoc (part_bytes first) (parts_bytes (parts ++ part ∷ [])) rest)
+
+comment_more : {body comments : List Part} (starts_line : Bool) (rest : List ℕ) (part : Part) → EndsInComments body comments
+    → IsAtLine body starts_line rest → starts_line ≡ true → IsCommentLine part
+    → EndsInComments (body ++ part ∷ []) (comments ++ part ∷ [])
+comment_more starts_line rest part spec.header_alone at starts is = absurd (true≢false (sym starts ∙ at))
+comment_more starts_line rest part (spec.lines {comments = comments} own lines none all) at starts is =
+    rw (append_assoc lines comments (part ∷ []))
+    (spec.lines own lines none (all_both IsCommentLine comments (part ∷ []) all (is, tt)))
+
+other_more : {body comments : List Part} (starts_line : Bool) (rest : List ℕ) (part : Part) → EndsInComments body comments
+    → IsAtLine body starts_line rest → rest ≢ [] → ¬ ((starts_line ≡ true) × IsCommentLine part)
+    → EndsInComments (body ++ part ∷ []) []
+other_more starts_line rest part spec.header_alone at some other = spec.lines part [] (λ front last e. absurd (no_part front last e)) tt
+other_more starts_line rest part (spec.lines {comments = comments} own lines none all) (inr nothing) some other = absurd (some nothing)
+other_more starts_line rest part (spec.lines {comments = comments} own lines none all) (inl starts) some other =
+    let not_last : EndsInNoComment ((lines ++ comments) ++ part ∷ []) =
+    λ front last e is. other (starts, rw (sym (same_last (lines ++ comments) front part last e).1) at is) in
+    let more : EndsInComments (own ∷ (((lines ++ comments) ++ part ∷ []) ++ [])) [] =
+    spec.lines own ((lines ++ comments) ++ part ∷ []) not_last tt in
+    rw append-nil at more
+
+at_line_more : (body : List Part) (part : Part) (is_line : Bool) (rest : List ℕ) → (is_line ≡ true) ⊎ (rest ≡ [])
+    → IsAtLine (body ++ part ∷ []) is_line rest
+at_line_more [] part is_line rest at = at
+at_line_more (first ∷ body) part is_line rest at = at
+
+pub piece_lost : {key : Key} {text rest new : List ℕ} {in_line starts_line : Bool} (piece : Piece) (before after : Lost)
+    → IsLost key text rest new before in_line starts_line → IsPiece rest piece → length piece.rest.now < length rest
+    → ((header : code.Section) → piece.held ≡ held.Header header → ⊥)
+    → ((after.comments.now ≡ before.comments.now) × (starts_line ≡ true) × (piece.held ≡ held.Comment))
+    ⊎ ((after.comments.now ≡ piece.rest.now) × ¬ ((starts_line ≡ true) × (piece.held ≡ held.Comment)))
+    → ((piece.is_line ≡ true) × IsEndOfLine piece.bytes.now true after.line_end.now)
+    ⊎ ((piece.is_line ≡ false) × (after.line_end.now ≡ before.line_end.now))
+    → IsLost key text piece.rest.now new after in_line piece.is_line
+piece_lost {rest = rest} {starts_line = starts_line} piece before after r is shorter no_header how end_is =
+    let (part, bytes_are, is_part, held_is) = part_of piece (some_bytes piece is shorter) is in
+    let h = piece.held in
+    let blanks = piece.blanks.now in
+    let not_header = no_header_part h _ _ _ piece.is_line part no_header held_is in
+    let ends = line_of h _ _ _ piece.is_line part is.unended held_is in
+    let (comments, cut, in_comments) : (comments : List Part) × (after.comments.now ≡ parts_bytes comments ++ piece.rest.now)
+    × EndsInComments (r.body ++ part ∷ []) comments = elim how [
+      | inl (same, starts, comment) ↦ (
+        r.comments ++ part ∷ [],
+        same ∙ r.cut ∙ ap (λ x. parts_bytes r.comments ++ x) (is.joined ∙ ap (λ b. b ++ piece.rest.now) (sym bytes_are))
+            ∙ bytes_more r.comments part piece.rest.now,
+        comment_more starts_line rest part r.ends r.at_line starts
+            (comment_part h blanks piece.bytes.now piece.rest.now piece.is_line part comment is.blank is.made held_is),
+      )
+      | inr (same, other) ↦ (
+        [],
+        same,
+        other_more starts_line rest part r.ends r.at_line (some_left rest piece.rest.now shorter)
+            (λ both. no_comment_part h blanks piece.bytes.now piece.rest.now piece.is_line part (λ e. other (both.0, e)) is.blank is.made held_is both.1),
+      )
+    ] in
+    record {
+      before = r.before;
+      head = r.head;
+      body = r.body ++ part ∷ [];
+      comments = comments;
+      behind = rw (append_assoc r.before (r.head ∷ r.body) (part ∷ [])) at
+          (behind_more piece r.behind is shorter part bytes_are is_part);
+      clears = r.clears;
+      is_header = r.is_header;
+      no_header = all_both _ r.body (part ∷ []) r.no_header (not_header, tt);
+      cut = cut;
+      ends = in_comments;
+      last_end = elim end_is [
+        | inl (line, is_end) ↦ spec.here (r.head ∷ r.body) part (ends ∙ line) (rw (← bytes_are) at is_end)
+        | inr (unended, same) ↦ rw same (spec.before (r.head ∷ r.body) part (ends ∙ unended) r.last_end)
+      ];
+      at_line = at_line_more r.body part piece.is_line piece.rest.now (rw ends at (line_or_end part piece.rest.now is_part not_header));
+    }
+
+pub piece_clears : (key : Key) (text rest new : List ℕ) (is_found in_line starts_line : Bool) (was now : Option Lost) (piece : Piece)
+    → Clearing key text rest new is_found was in_line starts_line → IsPiece rest piece → length piece.rest.now < length rest
     → ((header : code.Section) → piece.held ≡ held.Header header → ⊥)
     → MatchOption was (now ≡ None) (λ before. MatchOption now ⊥ (λ after.
-    (((after.comments.now ≡ before.comments.now) × (piece.held ≡ held.Comment)) ⊎
-    (after.comments.now ≡ piece.rest.now)) × (IsEnd before.line_end.now → IsEnd after.line_end.now)))
-    → ClearsPiece key text piece new is_found now
-piece_clears key text rest new is_found None now piece r is shorter no_header none =
-    rw none (piece_kept piece r is shorter no_header)
-piece_clears key text rest new is_found (Some before) None piece (r, found) is shorter no_header after =
-    absurd after
-piece_clears key text rest new is_found (Some before) (Some after) piece (r, found) is shorter no_header (comments, ends) =
-    piece_lost piece after r is shorter no_header (ends r.is_end) comments
-
--- what push_left needs
-pub left_is_cut : (key : Key) (text rest new : List ℕ) (is_found : Bool) (was : Option Lost)
-    → Clearing key text rest new is_found was
-    → IfSome was (λ last. IsEnd last.line_end.now × ((comments : List ℕ) × (last.comments.now ≡ comments ++ rest)))
-left_is_cut key text rest new is_found None r = tt
-left_is_cut key text rest new is_found (Some lost) (r, found) = (r.is_end, (r.comments, r.cut))
-
--- at the end of the text
-pub kept_ends : {key : Key} {text rest new : List ℕ} {contents : List Content} {is_found : Bool}
-    → IsKept key text rest new is_found → Ends None text contents → (rest ≡ []) ⊎ (¬ (IsRead rest))
-    → IsCleared key text contents new
-kept_ends r whole left =
-    let (rest_is, text_is, contents_are) = all_passed r.past.joined r.past.passed whole left in
-    record {
-      now = r.now;
-      ends = passed_ends rest_is r.passed;
-      without = rw contents_are at r.without;
-      changes = rw (← text_is) at (becomes_before r.changes rest_is);
-    }
-
-pub lost_ends : {key : Key} {text rest new : List ℕ} {contents : List Content} {lost : Lost} (end : List ℕ)
-    → IsLost key text rest new lost → Ends None text contents → (rest ≡ []) ⊎ (¬ (IsRead rest))
-    → IsEnd end → IsCleared key text contents (new ++ end)
-lost_ends {key = key} {text = text} {rest = rest} {new = new} end r whole left is_end =
-    let (rest_is, text_is, contents_are) = all_passed r.past.joined r.past.passed whole left in
-    let holds = rw append-nil at (holds_join new end r.new_is (end_holds r.base end is_end)) in
-    let (at, there, place) = rw (← append_assoc r.gone r.comments rest) at r.begins in
-    let put : Becomes (Comes text) (MayRemove key) (r.gone ++ r.comments) rest end =
-    spec.changed spec.none place (with_end end is_end (more_gone r.comments r.is_body r.loses)) in
-    record {
-      now = r.now;
-      ends = passed_ends refl (anywhere holds);
-      without = rw contents_are at r.without;
-      changes = rw (← text_is) at (becomes_before (becomes_both r.front new r.changes put) rest_is);
-    }
-
-pub none_cleared : {key : Key} {text rest new : List ℕ} {contents : List Content} {is_found : Bool}
-    → IsKept key text rest new is_found → is_found ≡ false → Ends None text contents
-    → (rest ≡ []) ⊎ (¬ (IsRead rest)) → NoneIn key contents
-none_cleared r none whole left =
-    let (rest_is, text_is, contents_are) = all_passed r.past.joined r.past.passed whole left in
-    rw contents_are at (rw (r.untouched none) at r.without)
+    (((after.comments.now ≡ before.comments.now) × (starts_line ≡ true) × (piece.held ≡ held.Comment))
+    ⊎ ((after.comments.now ≡ piece.rest.now) × ¬ ((starts_line ≡ true) × (piece.held ≡ held.Comment))))
+    × (((piece.is_line ≡ true) × IsEndOfLine piece.bytes.now true after.line_end.now)
+    ⊎ ((piece.is_line ≡ false) × (after.line_end.now ≡ before.line_end.now)))))
+    → ClearsPiece key text piece new is_found in_line now
+piece_clears key text rest new is_found in_line starts_line None now piece r is shorter no_header none =
+    rw none (piece_kept piece r is shorter (not_held key piece.held no_header) (λ part held_is later. tt))
+piece_clears key text rest new is_found in_line starts_line (Some before) None piece (r, found) is shorter no_header never =
+    absurd never
+piece_clears key text rest new is_found in_line starts_line (Some before) (Some after) piece (r, found) is shorter no_header (how, ends) =
+    piece_lost piece before after r is shorter no_header how ends
 
 -- whether something is lost after the piece
-pub still_lost : (key : Key) (text new : List ℕ) (is_found : Bool) (lost : Option Lost) (piece : Piece)
-    → ClearsPiece key text piece new is_found lost → is_some lost ≡ true
-    → Clearing key text piece.rest.now new true lost
-still_lost key text new is_found None piece r none = absurd (true≢false (sym none))
-still_lost key text new is_found (Some lost) piece r some = (r, refl)
+pub still_lost : (key : Key) (text new : List ℕ) (is_found in_line : Bool) (lost : Option Lost) (piece : Piece)
+    → ClearsPiece key text piece new is_found in_line lost → is_some lost ≡ true
+    → Clearing key text piece.rest.now new true lost in_line piece.is_line
+still_lost key text new is_found in_line None piece r none = absurd (true≢false (sym none))
+still_lost key text new is_found in_line (Some lost) piece r some = (r, refl)
 
-pub nothing_lost : (key : Key) (text new : List ℕ) (is_found : Bool) (lost : Option Lost) (piece : Piece)
-    → ClearsPiece key text piece new is_found lost → is_some lost ≡ false
-    → Clearing key text piece.rest.now (new ++ piece.bytes.now) is_found lost
-nothing_lost key text new is_found None piece r none = r
-nothing_lost key text new is_found (Some lost) piece r some = absurd (true≢false some)
+pub nothing_lost : (key : Key) (text new : List ℕ) (is_found in_line : Bool) (lost : Option Lost) (piece : Piece)
+    → ClearsPiece key text piece new is_found in_line lost → is_some lost ≡ false
+    → Clearing key text piece.rest.now (new ++ piece.bytes.now) is_found lost (not piece.is_line) piece.is_line
+nothing_lost key text new is_found in_line None piece r none = r
+nothing_lost key text new is_found in_line (Some lost) piece r some = absurd (true≢false some)
+
+-- at the end of the text
+pub kept_ends : {key : Key} {text rest new : List ℕ} {contents : List Content} {is_found in_line : Bool}
+    → IsKept (λ later. ⊤) key text rest new is_found in_line → Ends None text contents → (rest ≡ []) ⊎ (¬ (IsRead rest))
+    → (found : Bool) → is_found ≡ found
+    → (parts : List Part) × Cuts text parts × Clears key false parts new × IsFoundIn key parts found
+kept_ends r whole left found same =
+    (r.done, behind_all r.behind whole left, rw (append-nil, append-nil) at (r.clears [] [] tt spec.none), rw same at r.found)
+
+pub lost_ends : {key : Key} {text rest new : List ℕ} {contents : List Content} {lost : Lost} {in_line starts_line : Bool}
+    → IsLost key text rest new lost in_line starts_line → Ends None text contents → (rest ≡ []) ⊎ (¬ (IsRead rest))
+    → (parts : List Part) × Cuts text parts × Clears key false parts (new ++ end_of in_line lost.line_end.now)
+    × IsFoundIn key parts true
+lost_ends {key = key} {new = new} {lost = lost} {in_line = in_line} r whole left =
+    let gone : Clears _ in_line (r.head ∷ (r.body ++ [])) ((end_of in_line lost.line_end.now ++ []) ++ []) =
+    spec.lost r.head r.body [] r.is_header r.no_header (inr (refl, refl)) r.last_end spec.none in (
+      r.before ++ r.head ∷ r.body,
+      behind_all r.behind whole left,
+      simp append-nil at (r.clears (r.head ∷ (r.body ++ [])) _ (header_is key r.head r.is_header) gone),
+      λ none. (all_front _ r.before (r.head ∷ r.body) none).1.0 r.is_header,
+    )
+
+-- the comments that are lost end in what is left of the text
+pub left_is_cut : (key : Key) (text rest new : List ℕ) (is_found in_line starts_line : Bool) (was : Option Lost)
+    → Clearing key text rest new is_found was in_line starts_line
+    → IfSome was (λ last. (comments : List ℕ) × (last.comments.now ≡ comments ++ rest))
+left_is_cut key text rest new is_found in_line starts_line None r = tt
+left_is_cut key text rest new is_found in_line starts_line (Some lost) (r, found) = (parts_bytes r.comments, r.cut)
+
+-- what is read of the new text
+cleared_nothing : {key : Key} {goes_on : Bool} {parts : List Part} {new : List ℕ} → Clears key goes_on parts new → parts ≡ []
+    → new ≡ []
+cleared_nothing spec.none none = refl
+cleared_nothing (spec.kept part other h) none = cc
+cleared_nothing (spec.lost head body comments is no_header stays end h) none = cc
+
+-- the readings of both texts are in one section, which is none of the key, or a header follows
+abbrev Agree : Key → Option Section → Option Section → List Part → Type 0
+Agree key old now parts = (BeginsWithHeader parts ⊎ (parts ≡ [])) ⊎ ((old ≡ now) × ¬ (IsIn key old))
+
+agree_kept : {key : Key} {old now : Option Section} (part : Part) (parts : List Part) → ¬ (IsHeaderIn key part)
+    → Agree key old now (part ∷ parts)
+    → WithoutIn key (part_contents old part) (part_contents now part)
+    × (section_behind old part ≡ section_behind now part) × ¬ (IsIn key (section_behind old part))
+agree_kept (cut.header blanks section inner) parts other agree = (edit.none, refl, other)
+agree_kept part parts other (inl (inr none)) = cc
+agree_kept (cut.entry blanks key between value tail is_line) parts other (inl (inl header)) = absurd header
+agree_kept {old = old} (cut.entry blanks key between value tail is_line) parts other (inr (same, outside)) =
+    rw (← same) (edit.kept (old, key, value) edit.none outside, refl, outside)
+agree_kept (cut.line tail is_line) parts other (inl (inl header)) = absurd header
+agree_kept (cut.line tail is_line) parts other (inr (same, outside)) = (edit.none, same, outside)
+
+body_without : {key : Key} (section : Option Section) (body next : List Part) {left : List Content} → NoneIs IsHeaderPart body
+    → IsIn key section → WithoutIn key (contents_of section next) left → WithoutIn key (contents_of section (body ++ next)) left
+body_without section [] next none is h = h
+body_without section (cut.header blanks new inner ∷ body) next (other, none) is h = absurd (other tt)
+body_without section (cut.entry blanks name between value tail is_line ∷ body) next (other, none) is h =
+    without_in_both ((section, name, value) ∷ []) [] (edit.lost (section, name, value) edit.none is) (body_without section body next none is h)
+body_without section (cut.line tail is_line ∷ body) next (other, none) is h = body_without section body next none is h
+
+parts_behind : {text : List ℕ} (front back : List Part) → Cuts text (front ++ back) → (rest : List ℕ) × Cuts rest back
+parts_behind {text = text} [] back cuts = (text, cuts)
+parts_behind (part ∷ front) back (cut.begins first is cuts) = parts_behind front back cuts
+
+some_header : (a b : List Part) → BeginsWithHeader b → a ++ b ≡ [] → ⊥
+some_header [] [] begins e = begins
+some_header [] (part ∷ b) begins e = cc
+some_header (part ∷ a) b begins e = cc
+
+-- comment lines before other parts
+comments_stay : (key : Key) {text new : List ℕ} {later : List Part} (comments next : List Part) → Cuts text (comments ++ next)
+    → AllAre IsCommentLine comments → BeginsWithHeader next → Cuts new later → NoneIs (IsHeaderIn key) later
+    → Cuts (parts_bytes comments ++ new) (comments ++ later) × NoneIs (IsHeaderIn key) (comments ++ later)
+    × ((section : Option Section) → contents_of section (comments ++ later) ≡ contents_of section later)
+comments_stay key [] next cuts all begins more none = (more, none, λ section. refl)
+comments_stay key (cut.header blanks section inner ∷ comments) next cuts (is, all) begins more none = absurd is
+comments_stay key (cut.entry blanks name between value tail is_line ∷ comments) next cuts (is, all) begins more none = absurd is
+comments_stay key {new = new} (cut.line tail is_line ∷ comments) next (cut.begins {rest = rest} part is_part cuts) (is, all) begins more none =
+    let (now, none_now, same) = comments_stay key comments next cuts all begins more none in
+    let bytes = parts_bytes comments ++ new in
+    let moved = part_moved (cut.line tail is_line) rest bytes is_part
+    (λ end. absurd (some_header comments next begins (one_cut [] _ [] (rw end at cuts) cut.ends))) in
+    (rw append_assoc (cut.begins (cut.line tail is_line) moved now), (λ h. h, none_now), same)
+
+line_end_of : {bytes end : List ℕ} {is_line : Bool} → IsEndOfLine bytes is_line end → is_line ≡ true → IsLineEnd end
+line_end_of edit.unended is = absurd (true≢false (sym is))
+line_end_of (edit.feed none) is = inl refl
+line_end_of (edit.return_feed front) is = inr refl
+
+last_is_end : {parts : List Part} {end : List ℕ} → LastEnd parts end → (end ≡ []) ⊎ IsLineEnd end
+last_is_end spec.none = inl refl
+last_is_end (spec.here parts part ends is) = inr (line_end_of is refl)
+last_is_end (spec.before parts part ends h) = last_is_end h
+
+no_feed : (blanks : List ℕ) → blanks ++ 10 ∷ [] ≡ [] → ⊥
+no_feed [] e = cc
+no_feed (b ∷ blanks) e = cc
+
+-- a line end before other parts
+end_stays : (key : Key) {new : List ℕ} {later : List Part} (goes_on : Bool) (end : List ℕ) → (end ≡ []) ⊎ IsLineEnd end
+    → Cuts new later → NoneIs (IsHeaderIn key) later
+    → (now : List Part) × Cuts (end_of goes_on end ++ new) now × NoneIs (IsHeaderIn key) now
+    × ((section : Option Section) → contents_of section now ≡ contents_of section later)
+end_stays key {later = later} false end is cuts none = (later, cuts, none, λ section. refl)
+end_stays key {later = later} true end (inl nothing) cuts none = rw nothing (later, cuts, none, λ section. refl)
+end_stays key {new = new} {later = later} true end (inr is) cuts none =
+    let (blanks, all, end_is) : (blanks : List ℕ) × AreBlank blanks × (end ≡ blanks ++ 10 ∷ []) = elim is [
+      | inl feed ↦ ([], refl, feed)
+      | inr both ↦ (13 ∷ [], refl, both)
+    ] in
+    let t : IsTail end new true =
+    record { blanks = blanks; comment = []; are_blank = all; is_comment = absent; ends = inl (refl, end_is) } in
+    let some : end ≢ [] = λ nothing. no_feed blanks (sym end_is ∙ nothing) in
+    (cut.line end true ∷ later, cut.begins (cut.line end true) (some, t) cuts, (λ h. h, none), λ section. refl)
+
+head_reads : (key : Key) (part : Part) → IsHeaderIn key part → (old : Option Section)
+    → (part_contents old part ≡ []) × IsIn key (section_behind old part)
+head_reads key (cut.header blanks section inner) is old = (refl, is)
+head_reads key (cut.entry blanks name between value tail is_line) is old = absurd is
+head_reads key (cut.line tail is_line) is old = absurd is
+
+next_begins : {body next comments : List Part} → Stays body next comments → BeginsWithHeader next ⊎ (next ≡ [])
+next_begins (inl is) = inl is.0
+next_begins (inr is) = inr is.0
+
+lost_stays : (key : Key) {text new : List ℕ} {later : List Part} (goes_on : Bool) (body next comments : List Part)
+    → Cuts text (body ++ next) → Stays body next comments → (end : List ℕ) → (end ≡ []) ⊎ IsLineEnd end
+    → Cuts new later → NoneIs (IsHeaderIn key) later
+    → (now : List Part) × Cuts ((end_of goes_on end ++ parts_bytes comments) ++ new) now × NoneIs (IsHeaderIn key) now
+    × ((section : Option Section) → contents_of section now ≡ contents_of section later)
+lost_stays key goes_on body next comments cuts (inr (none, nothing)) end is more no_header =
+    rw (nothing, append-nil) (end_stays key goes_on end is more no_header)
+lost_stays key goes_on body next comments cuts (inl (begins, spec.header_alone)) end is more no_header =
+    rw append-nil (end_stays key goes_on end is more no_header)
+lost_stays key goes_on body next comments cuts (inl (begins, spec.lines own lines none all)) end is more no_header =
+    let (rest, left) = parts_behind (own ∷ lines) (comments ++ next) (rw append_assoc at cuts) in
+    let (kept, none_kept, same) = comments_stay key comments next left all begins more no_header in
+    let (now, whole, none_now, also) = end_stays key goes_on end is kept none_kept in
+    (now, rw append_assoc whole, none_now, λ section. also section ∙ same section)
+
+pub cleared_reads : {key : Key} {goes_on : Bool} {text new : List ℕ} {parts : List Part} → Cuts text parts
+    → Clears key goes_on parts new → (old now : Option Section) → Agree key old now parts
+    → (later : List Part) × Cuts new later × NoneIs (IsHeaderIn key) later
+    × WithoutIn key (contents_of old parts) (contents_of now later)
+cleared_reads cut.ends spec.none old now agree = ([], cut.ends, tt, edit.none)
+cleared_reads (cut.begins {rest = rest} {parts = parts} first is cuts) (spec.kept {new = new} part other h) old now agree =
+    let (contents, same, outside) = agree_kept part parts other agree in
+    let (later, more, none, without) = cleared_reads cuts h (section_behind old part) (section_behind now part) (inr (same, outside)) in
+    let nothing : rest ≡ [] → new ≡ [] =
+    λ end. cleared_nothing h (one_cut [] _ [] (rw end at cuts) cut.ends) in (
+      part ∷ later,
+      cut.begins part (part_moved part rest new is nothing) more,
+      (other, none),
+      without_in_both (part_contents old part) (part_contents now part) contents without,
+    )
+cleared_reads {key = key} (cut.begins first is cuts) (spec.lost {goes_on = goes_on} {next = next} {end = end} {new = new} head body comments is_in no_header stays end_is h) old now agree =
+    let (nothing, in_key) = head_reads key head is_in old in
+    let section = section_behind old head in
+    let (rest, left) = parts_behind body next cuts in
+    let (later, more, none, without) = cleared_reads left h section now (inl (next_begins stays)) in
+    let (parts, whole, none_now, same) = lost_stays key goes_on body next comments cuts stays end (last_is_end end_is) more none in (
+      parts,
+      whole,
+      none_now,
+      rw (nothing, same now) (body_without section body next no_header in_key without),
+    )
+
+-- the parts become one text
+bodies_same : (a b c d : List Part) → NoneIs IsHeaderPart a → NoneIs IsHeaderPart b
+    → BeginsWithHeader c ⊎ (c ≡ []) → BeginsWithHeader d ⊎ (d ≡ []) → a ++ c ≡ b ++ d → (a ≡ b) × (c ≡ d)
+bodies_same [] [] c d none also first second e = (refl, e)
+bodies_same [] (y ∷ b) c d none (other, also) (inl header) second e = absurd (other (rw e at header))
+bodies_same [] (y ∷ b) c d none also (inr nothing) second e = cc
+bodies_same (x ∷ a) [] c d (other, none) also first (inl header) e = absurd (other (rw (sym e) at header))
+bodies_same (x ∷ a) [] c d none also first (inr nothing) e = cc
+bodies_same (x ∷ a) (y ∷ b) c d (other, none) (another, also) first second e =
+    let tails : a ++ c ≡ b ++ d = cc in
+    let (bodies, nexts) = bodies_same a b c d none also first second tails in
+    let heads : x ≡ y = cc in
+    (rw (heads, bodies) refl, nexts)
+
+-- comment lines end other lines in one way
+all_end : (first : Part) (a b : List Part) → EndsInNoComment (first ∷ a) → AllAre IsCommentLine b → (c : List Part)
+    → AllAre IsCommentLine ((first ∷ a) ++ c) → ⊥
+all_end first [] b none also c (is, all) = none [] first refl is
+all_end first (second ∷ a) b none also c (is, all) =
+    all_end second a b (λ front last e. none (first ∷ front) last (ap (λ l. first ∷ l) e)) also c all
+
+comments_same : (a b c d : List Part) → EndsInNoComment a → EndsInNoComment b → AllAre IsCommentLine c → AllAre IsCommentLine d
+    → a ++ c ≡ b ++ d → c ≡ d
+comments_same [] [] c d none also all all_too e = e
+comments_same [] (y ∷ b) c d none also all all_too e = absurd (all_end y b d also all_too d (rw e at all))
+comments_same (x ∷ a) [] c d none also all all_too e = absurd (all_end x a c none all c (rw (sym e) at all_too))
+comments_same (x ∷ a) (y ∷ b) c d none also all all_too e =
+    comments_same a b c d (λ front last is. none (x ∷ front) last (ap (λ l. x ∷ l) is))
+    (λ front last is. also (y ∷ front) last (ap (λ l. y ∷ l) is)) all all_too (cc)
+
+ends_same : {body other comments also : List Part} → EndsInComments body comments → EndsInComments other also → body ≡ other
+    → comments ≡ also
+ends_same spec.header_alone spec.header_alone e = refl
+ends_same spec.header_alone (spec.lines own lines none all) e = cc
+ends_same (spec.lines own lines none all) spec.header_alone e = cc
+ends_same (spec.lines {comments = c} own lines none all) (spec.lines {comments = d} other more also all_too) e =
+    comments_same lines more c d none also all all_too (cc)
+
+stays_same : {body other next left comments also : List Part} → Stays body next comments → Stays other left also → body ≡ other
+    → next ≡ left → comments ≡ also
+stays_same (inl (begins, ends)) (inl (begins_too, ends_too)) e f = ends_same ends ends_too e
+stays_same (inr (none, nothing)) (inr (none_too, nothing_too)) e f = nothing ∙ sym nothing_too
+stays_same (inl (begins, ends)) (inr (none, nothing)) e f = absurd (rw (f ∙ none) at begins)
+stays_same (inr (none, nothing)) (inl (begins, ends)) e f = absurd (rw (sym f ∙ none) at begins)
+
+line_end_same : {a b c d : List ℕ} {l m : Bool} → IsEndOfLine a l c → IsEndOfLine b m d → a ≡ b → l ≡ m → c ≡ d
+line_end_same edit.unended edit.unended e f = refl
+line_end_same (edit.feed none) (edit.feed other) e f = refl
+line_end_same (edit.return_feed front) (edit.return_feed other) e f = refl
+line_end_same (edit.feed none) (edit.return_feed front) e f = absurd (none front e)
+line_end_same (edit.return_feed front) (edit.feed none) e f = absurd (none front (sym e))
+line_end_same a b e f = cc
+
+last_end_same : {a b : List Part} {end also : List ℕ} → LastEnd a end → LastEnd b also → a ≡ b → end ≡ also
+last_end_same spec.none spec.none e = refl
+last_end_same spec.none (spec.here parts part ends is) e = absurd (no_part parts part e)
+last_end_same spec.none (spec.before parts part ends h) e = absurd (no_part parts part e)
+last_end_same (spec.here parts part ends is) spec.none e = absurd (no_part parts part (sym e))
+last_end_same (spec.before parts part ends h) spec.none e = absurd (no_part parts part (sym e))
+last_end_same (spec.here parts part ends is) (spec.here others other ends_too so) e =
+    line_end_same is so (ap part_bytes (same_last parts others part other e).1) refl
+last_end_same (spec.before parts part ends h) (spec.before others other ends_too k) e =
+    last_end_same h k (same_last parts others part other e).0
+last_end_same (spec.here parts part ends is) (spec.before others other unended k) e =
+    absurd (true≢false (sym ends ∙ ap ends_line (same_last parts others part other e).1 ∙ unended))
+last_end_same (spec.before parts part unended h) (spec.here others other ends is) e =
+    absurd (true≢false (sym ends ∙ ap ends_line (sym (same_last parts others part other e).1) ∙ unended))
+
+pub one_clearing : {key : Key} {goes_on also_on : Bool} {parts also : List Part} {a b : List ℕ} → Clears key goes_on parts a
+    → Clears key also_on also b → parts ≡ also → goes_on ≡ also_on → a ≡ b
+one_clearing spec.none spec.none e f = refl
+one_clearing (spec.kept part other h) (spec.kept also others k) e f =
+    let same : part ≡ also = cc in
+    let more = one_clearing h k (cc) (rw same refl) in
+    rw (same, more) refl
+one_clearing (spec.kept part other h) (spec.lost head body comments is none stays end k) e f =
+    let same : part ≡ head = cc in absurd (other (rw same is))
+one_clearing (spec.lost head body comments is none stays end h) (spec.kept part other k) e f =
+    let same : part ≡ head = cc in absurd (other (rw same is))
+one_clearing (spec.lost {goes_on = goes_on} {next = next} {end = end} head body comments is none stays end_is h)
+    (spec.lost {next = left} {end = other_end} other also others so none_too stays_too end_too k) e f =
+    let heads : head ≡ other = cc in
+    let tails : body ++ next ≡ also ++ left = cc in
+    let (bodies, nexts) = bodies_same body also next left none none_too (next_begins stays) (next_begins stays_too) tails in
+    let left_same = stays_same stays stays_too bodies nexts in
+    let ends : end ≡ other_end = last_end_same end_is end_too (rw (heads, bodies) refl) in
+    let more = one_clearing h k nexts (rw (f, ends) refl) in
+    rw (f, ends, left_same, more) refl
+one_clearing h k e f = cc

@@ -14,8 +14,10 @@ use Rattle.config_file.specs.Runs.{StopsRun}
 use Rattle.config_file.specs.Header.{Section}
 use Rattle.config_file.specs.Value.{Ending, outside, at_backslash, Spells, SpellsValue, EndsValue, line_feeds}
 use Rattle.config_file.specs.File.{TakesEntry, alone}
-use Rattle.config_edit.specs.Edit.{Content, SameEntry, IsLineEnd, AreBlank, IsComment, absent, present}
-use Rattle.config_edit.specs.Edit.{IsTail, IsEntry}
+use Rattle.config_edit.specs.Edit.{Content, SameEntry, IsLineEnd}
+use Rattle.config_edit.specs.Cut.{AreBlank, IsComment, absent, present}
+use Rattle.config_edit.specs.Edit.{IsEntry}
+use Rattle.config_edit.specs.Cut.{IsTail}
 use Rattle.config_edit.specs.Reading as edit
 use Rattle.config_edit.specs.Reading.{Holds, IsMade, IsPiece, contents_in, section_after, IsOpenHeld, IsEndOf}
 use Rattle.config_edit.specs.Reading.{line_ends, Closes}
@@ -276,7 +278,7 @@ closes (held.Header new) bytes rest blanks all made section line_end is =
     (λ other. ([], holds, tt), λ opened. absurd opened)
 closes held.Nothing bytes rest blanks all (tail, joined, t, none) section line_end is =
     (λ other. line_closes blanks all joined t section line_end is, λ opened. absurd opened)
-closes held.Comment bytes rest blanks all (tail, joined, t) section line_end is =
+closes held.Comment bytes rest blanks all (tail, joined, t, some) section line_end is =
     (λ other. line_closes blanks all joined t section line_end is, λ opened. absurd opened)
 
 -- a piece that ends its line holds the same wherever it stands
@@ -286,7 +288,7 @@ line_holds (held.Entry parts) bytes rest blanks all made section = entry_holds b
 line_holds (held.Header new) bytes rest blanks all made section = header_holds all made section
 line_holds held.Nothing bytes rest blanks all (tail, joined, t, none) section =
     line_at_holds blanks all joined t section
-line_holds held.Comment bytes rest blanks all (tail, joined, t) section =
+line_holds held.Comment bytes rest blanks all (tail, joined, t, some) section =
     line_at_holds blanks all joined t section
 
 pub piece_closes : {text : List ℕ} {e : End} (piece : Piece) → IsPiece text piece → IsEndOf piece e

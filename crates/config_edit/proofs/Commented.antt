@@ -17,13 +17,15 @@ use Rattle.config_file.specs.Value as value
 use Rattle.config_file.specs.Value.{Ending, outside, at_backslash, Spells, SpellsValue, EndsValue, line_feeds, escape}
 use Rattle.config_file.specs.File.{TakesEntry}
 use Rattle.config_edit.specs.Edit as spec
-use Rattle.config_edit.specs.Edit.{AreBlank, IsTail, IsEntry, HasValue, PutsValue, ChangesValueTo, ChangesEntry}
-use Rattle.config_edit.specs.Edit.{WritesComment, IsEndOfLine, FeedsComment, PutsComment, name_after, value_bytes}
-use Rattle.config_edit.specs.Edit.{present}
-use Rattle.config_edit.specs.Reading.{HasHow, IsOpen, IsNamed, IsCommented, IsChangedIn, IsWritableName, IsWritableComment}
+use Rattle.config_edit.specs.Edit.{IsEntry, HasValue, PutsValue, ChangesValueTo, ChangesEntry}
+use Rattle.config_edit.specs.Cut.{AreBlank, IsTail}
+use Rattle.config_edit.specs.Edit.{WritesComment, IsEndOfLine, FeedsComment, PutsComment, name_after}
+use Rattle.config_edit.specs.Cut.{value_bytes}
+use Rattle.config_edit.specs.Cut.{present}
+use Rattle.config_edit.specs.Reading.{HasHow, IsOpenEntry, entry_part, IsNamed, IsCommented, IsChangedIn, IsWritableName, IsWritableComment}
 use Rattle.config_file.specs.Views.{value_of}
 use Rattle.config_edit.proofs.Pieces.{first_blank, other_blanks, tail_ends}
-use Rattle.config_edit.proofs.Changed.{parts_blank, both_blank, gap_blank, spells_between, spells_before, can_hold, with_value}
+use Rattle.config_edit.proofs.Changed.{front_cut, gap_spaces, parts_blank, both_blank, gap_blank, spells_between, spells_before, can_hold, with_value}
 use Rattle.config_edit.proofs.Changed.{inside_is_not_outside, backslash_is_not_outside, tail_cut}
 use Rattle.config_edit.proofs.EachEntry.{entry_named, begins_named}
 use Rattle.config_edit.proofs.Closed.{goes_on_over, more_bytes, some_same}
@@ -139,34 +141,7 @@ pub front_of_spaced : {comment blanks rest after : List ℕ} → Run is_space co
 front_of_spaced {blanks = []} run sign some = absurd (some refl)
 front_of_spaced {blanks = b ∷ blanks} {after = after} run sign some = rw (run.joined, sign) (spec.spaced b blanks after run.pass)
 
--- the line end of an entry is that of its piece
-letter_no_feed : (b : ℕ) → is_ascii_alphabetic b ≡ true → b ≡ 10 → ⊥
-letter_no_feed b letter is = grind (arith, nat_tests)
-
-ends_behind : (front blanks gone rest : List ℕ) → BeginsWithLetter (gone ++ rest) → gone ≢ []
-    → front ++ 13 ∷ 10 ∷ [] ≡ blanks ++ gone → IsEndOfLine gone true (13 ∷ 10 ∷ [])
-ends_behind front [] gone rest letter some e = rw (← e) (spec.return_feed front)
-ends_behind (f ∷ front) (b ∷ blanks) gone rest letter some e = ends_behind front blanks gone rest letter some (uncons e).1
-ends_behind [] (b ∷ []) gone rest (l, more, gone_is, letter) some e =
-    let begins : 10 ∷ rest ≡ l ∷ more = ap (λ t. t ++ rest) (uncons e).1 ∙ gone_is in
-    absurd (letter_no_feed l letter (sym (uncons begins).0))
-ends_behind [] (b ∷ c ∷ blanks) gone rest letter some e = absurd (some (rest_none blanks gone (sym (uncons (uncons e).1).1)))
-
-end_without_blanks : {bytes end : List ℕ} {is_line : Bool} (blanks gone rest : List ℕ) → bytes ≡ blanks ++ gone
-    → BeginsWithLetter (gone ++ rest) → (is_line ≡ true → gone ≢ [])
-    → IsEndOfLine bytes is_line end → IsEndOfLine gone is_line end
-end_without_blanks blanks gone rest joined letter some spec.unended = spec.unended
-end_without_blanks blanks gone rest joined letter some (spec.feed other) =
-    spec.feed (λ front e. other (blanks ++ front) (joined ∙ rw e (sym (append_assoc blanks front (13 ∷ 10 ∷ [])))))
-end_without_blanks blanks gone rest joined letter some (spec.return_feed front) =
-    ends_behind front blanks gone rest letter (some refl) joined
-
-line_is_some : {tail rest : List ℕ} {is_line : Bool} (front : List ℕ) → IsTail tail rest is_line → is_line ≡ true → front ++ tail ≢ []
-line_is_some front t on = λ none. elim t.ends [
-  | inl line ↦ not_none (front ++ (t.blanks ++ t.comment)) [] 10 (simp append_assoc (rw line.1 at none))
-  | inr end ↦ true≢false (sym on ∙ end.0)
-]
-
+-- the comment and the line end of an entry
 comment_tail : {bytes end rest : List ℕ} {is_line : Bool} (more : List ℕ) → list_all is_comment_byte more ≡ true
     → IsEndOfLine bytes is_line end → (is_line ≡ false → rest ≡ []) → IsTail (35 ∷ (more ++ end)) rest is_line
 comment_tail more all spec.unended none =
@@ -232,21 +207,21 @@ spelled_before {value = value} {bytes = bytes} core blanks written (as_open spel
     rw (one, ← core_is) (simp append_assoc at (spells_before written also over))
 
 -- the new bytes of a value spell it
-puts_spells : {value raw bytes : List ℕ} → PutsValue value (Some raw) bytes → SpellsValue bytes value outside
+puts_spells : {value between tail raw bytes : List ℕ} → PutsValue value between tail (Some raw) bytes → SpellsValue bytes value outside
 puts_spells (spec.in_place lead trail before core after s) = spells_between lead trail before after s.0.0
-puts_spells {value = value} (spec.in_blanks {gap = gap} {spelling = spelling} {later = later} lead trail all is_gap s also) =
+puts_spells {value = value} (spec.in_blanks {gap = gap} {spelling = spelling} {later = later} lead trail all parts is_gap s also) =
     let (before, after) = parts_blank lead trail all in
     simp append_assoc (simp append_assoc at
-    (spells_between (lead ++ gap) (later ++ trail) (both_blank lead gap before (gap_blank gap is_gap))
-    (both_blank later trail (gap_blank later also) after) s.0.0))
+    (spells_between (lead ++ gap) (later ++ trail) (both_blank lead gap before (gap_blank is_gap))
+    (both_blank later trail (gap_blank also) after) s.0.0))
 
 -- whether a line end comes before the comment
 abbrev IsFed : EntryParts → List ℕ → List ℕ → Type 0
-IsFed parts value feed = (IsOpen parts × HasValue (value_of parts.value) value × (feed ≡ 10 ∷ []))
-    ⊎ (¬ (IsOpen parts × HasValue (value_of parts.value) value) × (feed ≡ []))
+IsFed parts value feed = (IsOpenEntry parts × HasValue (value_of parts.value) value × (feed ≡ 10 ∷ []))
+    ⊎ (¬ (IsOpenEntry parts × HasValue (value_of parts.value) value) × (feed ≡ []))
 
-ends_of : {value raw bytes feed : List ℕ} (parts : EntryParts) → value_of parts.value ≡ Some raw
-    → ChangesValueTo value (Some raw) bytes → (HasValue (Some raw) value → HasHow parts value)
+ends_of : {value between tail raw bytes feed : List ℕ} (parts : EntryParts) → value_of parts.value ≡ Some raw
+    → ChangesValueTo value between tail (Some raw) bytes → (HasValue (Some raw) value → HasHow parts value)
     → IsFed parts value feed → Ends value raw bytes feed
 ends_of parts held (inr (other, puts)) how (inl (opened, has, one)) = absurd (other (rw held at has))
 ends_of parts held (inr (other, puts)) how (inr (closed, none)) = as_closed (puts_spells puts) none
@@ -295,9 +270,9 @@ module _ {value at key between core_all blanks front feed : List ℕ} {lines : �
             let (now, letter) = h.holds raw_now value at spells end in (rw text_is at now, rw text_is at letter);
       }
 
-  before_alone : {bytes : List ℕ} → core_all ++ blanks ≡ front ++ (key ++ (between ++ bytes))
+  before_alone : {bytes tail : List ℕ} → core_all ++ blanks ≡ front ++ (key ++ (between ++ bytes))
       → BeginsWithLetter ((key ++ (between ++ [])) ++ at) → TakesEntry ((key ++ (between ++ [])) ++ at) key None lines at
-      → PutsValue value None bytes → feed ≡ [] → Before value between key None blanks core_all front bytes feed written
+      → PutsValue value between tail None bytes → feed ≡ [] → Before value between key None blanks core_all front bytes feed written
   before_alone whole begins takes (spec.behind_key {gap = gap} {spelling = spelling} is_gap s) none =
       let more = front ++ (key ++ (between ++ gap)) in
       let joined : core_all ++ blanks ≡ more ++ 61 ∷ 32 ∷ spelling = whole ∙ simp append_assoc in
@@ -317,15 +292,15 @@ module _ {value at key between core_all blanks front feed : List ℕ} {lines : �
         raw = raw_now;
         spells = spells;
         takes = λ at end.
-            let (now, letter) = with_value (key ++ (between ++ [])) gap raw_now value {rest = at} refl refl begins takes is_gap spells end in
+            let (now, letter) = with_value (key ++ (between ++ [])) gap raw_now value {rest = at} refl refl begins takes (gap_spaces is_gap) spells end in
             (rw (text_is at) at now, rw (text_is at) at letter);
       }
 
-  before_of : {bytes : List ℕ} (parts : EntryParts) (was : Option (List ℕ)) → core_all ++ blanks ≡ front ++ (key ++ (between ++ bytes))
+  before_of : {bytes tail : List ℕ} (parts : EntryParts) (was : Option (List ℕ)) → core_all ++ blanks ≡ front ++ (key ++ (between ++ bytes))
       → value_of parts.value ≡ was
       → BeginsWithLetter ((key ++ (between ++ value_bytes was)) ++ at)
       → TakesEntry ((key ++ (between ++ value_bytes was)) ++ at) key was lines at
-      → ChangesValueTo value was bytes → (HasValue was value → HasHow parts value)
+      → ChangesValueTo value between tail was bytes → (HasValue was value → HasHow parts value)
       → IsFed parts value feed → Before value between key was blanks core_all front bytes feed written
   before_of parts None whole held begins takes (inl (has, same)) how feed_is = absurd has
   before_of parts None whole held begins takes (inr (other, puts)) how feed_is =
@@ -335,6 +310,14 @@ module _ {value at key between core_all blanks front feed : List ℕ} {lines : �
       ])
   before_of parts (Some raw) whole held begins takes valued how feed_is =
       before_valued whole begins takes (ends_of parts held valued how feed_is)
+
+put_joined : (blanks key between core feed written end : List ℕ)
+    → (blanks ++ (key ++ (between ++ core))) ++ (feed ++ (written ++ end)) ≡ blanks ++ (key ++ (between ++ (core ++ (feed ++ (written ++ end)))))
+put_joined blanks key between core feed written end = simp append_assoc
+
+after_joined : (key between core feed spaces more end : List ℕ)
+    → key ++ (between ++ (core ++ (feed ++ ((spaces ++ 35 ∷ more) ++ end)))) ≡ (key ++ (between ++ (core ++ (feed ++ spaces)))) ++ 35 ∷ (more ++ end)
+after_joined key between core feed spaces more end = simp append_assoc
 
 -- the entry with its comment
 pub changed_commented : {change : Change} {parts : EntryParts} {piece : Piece} {line put : List ℕ} (value comment : List ℕ)
@@ -349,7 +332,12 @@ changed_commented {change = change} {parts = parts} {piece = piece} {line = line
     let was = value_of parts.value in
     let blanks = piece.blanks.now in
     let rest = piece.rest.now in
-    let (begins, takes) = named_takes (option_copied change.name) s.between (value_bytes was) writable s.begins s.takes in
+    let old = parts.key.now ++ (s.between ++ value_bytes was) in
+    let front_is : e.front ≡ old =
+    append_cancel_left blanks e.front old
+    (sym (front_cut e (blanks ++ old) s.tail (s.bytes_are ∙ sym (append_assoc blanks old s.tail)) (tail_cut e s.tail s.left))) in
+    let (begins, takes) = named_takes (option_copied change.name) s.between (value_bytes was) writable
+        (rw front_is at e.begins) (rw front_is at e.takes) in
     let tail_is : k.tail ≡ s.tail = append_cancel_right k.tail s.tail rest (sym k.left ∙ s.left) in
     let named = blanks ++ (key ++ (s.between ++ s.bytes)) in
     let whole : k.core ++ k.blanks ≡ named =
@@ -364,9 +352,11 @@ changed_commented {change = change} {parts = parts} {piece = piece} {line = line
     let after = b.core ++ (k.feed ++ (k.written ++ k.end)) in
     let now = key ++ (s.between ++ after) in
     let put_is : put ≡ blanks ++ now =
-    k.put_is ∙ ap (λ c. c ++ (k.feed ++ (k.written ++ k.end))) b.core_is ∙ simp append_assoc in
+    k.put_is ∙ ap (λ c. c ++ (k.feed ++ (k.written ++ k.end))) b.core_is
+    ∙ put_joined blanks key s.between b.core k.feed k.written k.end in
     let after_is : now ≡ front ++ 35 ∷ (more ++ k.end) =
-    ap (λ w. key ++ (s.between ++ (b.core ++ (k.feed ++ (w ++ k.end))))) written_is ∙ simp append_assoc in
+    ap (λ w. key ++ (s.between ++ (b.core ++ (k.feed ++ (w ++ k.end))))) written_is
+    ∙ after_joined key s.between b.core k.feed spaces more k.end in
     let entry : IsEntry key (Some b.raw) (line_feeds b.raw) at blanks put rest piece.is_line =
     record {
       front = front;
@@ -377,54 +367,34 @@ changed_commented {change = change} {parts = parts} {piece = piece} {line = line
       is_tail = comment_tail more more_are k.is_end (λ off. (tail_ends off e.is_tail None 0).0);
       joined = put_is ∙ ap (λ x. blanks ++ x) after_is;
     } in
-    let old = parts.key.now ++ (s.between ++ value_bytes was) in
-    let gone = old ++ s.tail in
-    let is_tail : IsTail s.tail rest piece.is_line = rw (tail_cut e s.tail s.left) e.is_tail in
-    let letter : BeginsWithLetter (gone ++ rest) = rw (append_assoc old s.tail rest) s.begins in
-    let puts : PutsComment comment was gone s.bytes s.tail rest after =
+    let part = entry_part piece parts s.between s.tail in
+    let puts : PutsComment comment part was s.bytes after =
     record {
       core = b.core;
       blanks = k.blanks;
       feed = k.feed;
       written = k.written;
       end = k.end;
-      is_line = piece.is_line;
-      is_tail = is_tail;
       bytes_are = b.bytes_are;
       are_blank = k.are_blank;
       ends_core = λ m x is. k.ends_core (blanks ++ (key ++ (s.between ++ m))) x
           (b.core_is ∙ ap (λ c. blanks ++ (key ++ (s.between ++ c))) is ∙ simp append_assoc);
       feeds = b.feeds;
       is_written = k.is_written;
-      is_end = end_without_blanks blanks gone rest s.bytes_are letter (line_is_some old is_tail) k.is_end;
+      is_end = rw s.bytes_are at k.is_end;
       after_is = refl;
-    } in
-    let changes : ChangesEntry change parts.key.now was gone now rest =
-    record {
-      lines = s.lines;
-      between = s.between;
-      bytes = s.bytes;
-      tail = s.tail;
-      after = after;
-      begins = letter;
-      takes = rw (append_assoc old s.tail rest) s.takes;
-      gone_is = refl;
-      put_is = refl;
-      is_valued = rw value_is s.is_valued;
-      is_commented = rw comment_is puts;
     } in
     record {
       raw = Some b.raw;
       lines = line_feeds b.raw;
       at = at;
-      gone = gone;
-      now = now;
-      kept = [];
+      between = s.between;
+      tail = s.tail;
       value_is = rw value_is (outside, b.spells);
       entry = entry;
-      bytes_are = s.bytes_are ∙ ap (λ g. blanks ++ g) (sym (append-nil gone));
-      put_is = put_is ∙ ap (λ x. blanks ++ x) (sym (append-nil now));
-      changes = changes;
+      left = s.left;
+      bytes_are = s.bytes_are;
+      changes = (s.bytes, after, rw value_is s.is_valued, rw comment_is puts, put_is);
     }
 
 pub writable_comment : (given also : Option (List ℕ)) (value comment : List ℕ) → given ≡ Some value → also ≡ Some comment

@@ -32,7 +32,7 @@ added_decides {key = key} is has r = (
 )
 
 pub set_decides : (name value old new : List ℕ) → Sets name value old new → Decides name value new
-set_decides name value old new (key, is, contents, has, inl (now, has_now, replaces, nothing, bytes)) =
+set_decides name value old new (key, is, contents, has, inl (one, (now, has_now, replaces, bytes))) =
     replaced_decides is has_now replaces
 set_decides name value old new (key, is, contents, has, inr (nothing, (now, has_now, adds, bytes))) =
     added_decides is has_now adds

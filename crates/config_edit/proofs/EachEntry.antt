@@ -14,21 +14,24 @@ use Rattle.config_file.specs.Header.{Section}
 use Rattle.config_file.specs.File.{TakesKey, TakesEntry, alone, valued}
 use Rattle.config_file.specs.Key.{is_name}
 use Rattle.config_edit.specs.Edit as spec
-use Rattle.config_edit.specs.Edit.{Content, Becomes, ChangesEach, ChangesValueTo, ChangesEntry, MayChange, AreInOrder, IsChanged, IsEntry}
-use Rattle.config_edit.specs.Edit.{Has, HasValue, PutsValue, name_after, value_bytes}
-use Rattle.config_edit.specs.Reading.{Ends, HasHow, anywhere, IsRead, IsPiece, IsSet, IsChangedIn, IsNamed}
+use Rattle.config_edit.specs.Edit.{Content, ChangesEach, ChangesPart, NamesPart, AreInOrder, IsChanged, IsEntry}
+use Rattle.config_edit.specs.Edit.{Has, name_after}
+use Rattle.config_edit.specs.Cut as cut
+use Rattle.config_edit.specs.Cut.{value_bytes, Part, EachBecomes, part_bytes, entries_in}
+use Rattle.config_edit.specs.Reading.{Ends, anywhere, IsRead, IsPiece, IsChangedIn, IsNamed, IsCut, entry_part}
 use Rattle.config_edit.specs.Reading.{IsValued}
 use Rattle.config_edit.specs.Reading.{IsWritableComment}
 use Rattle.config_edit.specs.Reading.{AreLater, AreWritable, Changing, IsEachChanged, contents_in}
-use Rattle.config_edit.specs.Reading.{section_after, content_of, Comes, IsShaped, IsGiven}
+use Rattle.config_edit.specs.Reading.{section_after, content_of, IsShaped}
 use Rattle.config_file.specs.Views.{value_of}
 use Rattle.config_edit.proofs.Added.{name_parts}
 use Rattle.config_edit.proofs.Pieces.{entry_passed, key_joined}
-use Rattle.config_edit.proofs.Changed.{IsEntryIn, value_ends}
-use Rattle.config_edit.proofs.Replaced.{piece_passed}
+use Rattle.config_edit.proofs.Cuts.{IsPartOf}
+use Rattle.config_edit.proofs.CutLoops.{cut_begins, cut_step}
+use Rattle.config_edit.proofs.Changed.{IsEntryIn, value_ends, behind, front_is_behind}
+use Rattle.config_edit.proofs.Replaced.{piece_passed, part_entry, one_entry_part}
 use Rattle.config_edit.proofs.Edits.{holds_nothing, passed_join, passed_ends, all_passed, some_left}
-use Rattle.config_edit.proofs.Edits.{joined_more, passed_holds, comes_blanks}
-use Rattle.config_edit.proofs.Becomes.{becomes_before, becomes_piece}
+use Rattle.config_edit.proofs.Edits.{joined_more}
 
 -- an entry with another key
 takes_named : {text key rest : List ℕ} (name : List ℕ) → is_name name ≡ true → (t : TakesKey text key rest)
@@ -79,88 +82,28 @@ named {key = key} {at = at} {blanks = blanks} name is e =
       },
     )
 
--- what precedes the value of an entry, and its bytes
-value_at_end : {text key rest : List ℕ} {value : Option (List ℕ)} {lines : ℕ} → TakesEntry text key value lines rest
-    → (between : List ℕ) × (text ≡ (key ++ (between ++ value_bytes value)) ++ rest)
-value_at_end (alone {rest = rest} t end) = (t.spaces, key_joined rest t ∙ simp append-nil)
-value_at_end (valued {b = b} t is_sign value) =
-    let joined = (value_ends value).0 in
-    (t.spaces ++ b ∷ [], simp (t.key_run.joined, t.space_run.joined, joined, append_assoc))
-
--- an entry whose bytes stay
-shaped_old : {value : Option (List ℕ)} {parts : EntryParts} {piece : Piece}
-    → IsEntryIn parts piece
-    → MatchOption value (value_bytes (value_of parts.value) ≡ value_bytes (value_of parts.value))
-    (λ new. ChangesValueTo new (value_of parts.value) (value_bytes (value_of parts.value)))
-    → MatchOption value ⊤ (λ new. HasValue (value_of parts.value) new → HasHow parts new)
-    → IsShaped parts.key.now value parts piece piece.bytes.now
-shaped_old {parts = parts} {piece = piece} e is_valued how =
-    let key = parts.key.now in
-    let raw = value_bytes (value_of parts.value) in
-    let (between, text_is) = value_at_end e.takes in
-    let front_is : e.front ≡ key ++ (between ++ raw) =
-    append_cancel_right e.front (key ++ (between ++ raw)) parts.rest.now text_is in
-    let joined = e.joined ∙ ap (λ f. piece.blanks.now ++ (f ++ e.tail)) front_is in
-    record {
-      lines = parts.lines;
-      between = between;
-      bytes = raw;
-      tail = e.tail;
-      left = e.left;
-      begins = rw (e.left, front_is) at e.begins;
-      takes = rw (e.left, front_is) at e.takes;
-      bytes_are = joined;
-      put_is = joined;
-      is_valued = is_valued;
-      how = how;
-    }
-
--- an entry of which only the bytes of the value change
-shaped_new : {value : List ℕ} {parts : EntryParts} {piece : Piece} {put : List ℕ}
-    → ¬ (HasValue (value_of parts.value) value) → IsGiven parts piece value put
-    → IsShaped parts.key.now (Some value) parts piece put
-shaped_new {parts = parts} {piece = piece} other g =
-    let key = parts.key.now in
-    let was = value_of parts.value in
-    let raw = value_bytes was in
-    let rest = g.tail ++ piece.rest.now in
-    let (between, text_is) = value_at_end g.gives.takes in
-    let gone_is : g.gone ≡ key ++ (between ++ raw) =
-    append_cancel_right g.gone (key ++ (between ++ raw)) rest text_is in
-    let front_is : g.gives.front ≡ key ++ between =
-    append_cancel_right g.gives.front (key ++ between) raw
-    (sym g.gives.gone_is ∙ gone_is ∙ sym (append_assoc key between raw)) in
-    record {
-      lines = g.gives.lines;
-      between = between;
-      bytes = g.gives.bytes;
-      tail = g.tail;
-      left = g.left;
-      begins = rw gone_is at g.gives.begins;
-      takes = rw gone_is at g.gives.takes;
-      bytes_are = rw gone_is at g.bytes_are;
-      put_is = g.put_is ∙ rw (g.gives.put_is, front_is) (simp append_assoc);
-      is_valued = inr (other, g.gives.puts);
-      how = λ has. absurd (other has);
-    }
-
-shaped_set : {value : List ℕ} {parts : EntryParts} {piece : Piece} {put : List ℕ}
-    → IsEntryIn parts piece → IsSet parts piece value put
-    → IsShaped parts.key.now (Some value) parts piece put
-shaped_set {value = value} e s = elim s.given [
-  | inl same ↦ rw same.1 (shaped_old {value = Some value} e (inl (same.0, refl)) (λ has. same.2))
-  | inr other ↦ shaped_new other.0 other.1
-]
-
-pub valued_new : {value : List ℕ} {parts : EntryParts} {piece : Piece} {put : List ℕ}
-    → IsEntryIn parts piece → IsSet parts piece value put → IsValued (Some value) parts piece put
-valued_new e s =
-    record { raw = Some s.raw; lines = s.lines; at = s.at; value_is = s.has_value; entry = s.entry; shaped = shaped_set e s }
-
 pub valued_old : {parts : EntryParts} {piece : Piece}
     → IsEntryIn parts piece → IsValued None parts piece piece.bytes.now
-valued_old {parts = parts} e =
-    record { raw = value_of parts.value; lines = parts.lines; at = parts.rest.now; value_is = refl; entry = e; shaped = shaped_old {value = None} e refl tt }
+valued_old {parts = parts} {piece = piece} e =
+    let b = behind e.takes in
+    let joined = e.joined ∙ ap (λ f. piece.blanks.now ++ (f ++ e.tail)) (front_is_behind parts piece e b) in
+    record {
+      raw = value_of parts.value;
+      lines = parts.lines;
+      at = parts.rest.now;
+      value_is = refl;
+      entry = e;
+      shaped = record {
+        between = b.between;
+        bytes = value_bytes (value_of parts.value);
+        tail = e.tail;
+        left = e.left;
+        bytes_are = joined;
+        put_is = joined;
+        is_valued = refl;
+        how = tt;
+      };
+    }
 
 pub named_old : {value : Option (List ℕ)} {parts : EntryParts} {piece : Piece} {put : List ℕ}
     → IsValued value parts piece put → IsNamed None value parts piece put
@@ -189,13 +132,10 @@ named_new {parts = parts} {piece = piece} name more is v line_is =
       value_is = v.value_is;
       entry = rw (sym same) entry;
       shaped = record {
-        lines = shape.lines;
         between = shape.between;
         bytes = shape.bytes;
         tail = shape.tail;
         left = shape.left;
-        begins = shape.begins;
-        takes = shape.takes;
         bytes_are = shape.bytes_are;
         put_is = rw more_is (simp append_assoc);
         is_valued = shape.is_valued;
@@ -217,35 +157,17 @@ pub changed_plain : {change : Change} {parts : EntryParts} {piece : Piece} {put 
     → IsChangedIn change parts piece put
 changed_plain {change = change} {parts = parts} {piece = piece} none n =
     let shape = n.shaped in
-    let was = value_of parts.value in
-    let gone = parts.key.now ++ (shape.between ++ value_bytes was) in
-    let now = name_after (option_copied change.name) parts.key.now ++ (shape.between ++ shape.bytes) in
-    let changes : ChangesEntry change parts.key.now was gone now (shape.tail ++ piece.rest.now) =
-    record {
-      lines = shape.lines;
-      between = shape.between;
-      bytes = shape.bytes;
-      tail = [];
-      after = shape.bytes;
-      begins = shape.begins;
-      takes = shape.takes;
-      gone_is = sym (append-nil gone);
-      put_is = refl;
-      is_valued = shape.is_valued;
-      is_commented = rw none (refl, refl);
-    } in
     record {
       raw = n.raw;
       lines = n.lines;
       at = n.at;
-      gone = gone;
-      now = now;
-      kept = shape.tail;
+      between = shape.between;
+      tail = shape.tail;
       value_is = n.value_is;
       entry = n.entry;
+      left = shape.left;
       bytes_are = shape.bytes_are;
-      put_is = shape.put_is;
-      changes = changes;
+      changes = (shape.bytes, shape.bytes ++ shape.tail, shape.is_valued, rw none refl, shape.put_is ∙ simp append_assoc);
     }
 
 -- the changes that are left
@@ -286,6 +208,43 @@ name_is : (name : Option (List ℕ)) (key : List ℕ) → MatchOption name (name
 name_is None key = refl
 name_is (Some name) key = refl
 
+-- which changes are made, and which are left
+has_either : (done left : List Change) (change : Change) → Has (done ++ left) change → Has done change ⊎ Has left change
+has_either [] left change has = inr has
+has_either (first ∷ done) left change ([], after, e) = inl ([], done, cc)
+has_either (first ∷ done) left change (other ∷ before, after, e) = elim (has_either done left change (before, after, cc)) [
+  | inl (front, back, is) ↦ inl (first ∷ front, back, ap (λ t. first ∷ t) is)
+  | inr has ↦ inr has
+]
+
+no_empty : {A : Type 0} (before after : List A) (x : A) → before ++ x ∷ after ≡ [] → ⊥
+no_empty [] after x e = cc
+no_empty (y ∷ before) after x e = cc
+
+has_split : {changes : List Change} (done left : List Change) (change : Change) → changes ≡ done ++ left → Has changes change
+    → Has done change ⊎ Has left change
+has_split done left change e has = has_either done left change (subst (λ c. Has c change) e has)
+
+has_one : (change other : Change) → Has (change ∷ []) other → other ≡ change
+has_one change other ([], after, e) = cc
+has_one change other (first ∷ before, after, e) = absurd (no_empty before after other (cc))
+
+has_none : (change : Change) → Has [] change → ⊥
+has_none change (before, after, e) = no_empty before after change (sym e)
+
+order_weaker : (from later : ℕ) (changes : List Change) (count : ℕ) → from ≤ later → AreInOrder later changes count
+    → AreInOrder from changes count
+order_weaker from later [] count below order = tt
+order_weaker from later (change ∷ changes) count below (at, within, order) = (omega arith, within, order)
+
+pub order_from : (from : ℕ) (changes : List Change) (count : ℕ) (change : Change) → AreInOrder from changes count
+    → Has changes change → from ≤ change.entry
+order_from from [] count change order has = absurd (has_none change has)
+order_from from (first ∷ changes) count change (at, within, order) ([], after, e) =
+    let same : change ≡ first = cc in rw same at
+order_from from (first ∷ changes) count change (at, within, order) (other ∷ before, after, e) =
+    let later = order_from (first.entry + 1) changes count change order (before, after, cc) in omega arith
+
 pub changing_begins : (changes : List Change) (text : List ℕ) → AreWritable changes
     → Changing changes text text changes [] 0
 changing_begins changes text writable =
@@ -301,8 +260,12 @@ changing_begins changes text writable =
       split = refl;
       each = spec.none;
       index_is = refl;
-      bytes = spec.none;
+      parts = [];
+      cuts = cut_begins text;
+      becomes = λ count order. cut.none;
+      below = λ change has. absurd (has_none change has);
       ordered = λ count order. order;
+      back = λ count within order. order;
       writable = writable;
       room = omega arith;
     }
@@ -310,16 +273,27 @@ changing_begins changes text writable =
 -- a piece that stays
 changing_stays : {changes left : List Change} {text rest new : List ℕ} {index : ℕ} (later : ℕ) (piece : Piece)
     (r : Changing changes text rest left new index) → IsPiece rest piece → length piece.rest.now < length rest
-    → later ≤ index + 1 → later ≡ length (r.old ++ contents_in piece.held r.section)
+    → index ≤ later → later ≤ index + 1 → later ≡ length (r.old ++ contents_in piece.held r.section)
     → ((count : ℕ) → AreInOrder index left count → AreInOrder later left count)
+    → ((part : Part) → IsPartOf piece.held piece.blanks.now piece.bytes.now piece.rest.now piece.is_line part
+    → (count : ℕ) → AreInOrder 0 changes count → ¬ (NamesPart changes r.parts part))
     → Changing changes text piece.rest.now left (new ++ piece.bytes.now) later
-changing_stays {text = text} {rest = rest} {index = index} later piece r is shorter next later_is ordered =
+changing_stays {changes = changes} {left = left} {text = text} {rest = rest} {new = new} {index = index} later piece r is shorter
+    up next later_is ordered unnamed =
     let some = some_left rest piece.rest.now shorter in
+    let m = cut_step piece r.cuts is shorter in
+    let more = contents_in piece.held r.section in
+    let count_is : index + length more ≡ later =
+    ap (λ n. n + length more) r.index_is ∙ sym (length-append r.old more) ∙ sym later_is in
+    let becomes : (count : ℕ) → AreInOrder 0 changes count
+    → EachBecomes (ChangesPart changes) (r.parts ++ m.part ∷ []) (new ++ piece.bytes.now) =
+    λ count order. rw m.part_is at
+        (cut.next m.part (part_bytes m.part) (r.becomes count order) (spec.stays (unnamed m.part m.is_of count order))) in
     record {
       front = r.front ++ piece.bytes.now;
       done = r.done;
-      old = r.old ++ contents_in piece.held r.section;
-      now = r.now ++ contents_in piece.held r.section;
+      old = r.old ++ more;
+      now = r.now ++ more;
       section = section_after piece.held r.section;
       joined = joined_more text r.front rest piece.bytes.now piece.rest.now r.joined is.joined;
       passed = passed_join some r.passed (piece_passed piece is r.section);
@@ -327,30 +301,63 @@ changing_stays {text = text} {rest = rest} {index = index} later piece r is shor
       split = r.split;
       each = each_kept piece.held r.section r.each;
       index_is = later_is;
-      bytes = spec.kept piece.bytes.now (becomes_before r.bytes is.joined);
+      parts = r.parts ++ m.part ∷ [];
+      cuts = rw count_is at m.cut;
+      becomes = becomes;
+      below = λ change has. let before = r.below change has in omega arith;
       ordered = λ count order. ordered count (r.ordered count order);
+      back = λ count within order. r.back count (omega arith) (order_weaker index later left count up order);
       writable = r.writable;
       room = let room = r.room in omega arith;
     }
+
+no_entry_named : (h : Held) (blanks bytes rest : List ℕ) (is_line : Bool) (part : Part) (changes : List Change) (before : List Part)
+    → ((parts : EntryParts) → h ≡ held.Entry parts → ⊥) → IsPartOf h blanks bytes rest is_line part
+    → ¬ (NamesPart changes before part)
+no_entry_named (held.Header new) blanks bytes rest is_line part changes before other (inner, is) = λ names. rw is at names
+no_entry_named (held.Entry parts) blanks bytes rest is_line part changes before other is = absurd (other parts refl)
+no_entry_named held.Nothing blanks bytes rest is_line part changes before other is = λ names. rw is at names
+no_entry_named held.Comment blanks bytes rest is_line part changes before other is = λ names. rw is at names
+
+names_entry : (part : Part) (changes : List Change) (before : List Part) → NamesPart changes before part
+    → (change : Change) × Has changes change × (change.entry ≡ entries_in before)
+names_entry (cut.header blanks section inner) changes before names = absurd names
+names_entry (cut.entry blanks key between value tail is_line) changes before names = names
+names_entry (cut.line tail is_line) changes before names = absurd names
 
 -- a piece that is no entry
 pub changing_passes : {changes left : List Change} {text rest new : List ℕ} {index : ℕ} (piece : Piece)
     → Changing changes text rest left new index → IsPiece rest piece → length piece.rest.now < length rest
     → ((parts : EntryParts) → piece.held ≡ held.Entry parts → ⊥)
     → Changing changes text piece.rest.now left (new ++ piece.bytes.now) index
-changing_passes {index = index} piece r is shorter other =
-    changing_stays index piece r is shorter (omega arith)
+changing_passes {changes = changes} {index = index} piece r is shorter other =
+    changing_stays index piece r is shorter (omega arith) (omega arith)
     (rw (none_held piece.held r.section other, append-nil) r.index_is) (λ count order. order)
+    (λ part of count order. no_entry_named piece.held piece.blanks.now piece.bytes.now piece.rest.now piece.is_line part changes r.parts other of)
 
 -- an entry that stays
 pub changing_keeps : {changes left : List Change} {text rest new : List ℕ} {index : ℕ} (piece : Piece) (parts : EntryParts)
     → Changing changes text rest left new index → IsPiece rest piece → length piece.rest.now < length rest
     → piece.held ≡ held.Entry parts → AreLater left index
     → Changing changes text piece.rest.now left (new ++ piece.bytes.now) (index + 1)
-changing_keeps {left = left} {index = index} piece parts r is shorter entry later =
-    changing_stays (index + 1) piece r is shorter (omega arith)
+changing_keeps {changes = changes} {left = left} {index = index} piece parts r is shorter entry later =
+    changing_stays (index + 1) piece r is shorter (omega arith) (omega arith)
     (rw (entry, one_longer) (ap (λ i. i + 1) r.index_is))
     (λ count order. order_kept left index count later order)
+    (λ part of count order names.
+        let (change, has, at) = names_entry part changes r.parts names in
+        let here : change.entry ≡ index = at ∙ r.cuts.counted in
+        elim (has_split r.done left change r.split has) [
+          | inl done ↦ let below = r.below change done in absurd (omega arith)
+          | inr more ↦
+              let above = order_from (index + 1) left count change (order_kept left index count later (r.ordered count order)) more in
+              absurd (omega arith)
+        ])
+
+cut_held : {text rest : List ℕ} {section : Option Section} (index : ℕ) {all also : List Part} {h : Held} {parts : EntryParts}
+    → IsCut text rest (section_after h section) (index + length (contents_in h section)) all → h ≡ held.Entry parts → all ≡ also
+    → IsCut text rest section (index + 1) also
+cut_held index c e same = rw (e, same) at c
 
 -- an entry that changes
 pub changing_changes : {changes left more : List Change} {change : Change} {text rest new put : List ℕ} {index : ℕ}
@@ -367,13 +374,13 @@ changing_changes {changes = changes} {left = left} {more = more} {change = chang
     let made = rw entry at (piece_passed piece is r.section) in
     let made_now = entry_passed piece.blanks.now piece.is_line is.blank c.entry r.section in
     let split : changes ≡ r.done ++ change ∷ more = rw left_is at r.split in
-    let cut : rest ≡ (piece.blanks.now ++ (c.gone ++ c.kept)) ++ piece.rest.now =
-    is.joined ∙ ap (λ b. b ++ piece.rest.now) c.bytes_are in
-    let place : Comes text r.old r.section (c.gone ++ (c.kept ++ piece.rest.now)) =
-    comes_blanks r.front piece.blanks.now (c.gone ++ (c.kept ++ piece.rest.now)) r.joined
-    (cut ∙ simp append_assoc) is.blank (passed_holds some r.passed) in
-    let may : MayChange changes r.old r.section c.gone c.now (c.kept ++ piece.rest.now) =
-    (change, parts.key.now, value_of parts.value, (r.done, more, split), due ∙ r.index_is, c.changes) in
+    let m = cut_step piece r.cuts is shorter in
+    let (inner, tail, part_is, left_of) = part_entry piece m.is_of entry in
+    let (inners, tails) = one_entry_part piece parts c.between c.tail inner tail (sym c.left ∙ left_of)
+        (sym c.bytes_are ∙ sym (rw part_is at m.part_is)) in
+    let same : m.part ≡ entry_part piece parts c.between c.tail =
+    part_is ∙ ap (λ i. entry_part piece parts i tail) (sym inners) ∙ ap (λ t. entry_part piece parts c.between t) (sym tails) in
+    let named = due ∙ sym r.cuts.counted in
     record {
       front = r.front ++ piece.bytes.now;
       done = r.done ++ change ∷ [];
@@ -386,10 +393,17 @@ changing_changes {changes = changes} {left = left} {more = more} {change = chang
       split = split ∙ sym (append_assoc r.done (change ∷ []) more);
       each = spec.changed change x y r.each (due ∙ r.index_is) (refl, name_is (option_copied change.name) parts.key.now, c.value_is);
       index_is = ap (λ i. i + 1) r.index_is ∙ sym (one_longer r.old x);
-      bytes = rw (c.bytes_are, c.put_is)
-          (becomes_piece piece.blanks.now c.gone c.now c.kept piece.rest.now
-          (becomes_before r.bytes cut) place may);
+      parts = r.parts ++ entry_part piece parts c.between c.tail ∷ [];
+      cuts = cut_held index m.cut entry (ap (λ p. r.parts ++ p ∷ []) same);
+      becomes = λ count order. cut.next (entry_part piece parts c.between c.tail) put (r.becomes count order)
+          (spec.changed change (r.done, more, split) named c.changes);
+      below = λ other has. elim (has_either r.done (change ∷ []) other has) [
+        | inl before ↦ let below = r.below other before in omega arith
+        | inr one ↦ let is = ap (λ o. o.entry) (has_one change other one) in omega arith
+      ];
       ordered = λ count order. order_done change more index count due (rw left_is at (r.ordered count order));
+      back = λ count within order. r.back count (omega arith)
+          (rw left_is (omega arith, omega arith, subst (λ i. AreInOrder (i + 1) more count) (sym due) order));
       writable = (rw left_is at r.writable).1;
       room = let room = r.room in omega arith;
     }
@@ -398,14 +412,20 @@ changing_changes {changes = changes} {left = left} {more = more} {change = chang
 pub each_changed : {changes left : List Change} {text rest new : List ℕ} {index : ℕ} {contents : List Content}
     → Changing changes text rest left new index → Ends None text contents
     → (rest ≡ []) ⊎ (¬ (IsRead rest)) → left ≡ [] → IsEachChanged changes text contents new
-each_changed r whole end none =
+each_changed {left = left} {index = index} {contents = contents} r whole end none =
     let (rest_is, text_is, contents_are) = all_passed r.joined r.passed whole end in
     let done_is = sym (rw (none, append-nil) at r.split) in
+    let count_is : index ≡ length contents = r.index_is ∙ ap (λ c. length c) contents_are in
+    let ordered = r.back (length contents) (omega arith) (rw none tt) in
+    let cuts = rw rest_is at r.cuts.cuts in
     record {
       now = r.now;
       ends = passed_ends rest_is r.passed_now;
       each = rw (contents_are, done_is) at r.each;
-      bytes = rw (← text_is) at (becomes_before r.bytes rest_is);
+      ordered = ordered;
+      parts = r.parts;
+      cuts = rw append-nil at (cuts [] cut.ends);
+      becomes = r.becomes (length contents) ordered;
     }
 
 pub not_in_order : {changes left : List Change} {text rest new : List ℕ} {index : ℕ} {contents : List Content}

@@ -1,5 +1,5 @@
 -- What edits make of a text, with its mark or without.
-use Rattle.std.proofs.Common.{◌≡◌, ℕ, Bool, false, List, [], ◌∷◌, ◌++◌, Option, None, map, refl, sym, ap, ◌∙◌}
+use Rattle.std.proofs.Common.{◌≡◌, ℕ, Bool, true, false, List, [], ◌∷◌, ◌++◌, Option, None, map, refl, sym, ap, ◌∙◌}
 use Rattle.std.proofs.Common.{subst, append_assoc, inl, inr}
 use Rattle.config_edit.specs.declared.Change.{Change}
 use Rattle.config_file.specs.File.{Entry, IsFile}
@@ -7,65 +7,25 @@ use Rattle.config_edit.specs.declared.EditError.{EditError}
 use Rattle.config_edit.specs.declared.EditError.TheVariants as error
 use Rattle.config_file.specs.declared.key.KeyError.{KeyError}
 use Rattle.config_file.specs.Key.{Key, IsKey, RefusesKey}
-use Rattle.config_file.specs.Spelling.{HasNoHeader}
+use Rattle.config_file.specs.Spelling.{HasNoHeader, HasNoSpelling}
+use Rattle.config_file.specs.Reading.Spellings.{is_section, is_spellable}
+use Rattle.config_file.proofs.SpelledHeaders.{header_spelled}
+use Rattle.config_file.proofs.Spellings.{git_spelling}
+use Rattle.config_edit.specs.Edit.{CanBeWritten}
 use Rattle.config_file.specs.Header.{Section}
-use Rattle.config_edit.specs.Edit.{Content, content, HasContents, Becomes, Changes, ChangesAt, SetsBytes}
-use Rattle.config_edit.specs.Edit.{ChangesKey, AddsKey, PutsLine, ReachesBehind, IsApart, NamesSection}
-use Rattle.config_edit.specs.Edit.{RemovesSection, RenamesSection, NoneIn, LacksSection, LacksHeader}
+use Rattle.config_edit.specs.Edit.{Content, content, HasContents, LacksName, AreAccepted}
+use Rattle.config_edit.specs.Cut.{BecomesParts}
+use Rattle.config_edit.specs.Edit.{RefusesChanges, PutsLine, ChangesPart, ChangesKey, ReplacesKey, AddsKey, RefusesLastPart, RefusesComment, RefusesOneChange}
+use Rattle.config_file.specs.declared.key.KeyError.TheVariants as key_error
+use Rattle.config_file.specs.Spelling.{LacksSpelling, git_spelled}
+use Rattle.std.proofs.Common.{true≢false, append-nil, take, drop, option_copied, Some, ◌+◌}
+use Rattle.std.proofs.lemmas.List.{append_cancel_right, take-append-drop}
+use Rattle.config_edit.specs.Reading.{AreWritable, IsWritable, IsWritableName, IsWritableValue, IsWritableComment}
 use Rattle.config_edit.specs.Edit.{ChangesEntries}
-use Rattle.config_edit.specs.Reading.{IsSplit, IsReplaced, IsAdded, IsCleared, IsEachChanged, Ends, ChangesIn}
-use Rattle.config_edit.specs.Reading.{SetsIn, Comes, ComesBehind, RefusesName}
-use Rattle.config_file.proofs.OneKey.{cut_same, not_both}
-use Rattle.config_edit.proofs.Edits.{file_of, text_of, split_joined, reaches, reaches_behind, body_ends}
-use Rattle.config_edit.proofs.Edits.{becomes_marked}
-
-change_marked : {May : List ℕ → List ℕ → List ℕ → Type 0} {text mark body new : List ℕ} {contents before : List Content}
-    {section : Option Section}
-    → IsSplit text mark body → Ends None body contents → ChangesIn May before section body new
-    → ChangesAt May before section text (mark ++ new)
-change_marked {mark = mark} split ends c =
-    record {
-      front = mark ++ c.front;
-      gone = c.gone;
-      put = c.put;
-      rest = c.rest;
-      old_is = split_joined split ∙ ap (λ x. mark ++ x) c.old_is ∙ sym (append_assoc mark c.front (c.gone ++ c.rest));
-      new_is = ap (λ x. mark ++ x) c.new_is ∙ sym (append_assoc mark c.front (c.put ++ c.rest));
-      reaches = reaches c.front split ends c.old_is c.holds;
-      may = c.may;
-    }
-
-set_marked : {value text mark body new : List ℕ} {contents before : List Content} {x : Content}
-    → IsSplit text mark body → Ends None body contents → SetsIn value before x body new
-    → SetsBytes value before x text (mark ++ new)
-set_marked {mark = mark} split ends (inl same) =
-    inl (same.0, ap (λ x. mark ++ x) same.1 ∙ sym (split_joined split))
-set_marked split ends (inr other) = inr (other.0, change_marked split ends other.1)
-
-mark_apart : {front back : List ℕ} (mark : List ℕ) → IsApart front back → IsApart (mark ++ front) back
-mark_apart mark (inl (line, e)) = inl (mark ++ line, ap (λ x. mark ++ x) e ∙ sym (append_assoc mark line (10 ∷ [])))
-mark_apart mark (inr other) = inr other
-
-line_marked : {key : Key} {value text mark old new : List ℕ} {contents before : List Content}
-    → IsSplit text mark old → Ends None old contents → PutsLine (ComesBehind old) key value contents before old new
-    → PutsLine (ReachesBehind text) key value contents before text (mark ++ new)
-line_marked {mark = mark} split ends p =
-    record {
-      front = mark ++ p.front;
-      back = p.back;
-      feed = p.feed;
-      ends = p.ends;
-      header = p.header;
-      spelling = p.spelling;
-      old_is = rw (append_assoc, ← p.old_is) (split_joined split);
-      new_is = rw (append_assoc, ← p.new_is);
-      is_feed = p.is_feed;
-      are_ends = p.are_ends;
-      place = reaches_behind split ends p.place;
-      apart = mark_apart mark p.apart;
-      is_header = p.is_header;
-      spells = p.spells;
-    }
+use Rattle.config_edit.specs.Reading.{IsReplaced, IsAdded, IsEachChanged, Ends}
+use Rattle.config_edit.specs.Cut.{IsSplit}
+use Rattle.config_edit.specs.Reading.{RefusesText}
+use Rattle.config_edit.proofs.Edits.{file_of, text_of, body_ends}
 
 -- what holds of a key and of the contents of a text, behind its mark or without
 pub edit : {P : Key → List Content → Type 0} {name text mark body : List ℕ} {key : Key}
@@ -81,73 +41,124 @@ pub edit_file : {P : Key → List Content → Type 0} {name text mark body : Lis
 edit_file is split (entries, is_file) made =
     let ends = body_ends is_file split in edit is split ends (made (map content entries) ends)
 
+-- what refuses an edit whose key and value can be written
+pub refuses : {P : Key → List Content → Type 0} {name text mark body : List ℕ} {key : Key}
+    {contents : List Content} (value : Option (List ℕ))
+    → CanBeWritten name value key → IsSplit text mark body → Ends None body contents → P key contents
+    → (k : Key) × (CanBeWritten name value k) × (all : List Content) × HasContents text all × P k all
+refuses {key = key} {contents = contents} value can split ends why = (key, can, contents, text_of split ends, why)
+
+pub refuses_file : {P : Key → List Content → Type 0} {name text mark body : List ℕ} {key : Key} (value : Option (List ℕ))
+    → CanBeWritten name value key → IsSplit text mark body → (entries : List Entry) × IsFile text entries None
+    → ((contents : List Content) → Ends None body contents → P key contents)
+    → (k : Key) × (CanBeWritten name value k) × (all : List Content) × HasContents text all × P k all
+refuses_file value can split (entries, is_file) why =
+    let ends = body_ends is_file split in refuses value can split ends (why (map content entries) ends)
+
+-- a section that can be written has a header, and a value a spelling
+pub has_header : (section : List ℕ) (subsection : Option (List ℕ)) → is_section section subsection ≡ true
+    → ¬ (HasNoHeader section subsection)
+has_header section subsection is lacks =
+    let (inner, named, e, names, header) = header_spelled section subsection is in
+    lacks (inner ++ []) [] named names (header [])
+
+pub has_spelling : (value : List ℕ) → is_spellable value ≡ true → ¬ (HasNoSpelling value)
+has_spelling value all lacks = lacks _ (git_spelling value all).0
+
+pub replaced_key : {key : Key} {value text mark body new edited : List ℕ} {contents : List Content} {several : Bool}
+    → IsSplit text mark body → IsReplaced key value body contents new several
+    → edited ≡ mark ++ new → ReplacesKey key value text contents edited
+replaced_key {mark = mark} {body = body} {new = new} split r e =
+    (r.now, rw e (file_of split r.ends), r.replaces, (mark, r.parts, new, (body, split, r.cuts), r.becomes, e))
+
 pub changed_key : {key : Key} {value text mark body new edited : List ℕ} {contents : List Content}
     {several : Bool}
-    → IsSplit text mark body → Ends None body contents → IsReplaced key value body contents new several → several ≡ false
+    → IsSplit text mark body → IsReplaced key value body contents new several → several ≡ false
     → edited ≡ mark ++ new → ChangesKey key value text contents edited
-changed_key split ends r one e =
-    let (nothing, bytes) = r.single one in
-    rw e (r.now, file_of split r.ends, r.replaces, nothing, set_marked split ends bytes)
-
--- what becomes of a text of whose body stretches change
-pub made : {P : List Content → Type 0} {M : List Content → Option Section → List ℕ → List ℕ → List ℕ → Type 0}
-    {text mark body new edited : List ℕ} {contents now : List Content}
-    → IsSplit text mark body → Ends None body contents → Ends None new now → P now
-    → Becomes (Comes body) M body [] new → edited ≡ mark ++ new
-    → (after : List Content) × HasContents edited after × P after × Changes M text edited
-made {now = now} split ends whole holds changes e =
-    rw e (now, file_of split whole, holds, becomes_marked split ends changes)
+changed_key split r one e = (r.single one, replaced_key split r e)
 
 pub added_key : {key : Key} {value text mark body new edited : List ℕ} {contents : List Content}
-    → IsSplit text mark body → Ends None body contents → IsAdded key value body contents new
+    → IsSplit text mark body → IsAdded key value body contents new
     → edited ≡ mark ++ new → AddsKey key value text contents edited
-added_key split ends r e = rw e (r.now, file_of split r.ends, r.adds, line_marked split ends r.bytes)
+added_key {key = key} {value = value} {text = text} {mark = mark} {body = body} {edited = edited} split r e =
+    let b = r.bytes in
+    let puts : PutsLine key value text edited =
+    record {
+      mark = mark;
+      front = b.front;
+      back = b.back;
+      feed = b.feed;
+      ends = b.ends;
+      header = b.header;
+      headed = b.headed;
+      spelling = b.spelling;
+      has_parts = (body, split, b.cuts);
+      is_feed = b.is_feed;
+      are_ends = b.are_ends;
+      is_place = b.is_place;
+      spells = b.spells;
+      new_is = e ∙ ap (λ n. mark ++ n) b.new_is;
+    } in
+    (r.now, rw e (file_of split r.ends), r.adds, puts)
 
 pub changed_entries : {changes : List Change} {text mark body new edited : List ℕ} {contents : List Content}
     → IsSplit text mark body → Ends None body contents → IsEachChanged changes body contents new
     → edited ≡ mark ++ new → ChangesEntries changes text edited
-changed_entries {contents = contents} split ends r e =
-    let whole = becomes_marked split ends r.bytes in
-    rw e (contents, text_of split ends, r.now, file_of split r.ends, r.each, whole)
+changed_entries {changes = changes} {text = text} {mark = mark} {body = body} {new = new} {edited = edited} {contents = contents} split ends r e =
+    let becomes : BecomesParts (ChangesPart changes) text edited = (mark, r.parts, new, (body, split, r.cuts), r.becomes, e) in
+    (contents, text_of split ends, r.ordered, r.now, rw e (file_of split r.ends), r.each, becomes)
 
--- a name of which no key is made names no section
-names_nothing : (name : List ℕ) {text : List ℕ} {e : KeyError} {key : Key} → text ≡ name ++ 46 ∷ 120 ∷ []
-    → RefusesKey text e → NamesSection name key → ⊥
-names_nothing name text_is refused names = not_both (rw (← text_is) at names) refused
+-- changes that can be written
+name_fits : (name : Option (List ℕ)) (e : KeyError) → IsWritableName name → RefusesLastPart name e → ⊥
+name_fits None e is refuses = absurd refuses
+name_fits (Some []) e is refuses = true≢false (sym is)
+name_fits (Some (b ∷ more)) key_error.BadByte is refuses = true≢false (sym is ∙ refuses)
+name_fits (Some (b ∷ more)) e is refuses = absurd refuses
 
--- a section that is left out
-pub section_removed : {text mark body new edited : List ℕ} (name : List ℕ) (entries : List Entry) (key : Key)
-    → IsFile text entries None → IsSplit text mark body → NamesSection name key
-    → IsCleared key body (map content entries) new → edited ≡ mark ++ new → RemovesSection name text edited
-section_removed name entries key is_file split names r e =
-    let whole = becomes_marked split (body_ends is_file split) r.changes in
-    let has = file_of split r.ends in
-    rw e (key, names, map content entries, (entries, is_file, refl), r.now, has, r.without, whole)
+pub value_fits : (value : Option (List ℕ)) → IsWritableValue value → ¬ (LacksSpelling value)
+value_fits None is lacks = absurd lacks
+value_fits (Some value) is lacks = lacks (git_spelled value) (git_spelling value is).0
 
--- the text has no entry in the section of the one key that has this name
-pub lacks : {text : List ℕ} (name : List ℕ) (entries : List Entry) (key : Key) → IsFile text entries None
-    → NamesSection name key → NoneIn key (map content entries) → LacksSection name text
-lacks name entries key is_file names nothing =
-    (map content entries, (entries, is_file, refl), λ other is. rw (cut_same names.cut is.cut) at nothing)
+comment_fits : (value comment : Option (List ℕ)) → IsWritableComment value comment → ¬ (RefusesComment value comment)
+comment_fits value None is refuses = absurd refuses
+comment_fits None (Some comment) is refuses = absurd is
+comment_fits (Some value) (Some comment) is refuses = true≢false (sym is ∙ refuses)
 
-pub lacks_any : {text key_text : List ℕ} {e : KeyError} (name : List ℕ) (entries : List Entry)
-    → IsFile text entries None → key_text ≡ name ++ 46 ∷ 120 ∷ [] → RefusesKey key_text e
-    → LacksSection name text
-lacks_any name entries is_file text_is refused =
-    (map content entries, (entries, is_file, refl), λ k is. absurd (names_nothing name text_is refused is))
+pub has_name : (change : Change) → IsWritableName (option_copied change.name) → ¬ (LacksName change)
+has_name change is (e, refuses) = name_fits (option_copied change.name) e is refuses
 
--- why a name has no header
-pub lacks_header : {key_text : List ℕ} (name : List ℕ) (e : EditError) → key_text ≡ name ++ 46 ∷ 120 ∷ []
-    → RefusesName key_text e → LacksHeader name
-lacks_header name (error.Key e) text_is refused =
-    λ key names. absurd (names_nothing name text_is refused names)
-lacks_header name error.Section text_is (other, is, lacking) = λ key names.
-    subst (λ k. HasNoHeader k.section k.subsection)
-    (cut_same is.cut (subst (λ t. IsKey t key) (sym text_is) names).cut) lacking
-lacks_header name e text_is refused = absurd refused
+written : (change : Change) (e : EditError) → IsWritable change → RefusesOneChange change e → ⊥
+written change (error.Key e) (name, value, comment) refuses = name_fits (option_copied change.name) e name refuses
+written change error.Value (name, value, comment) (named, lacks) = value_fits (option_copied change.value) value lacks
+written change error.Comment (name, value, comment) (named, spelled, refuses) =
+    comment_fits (option_copied change.value) (option_copied change.comment) comment refuses
+written change e is refuses = absurd refuses
 
--- a section that has its name already
-pub same_name : {text old_name new_name edited : List ℕ} (entries : List Entry) → IsFile text entries None
-    → old_name ≡ new_name → edited ≡ text → RenamesSection old_name new_name text edited
-same_name entries is_file same edited_is =
-    (map content entries, (entries, is_file, refl), inl (same, edited_is))
+pub all_written : (changes : List Change) → AreWritable changes → AreAccepted changes
+all_written [] is = tt
+all_written (change ∷ changes) (first, more) = (λ e refuses. written change e first refuses, all_written changes more)
+
+pub writable_more : (changes : List Change) (change : Change) → AreWritable changes → IsWritable change
+    → AreWritable (changes ++ change ∷ [])
+writable_more [] change are is = (is, tt)
+writable_more (first ∷ changes) change (at, are) is = (at, writable_more changes change are is)
+
+pub take_more : {A : Type 0} (n : ℕ) (xs : List A) (x : A) → drop n xs ≡ x ∷ drop (n + 1) xs
+    → take (n + 1) xs ≡ take n xs ++ x ∷ []
+take_more n xs x is =
+    append_cancel_right (take (n + 1) xs) (take n xs ++ x ∷ []) (drop (n + 1) xs)
+    (take-append-drop (n + 1) xs ∙ sym (take-append-drop n xs) ∙ ap (λ d. take n xs ++ d) is
+    ∙ sym (append_assoc (take n xs) (x ∷ []) (drop (n + 1) xs)))
+
+pub take_all : {A : Type 0} (n : ℕ) (xs : List A) → drop n xs ≡ [] → take n xs ≡ xs
+take_all n xs none = sym (append-nil (take n xs)) ∙ ap (λ d. take n xs ++ d) (sym none) ∙ take-append-drop n xs
+
+-- why changes are refused
+pub change_refused : (changes : List Change) (text : List ℕ) (e : EditError) → AreAccepted changes → RefusesText text e
+    → RefusesChanges changes text e
+change_refused changes text (error.File e) all (entries, is) = (all, entries, is)
+change_refused changes text e all refuses = absurd refuses
+
+pub comment_refused : (change : Change) (e : EditError) → ¬ (LacksName change) → ¬ (LacksSpelling (option_copied change.value))
+    → e ≡ error.Comment → RefusesComment (option_copied change.value) (option_copied change.comment) → RefusesOneChange change e
+comment_refused change e named spelled is refuses = rw is (named, spelled, refuses)

@@ -1,6 +1,3 @@
-mod OnePlace
-mod WholeComments
-mod Becomes
 mod Pieces
 mod Edits
 mod Changed
@@ -8,10 +5,19 @@ mod Replaced
 mod Closed
 mod Added
 mod EditedKeys
-mod KeptBehind
 mod EachEntry
 mod Removed
+mod TakenOut
+mod Refused
 mod Cleared
 mod Decided
 mod AtPlaces
 mod Commented
+mod Cuts
+mod CutLoops
+mod OneEdit
+mod PartsRead
+mod Renamed
+mod SectionEdits
+mod SectionLaws
+mod SectionTexts

@@ -2,7 +2,10 @@
 use Rattle.std.proofs.Common.{◌≡◌, ◌≢◌, ℕ, ◌+◌, Bool, true, false, List, [], ◌∷◌, ◌++◌, Option, Some, None}
 use Rattle.std.proofs.Common.{refl, sym, ap, ◌∙◌, subst, append_assoc, append-nil, arith, inl, inr, ◌⊎◌}
 use Rattle.std.proofs.Common.{true≢false}
-use Rattle.std.proofs.lemmas.List.{append_cancel_right}
+use Rattle.std.proofs.Common.{◌<◌, length, take, drop, get_or}
+use Rattle.std.proofs.lemmas.List.{append_cancel_right, length-drop, drop_more, get_or-drop, take-append-drop}
+use Rattle.std.proofs.lemmas.List.Sums.{list_all-from_AllPass}
+use Rattle.std.specs.List.{list_all, HoldsAt, AllWithin}
 use Rattle.std.proofs.lemmas.Bool.Decides.{nat_tests}
 use Rattle.config_file.specs.declared.errors.FileError.{FileError}
 use Rattle.config_edit.specs.declared.piece.Held.{Held}
@@ -19,10 +22,11 @@ use Rattle.config_edit.specs.Reached.{Leads}
 use Rattle.config_edit.specs.Reached as reached
 use Rattle.config_edit.specs.Reading.{Holds, Ends, Passed, anywhere, at_end, IsHeaderAt, IsMade, IsRead}
 use Rattle.config_edit.specs.Reading.{GoesOn, StartsLine, contents_in, section_after}
-use Rattle.config_edit.specs.Edit.{AreBlank, IsComment, absent, present, IsTail, IsEntry}
+use Rattle.config_edit.specs.Edit.{IsEntry, IsEndOfLine, IsLastLineEnd}
+use Rattle.config_edit.specs.Cut.{AreBlank, HasComment, IsComment, absent, present, IsTail}
 use Rattle.config_file.proofs.LineEnds.{not_none}
 use Rattle.config_file.proofs.OneReading.{reads_once}
-use Rattle.config_file.proofs.OneRun.{run_same}
+use Rattle.config_file.proofs.OneRun.{run_same, run_only}
 use Rattle.config_file.proofs.Readings.{at_entry, begins_none}
 
 -- the reading goes on where the bytes before lead
@@ -225,7 +229,7 @@ tail_ends {tail = tail} is t section line =
           (end_is.1, rw end_is.2 (blanks_read t.blanks t.are_blank (comment_ends t.is_comment section line)))
     ]
 
-line_passed : {tail rest bytes : List ℕ} (blanks : List ℕ) (is_line : Bool) → AreBlank blanks
+pub line_passed : {tail rest bytes : List ℕ} (blanks : List ℕ) (is_line : Bool) → AreBlank blanks
     → bytes ≡ blanks ++ tail → IsTail tail rest is_line → (section : Option Section)
     → Passed section bytes [] section rest
 line_passed blanks true all joined t section = anywhere (λ line other.
@@ -243,12 +247,13 @@ header_holds all h section = λ line other.
 -- what the code cuts off a line
 pub comment_cut : {text after bytes rest : List ℕ} {sign : ℕ} → text ≡ sign ∷ after
     → is_comment_sign sign ≡ true → Run is_comment_byte after bytes rest
-    → (comment : List ℕ) × (text ≡ comment ++ rest) × IsComment comment
+    → (comment : List ℕ) × (text ≡ comment ++ rest) × IsComment comment × (true ≡ true → comment ≢ [])
 comment_cut {bytes = bytes} {sign = sign} e is run =
-    (sign ∷ bytes, e ∙ ap (λ x. sign ∷ x) run.joined, present is run.pass)
+    (sign ∷ bytes, e ∙ ap (λ x. sign ∷ x) run.joined, present is run.pass, λ is none. cc)
 
-pub no_comment : (text : List ℕ) → (comment : List ℕ) × (text ≡ comment ++ text) × IsComment comment
-no_comment text = ([], refl, absent)
+pub no_comment : (text : List ℕ)
+    → (comment : List ℕ) × (text ≡ comment ++ text) × IsComment comment × (false ≡ true → comment ≢ [])
+no_comment text = ([], refl, absent, λ is. absurd (true≢false (sym is)))
 
 pub tail_of : {text blanks at comment end rest : List ℕ} {is_line : Bool} (last : List ℕ) → Run is_blank text blanks at
     → at ≡ comment ++ end → IsComment comment → end ≡ last ++ rest
@@ -270,6 +275,24 @@ tail_of {blanks = blanks} {comment = comment} last run at_is is end_is ends = (
   refl,
 )
 
+-- an entry before what is left of its line is one before any other text behind it
+pub takes_before : {key rest : List ℕ} {value : Option (List ℕ)} {lines : ℕ} (front tail : List ℕ)
+    → TakesEntry (front ++ (tail ++ rest)) key value lines (tail ++ rest) → IsTail tail rest true → (other : List ℕ)
+    → TakesEntry (front ++ (tail ++ other)) key value lines (tail ++ other)
+takes_before {rest = rest} front tail takes t other =
+    let lead = t.blanks ++ t.comment in
+    let tail_is : tail ≡ lead ++ 10 ∷ [] = elim t.ends [
+      | inl line_is ↦ line_is.1 ∙ sym (append_assoc t.blanks t.comment (10 ∷ []))
+      | inr end_is ↦ absurd (true≢false end_is.0)
+    ] in
+    let before = λ (more : List ℕ). ap (λ x. x ++ more) tail_is ∙ append_assoc lead (10 ∷ []) more in
+    let no_return : 10 ≢ 13 = omega arith in
+    let moves : Follows (tail ++ rest) (tail ++ other) =
+    rw (before rest, before other) (follows lead 10 rest other no_return) in
+    let (cut, joined, moved) = entry_moved takes in
+    rw (append_cancel_right front cut (tail ++ rest) joined)
+    (moved (tail ++ other) moves (λ none. not_none lead rest 10 (sym (before rest) ∙ none)))
+
 -- an entry with what is left of its line
 pub entry_holds : {key at bytes rest : List ℕ} {value : Option (List ℕ)} {lines : ℕ} (blanks : List ℕ)
     → AreBlank blanks
@@ -284,12 +307,7 @@ entry_holds {key = key} {at = at} {rest = rest} {value = value} {lines = lines} 
     ] in
     let before = λ (more : List ℕ). ap (λ x. x ++ more) tail_is ∙ append_assoc lead (10 ∷ []) more in
     let left : at ≡ lead ++ 10 ∷ rest = e.left ∙ before rest in
-    let no_return : 10 ≢ 13 = omega arith in
-    let moves : Follows at (e.tail ++ other) = rw (left, before other) (follows lead 10 rest other no_return) in
-    let (front, joined, moved) = entry_moved e.takes in
-    let taken : TakesEntry (e.front ++ (e.tail ++ other)) key value lines (e.tail ++ other) =
-    rw (append_cancel_right e.front front at joined)
-    (moved (e.tail ++ other) moves (λ none. not_none lead rest 10 (sym left ∙ none))) in
+    let taken = takes_before e.front e.tail (rw e.left at e.takes) t other in
     let begins_before : BeginsWithLetter ((e.front ++ lead) ++ 10 ∷ rest) =
     rw (append_assoc e.front lead (10 ∷ rest), ← left) e.begins in
     let (b, more, begins, letter) = letter_before (e.front ++ lead) 10 rest other begins_before in
@@ -372,6 +390,9 @@ blank_no_feed x blank is = grind (arith, nat_tests)
 pub blank_no_sign : (x : ℕ) → is_blank x ≡ true → is_comment_sign x ≡ true → ⊥
 blank_no_sign x blank sign = grind (arith, nat_tests)
 
+sign_no_blank : (x : ℕ) → is_comment_sign x ≡ true → is_blank x ≡ false
+sign_no_blank x sign = grind (arith, nat_tests)
+
 blank_at : (x y : ℕ) → is_blank x ≡ true → y ≢ 10 → (x ≡ 10) ⊎ ((x ≡ 13) × (y ≡ 10)) → ⊥
 blank_at x y blank other (inl is) = blank_no_feed x blank is
 blank_at x y blank other (inr p) = other p.1
@@ -438,12 +459,46 @@ entry_cut {text = text} {at = at} {rest = rest} {tail = tail} {after = after} bl
 
 pub line_made : (h : Held) {bytes rest : List ℕ} (blanks : List ℕ) (is_line : Bool) (tail : List ℕ)
     → bytes ≡ blanks ++ tail → (t : IsTail tail rest is_line)
-    → ((t.comment ≡ []) × (h ≡ held.Nothing)) ⊎ (h ≡ held.Comment) → IsMade h blanks bytes rest is_line
+    → ((t.comment ≡ []) × (h ≡ held.Nothing)) ⊎ ((t.comment ≢ []) × (h ≡ held.Comment)) → IsMade h blanks bytes rest is_line
 line_made h blanks is_line tail joined t (inl (none, is)) = rw is (tail, joined, t, none)
-line_made h blanks is_line tail joined t (inr is) = rw is (tail, joined, t)
+line_made h blanks is_line tail joined t (inr (some, is)) = rw is (tail, joined, t, some)
+
+-- a text of blanks and then this one has a comment where this one begins with its sign
+pub comment_behind : {text blanks at : List ℕ} → Run is_blank text blanks at → HasComment text
+    → (sign : ℕ) × (more : List ℕ) × (at ≡ sign ∷ more) × (is_comment_sign sign ≡ true)
+comment_behind run (blanks, more, sign, joined, all, is) =
+    let no_blank : is_blank sign ≡ false = sign_no_blank sign is in
+    (sign, more, (run_only run (record { joined = joined; pass = all; longest = no_blank })).1, is)
 
 -- a comment of which nothing is cut off
 pub no_comment_before : {text rest : List ℕ} (comment : List ℕ) → text ≡ comment ++ rest → rest ≡ text
     → comment ≡ []
 no_comment_before {text = text} {rest = rest} comment cut same =
     sym (append_cancel_right [] comment rest (same ∙ cut))
+
+-- the last line end of a text
+feed_free : (b : ℕ) → b ≢ 10 → is_comment_byte b ≡ true
+feed_free b other = grind (arith, nat_tests)
+
+pub no_feeds : (text : List ℕ) → AllWithin (λ b. b ≢ 10) text 0 (length text) → list_all is_comment_byte text ≡ true
+no_feeds text never =
+    list_all-from_AllPass is_comment_byte text
+    (λ k d within. feed_free (get_or text k d) (never k d (omega arith) within))
+
+pub last_feed : {end : List ℕ} (text : List ℕ) (i : ℕ) → i < length text → HoldsAt (λ b. b ≡ 10) text i
+    → AllWithin (λ b. b ≢ 10) text (i + 1) (length text) → IsEndOfLine (take (i + 1) text) true end
+    → IsLastLineEnd text (Some end)
+last_feed {end = end} text i within here later is =
+    let back = drop (i + 1) text in
+    let front = take i text in
+    let none : list_all is_comment_byte back ≡ true =
+    list_all-from_AllPass is_comment_byte back
+    (λ k d inside. rw (get_or-drop (i + 1) text k d)
+    (feed_free (get_or text (i + 1 + k) d)
+    (later (i + 1 + k) d (omega arith) (omega (arith, length-drop (i + 1) text))))) in
+    let next : drop i text ≡ 10 ∷ back = drop_more text i 0 within ∙ ap (λ b. b ∷ back) (here 0) in
+    let whole : text ≡ front ++ 10 ∷ back = sym (take-append-drop i text) ∙ ap (λ t. front ++ t) next in
+    let line : take (i + 1) text ≡ front ++ 10 ∷ [] =
+    append_cancel_right (take (i + 1) text) (front ++ 10 ∷ []) back
+    (take-append-drop (i + 1) text ∙ whole ∙ sym (append_assoc front (10 ∷ []) back)) in
+    (front, back, whole, none, subst (λ l. IsEndOfLine l true end) line is)

@@ -1,7 +1,7 @@
 -- Texts in which an entry has another value.
 use Rattle.std.proofs.Common.{◌≡◌, ℕ, ◌+◌, ◌<◌, Bool, false, List, [], ◌∷◌, ◌++◌, Option, Some, None, is_some}
 use Rattle.std.proofs.Common.{length, refl, sym, ap, ◌∙◌, subst, append_assoc, append-nil, inl, inr, ◌⊎◌}
-use Rattle.std.proofs.Common.{true≢false}
+use Rattle.std.proofs.Common.{true≢false, arith, ◌≤◌, true}
 use Rattle.config_file.specs.declared.entry.EntryParts.{EntryParts}
 use Rattle.config_edit.specs.declared.setting.Found.{Found}
 use Rattle.config_edit.specs.declared.piece.Held.{Held}
@@ -15,22 +15,22 @@ use Rattle.config_file.specs.Listing as listing
 use Rattle.config_file.specs.Listing.{IsListed}
 use Rattle.config_file.specs.Key.{Key, HasKey}
 use Rattle.config_edit.specs.Edit as spec
-use Rattle.config_edit.specs.Edit.{Content, content, Becomes, LosesEntry, MayReplace, IsIn, IsOf, Without}
-use Rattle.config_edit.specs.Edit.{HasNone, HasSeveral, Replaces, GivesValue, HasValue, AreBlank, IsEntry}
-use Rattle.config_edit.specs.Edit.{IsEnd}
+use Rattle.config_edit.specs.Edit.{Content, content, IsIn, IsOf, IsEntryOf, Without, ReplacesPart, GivesValue}
+use Rattle.config_edit.specs.Edit.{HasNone, HasOne, HasSeveral, Replaces, HasValue, IsEnd, LeavesEnd}
+use Rattle.config_edit.specs.Cut as cut
+use Rattle.config_edit.specs.Cut.{value_bytes, Part, Cuts, EachBecomes, part_bytes, entries_in, ends_in_header, ends_line, section_from}
 use Rattle.config_edit.specs.Reached as reached
-use Rattle.config_edit.specs.Reading.{Holds, Ends, Passed, anywhere, at_end, IsMade, IsPiece, IsSet}
+use Rattle.config_edit.specs.Reading.{Holds, Ends, Passed, anywhere, at_end, IsMade, IsPiece, IsValued, IsShaped, holds_header}
 use Rattle.config_edit.specs.Reading.{contents_in, section_after, IsListable, IsPast, content_of, IsEntryHeld}
-use Rattle.config_edit.specs.Reading.{IsFound, Replacing, IsReplaced, IsLeft, IsGiven, ChangesIn, Comes}
-use Rattle.config_edit.specs.Reading.{MayLose}
+use Rattle.config_edit.specs.Reading.{IsFound, Replacing, IsReplaced, IsLeft, IsCut, entry_part}
 use Rattle.config_file.specs.Views.{value_of}
-use Rattle.std.proofs.lemmas.List.{append_cancel_right}
+use Rattle.std.proofs.lemmas.List.{append_cancel_left, append_cancel_right, length-append}
 use Rattle.config_file.proofs.EachReading.{not_empty}
 use Rattle.config_edit.proofs.Pieces.{entry_passed, made_passed}
 use Rattle.config_edit.proofs.Edits.{holds_nothing, holds_join, holds_end, passed_holds, passed_join}
 use Rattle.config_edit.proofs.Edits.{passed_ends, ends_once, some_left, joined_more, header_listed}
-use Rattle.config_edit.proofs.Edits.{holds_blanks, comes_blanks}
-use Rattle.config_edit.proofs.Becomes.{becomes_before, becomes_more, becomes_end, becomes_piece}
+use Rattle.config_edit.proofs.Cuts.{IsPartOf}
+use Rattle.config_edit.proofs.CutLoops.{CutMore, cut_begins, cut_step, stay_more, none_stay, entry_held, entries_join}
 
 -- texts one after the other
 pub holds_then : {section middle next : Option Section} {rest : List ℕ} (a b : List ℕ) {xs ys : List Content}
@@ -126,30 +126,48 @@ past_more {text = text} {rest = rest} {front = front} {section = section} piece 
       listable = listable_after piece.held piece.blanks.now piece.bytes.now piece.rest.now piece.is_line is.made section past.listable;
     }
 
-pub replacing_begins : (key : Key) (text : List ℕ) → Replacing key text text text [] None None false
-replacing_begins key text = ([], [], past_begins text, spec.none, refl, refl, refl)
+pub replacing_begins : (key : Key) (text : List ℕ) → Replacing key text text text [] None None false false
+replacing_begins key text =
+    ([], [], [], past_begins text, spec.none, refl, refl, refl, cut_begins text, none_stay key [], refl)
 
-pub replacing_passes : (key : Key) (text rest start new : List ℕ) (section : Option Section) (several : Bool)
+pub replacing_passes : (key : Key) (text rest start new : List ℕ) (section : Option Section) (several in_line : Bool)
     (found : Option Found) (piece : Piece)
-    → Replacing key text rest start new section found several → IsPiece rest piece
+    → Replacing key text rest start new section found several in_line → IsPiece rest piece
     → length piece.rest.now < length rest → ¬ (IsEntryHeld key section piece.held)
-    → Replacing key text piece.rest.now start new (section_after piece.held section) found several
-replacing_passes key text rest start new section several None piece (front, contents, past, nothing, start_is, new_is, several_is) is shorter other = (
-  front ++ piece.bytes.now,
-  contents ++ contents_in piece.held section,
-  past_more piece past is shorter,
-  without_both contents contents nothing (none_in piece.held section other),
-  start_is,
-  new_is,
-  several_is,
-)
-replacing_passes key text rest start new section several (Some f) piece r is shorter other =
+    → Replacing key text piece.rest.now start new (section_after piece.held section) found several (holds_header piece.held)
+replacing_passes key text rest start new section several in_line None piece
+    (front, contents, parts, past, nothing, start_is, new_is, several_is, cuts, stays, in_line_is) is shorter other =
+    let m = cut_step piece cuts is shorter in
+    let more = contents_in piece.held section in
+    let stay = stay_more parts m.part stays (λ of. other (entry_held piece.held piece.blanks.now piece.bytes.now piece.rest.now piece.is_line m.part key parts m.is_of cuts.section_is of)) in (
+      front ++ piece.bytes.now,
+      contents ++ more,
+      parts ++ m.part ∷ [],
+      past_more piece past is shorter,
+      without_both contents contents nothing (none_in piece.held section other),
+      start_is,
+      new_is,
+      several_is,
+      rw (length-append contents more) m.cut,
+      rw m.part_is at stay,
+      m.in_header,
+    )
+replacing_passes key text rest start new section several in_line (Some f) piece (r, in_line_is) is shorter other =
+    let first = r.parts ++ entry_part f.piece f.parts r.inner r.tail ∷ [] in
+    let m = cut_step piece r.cuts is shorter in
+    let more = contents_in piece.held section in
+    let x = content_of r.at f.parts in
+    let stay = stay_more r.later m.part r.stays (λ of. other (entry_held piece.held piece.blanks.now piece.bytes.now piece.rest.now piece.is_line m.part key (first ++ r.later) m.is_of r.cuts.section_is of)) in
+    let joined = append_assoc first r.later (m.part ∷ []) in
+    let count : length (r.before ++ x ∷ r.after) + length more ≡ length (r.before ++ x ∷ (r.after ++ more)) =
+    sym (length-append (r.before ++ x ∷ r.after) more) ∙ ap (λ l. length l) (append_assoc r.before (x ∷ r.after) more) in
+    let next : IsFound key text piece.rest.now start new (section_after piece.held section) f several =
     record {
       front = r.front;
       between = r.between ++ piece.bytes.now;
       before = r.before;
       left = r.left;
-      after = r.after ++ contents_in piece.held section;
+      after = r.after ++ more;
       at = r.at;
       joined = r.joined;
       start_is = r.start_is;
@@ -160,14 +178,26 @@ replacing_passes key text rest start new section several (Some f) piece r is sho
       is_entry = r.is_entry;
       is_of = r.is_of;
       others = r.others;
+      parts = r.parts;
+      inner = r.inner;
+      tail = r.tail;
+      later = r.later ++ m.part ∷ [];
+      left_is = r.left_is;
+      part_is = r.part_is;
+      section_is = r.section_is;
+      counted = r.counted;
+      in_line = r.in_line;
+      cuts = rw (joined, count) at m.cut;
       changes = r.changes;
+      stays = rw m.part_is at stay;
       between_is = passed_join (some_left rest piece.rest.now shorter) r.between_is
           (piece_passed piece is section);
       last = without_both r.after r.after r.last (none_in piece.held section other);
       listable = listable_after piece.held piece.blanks.now piece.bytes.now piece.rest.now piece.is_line is.made section r.listable;
       single = r.single;
       many = r.many;
-    }
+    } in
+    (next, m.in_header ∙ ap (λ p. ends_in_header p) joined)
 
 found_past : {key : Key} {text rest start new : List ℕ} {section : Option Section} {f : Found}
     {several : Bool}
@@ -185,31 +215,71 @@ found_past {rest = rest} {f = f} r =
       listable = r.listable;
     }
 
-pub looked_past : (key : Key) (text rest start new : List ℕ) (section : Option Section) (several : Bool)
-    (found : Option Found) → Replacing key text rest start new section found several
+pub looked_past : (key : Key) (text rest start new : List ℕ) (section : Option Section) (several in_line : Bool)
+    (found : Option Found) → Replacing key text rest start new section found several in_line
     → (front : List ℕ) × (contents : List Content) × IsPast text rest front contents section
-looked_past key text rest start new section several None (front, contents, past, nothing, s, n, o) =
+looked_past key text rest start new section several in_line None (front, contents, parts, past, n, s, e, o, c, t, i) =
     (front, contents, past)
-looked_past key text rest start new section several (Some f) r = (_, _, found_past r)
+looked_past key text rest start new section several in_line (Some f) (r, in_line_is) = (_, _, found_past r)
 
--- an entry of the key goes
-loses_entry : {name at blanks gone rest : List ℕ} {value : Option (List ℕ)} {lines : ℕ} {is_line : Bool}
-    (key : Key) (section : Option Section) (put : List ℕ) → IsOf key (section, name, value) → AreBlank blanks
-    → IsEntry name value lines at blanks gone rest is_line → IsEnd put → LosesEntry key section gone put rest
-loses_entry key section put is_of all entry is_end = (_, _, _, _, _, _, is_of, all, entry, is_end)
+-- the part of an entry
+pub one_entry_part : (piece : Piece) (parts : EntryParts) (between tail also other : List ℕ)
+    → tail ++ piece.rest.now ≡ other ++ piece.rest.now
+    → part_bytes (entry_part piece parts between tail) ≡ part_bytes (entry_part piece parts also other)
+    → (between ≡ also) × (tail ≡ other)
+one_entry_part piece parts between tail also other rests e =
+    let tails = append_cancel_right tail other piece.rest.now rests in
+    let raw = value_bytes (value_of parts.value) in
+    let key = parts.key.now in
+    let whole = append_cancel_left piece.blanks.now ((key ++ (between ++ raw)) ++ tail) ((key ++ (also ++ raw)) ++ other) e in
+    let fronts = append_cancel_right (key ++ (between ++ raw)) (key ++ (also ++ raw)) tail
+        (whole ∙ ap (λ t. (key ++ (also ++ raw)) ++ t) (sym tails)) in
+    let behind = append_cancel_left key (between ++ raw) (also ++ raw) fronts in
+    (append_cancel_right between also raw behind, tails)
+
+some_raw : {raw : Option (List ℕ)} {value : List ℕ} → HasValue raw value
+    → (bytes : List ℕ) × (raw ≡ Some bytes) × HasValue (Some bytes) value
+some_raw {raw = None} has = absurd has
+some_raw {raw = Some bytes} has = (bytes, refl, has)
+
+pub part_entry : {h : Held} {parts : EntryParts} {part : Part} (piece : Piece)
+    → IsPartOf h piece.blanks.now piece.bytes.now piece.rest.now piece.is_line part → h ≡ held.Entry parts
+    → (inner tail : List ℕ) × (part ≡ entry_part piece parts inner tail) × (parts.rest.now ≡ tail ++ piece.rest.now)
+part_entry piece is e = rw e at is
+
+found_cut : {text : List ℕ} {section : Option Section} {before : List Part} {piece : Piece} {parts : EntryParts} {part : Part}
+    (old : List Content) (x : Content) (m : CutMore text section (length old) before piece) → m.part ≡ part
+    → piece.held ≡ held.Entry parts → IsCut text piece.rest.now section (length (old ++ x ∷ [])) ((before ++ part ∷ []) ++ [])
+found_cut {section = section} {before = before} {piece = piece} {part = part} old x m part_is e =
+    rw (append-nil (before ++ part ∷ []), length-append old (x ∷ []), ← part_is)
+    (rw e at m.cut)
 
 -- one entry of the key more
-pub replacing_finds : (key : Key) (text rest start new : List ℕ) (section : Option Section) (several : Bool)
+is_entry_of : {at : Option Section} (key : Key) (before : List Part) (f : Found) (inner tail : List ℕ)
+    → section_from None before ≡ at → IsOf key (content_of at f.parts) → IsEntryOf key before (entry_part f.piece f.parts inner tail)
+is_entry_of key before f inner tail same of = rw same of
+
+left_end : {bytes : List ℕ} {in_line : Bool} (f : Found) (left : List ℕ) → LeavesEnd f.in_line f.piece.bytes.now f.piece.is_line left
+    → f.in_line ≡ in_line → bytes ≡ f.piece.bytes.now → LeavesEnd in_line bytes f.piece.is_line left
+left_end f left leaves same bytes_are = rw (same, ← bytes_are) at leaves
+
+pub replacing_finds : (key : Key) (text rest start new : List ℕ) (section : Option Section) (several in_line : Bool)
     (found : Option Found) (f : Found) (left between : List ℕ)
-    → Replacing key text rest start new section found several → IsPiece rest f.piece
+    → Replacing key text rest start new section found several in_line → f.in_line ≡ in_line → IsPiece rest f.piece
     → length f.piece.rest.now < length rest → f.piece.held ≡ held.Entry f.parts
     → IsOf key (content_of section f.parts) → IsLeft found left → start ≡ between ++ rest
     → Replacing key text f.piece.rest.now f.piece.rest.now (new ++ (left ++ between)) section (Some f) (is_some found)
-replacing_finds key text rest start new section several None f left between (front, contents, past, nothing, start_is, new_is, several_is) is shorter e is_of left_is cut =
+    (holds_header f.piece.held)
+replacing_finds key text rest start new section several in_line None f left between
+    (front, contents, parts, past, nothing, start_is, new_is, several_is, cuts, stays, in_line_is) f_line is shorter e is_of left_is joined =
     let between_is : between ≡ front =
-    append_cancel_right between front rest (sym cut ∙ start_is ∙ past.joined) in
+    append_cancel_right between front rest (sym joined ∙ start_is ∙ past.joined) in
     let holds = passed_holds (some_left rest f.piece.rest.now shorter) past.passed in
-    rw (new_is, left_is, between_is) (record {
+    let m = cut_step f.piece cuts is shorter in
+    let (inner, tail, part_is, left_of) = part_entry f.piece m.is_of e in
+    let part = entry_part f.piece f.parts inner tail in
+    let begun : IsFound key text f.piece.rest.now f.piece.rest.now front section f false =
+    record {
       front = front;
       between = [];
       before = contents;
@@ -225,27 +295,54 @@ replacing_finds key text rest start new section several None f left between (fro
       is_entry = rw e at is.made;
       is_of = is_of;
       others = nothing;
-      changes = spec.kept front spec.none;
+      parts = parts;
+      inner = inner;
+      tail = tail;
+      later = [];
+      left_is = left_of;
+      part_is = rw part_is at m.part_is;
+      section_is = cuts.section_is;
+      counted = cuts.counted;
+      in_line = f_line ∙ in_line_is;
+      cuts = found_cut contents (content_of section f.parts) m part_is e;
+      changes = λ value last below. stays value last [] cut.none;
+      stays = none_stay key (parts ++ part ∷ []);
       between_is = anywhere (holds_nothing section);
       last = spec.none;
       listable = past.listable;
-      single = λ one. (refl, refl);
+      single = λ one. refl;
       many = λ yes. absurd (true≢false (sym yes));
-    })
-replacing_finds key text rest start new section several (Some g) f left between r is shorter e is_of left_is cut =
+    } in
+    rw (new_is, left_is, between_is)
+    (begun, m.in_header ∙ ap (λ p. ends_in_header p) (ap (λ p. parts ++ p ∷ []) part_is ∙ sym (append-nil (parts ++ part ∷ []))))
+replacing_finds key text rest start new section several in_line (Some g) f left between (r, in_line_is) f_line is shorter e is_of
+    (is_end, leaves) joined =
     let some = some_left rest f.piece.rest.now shorter in
     let x = content_of r.at g.parts in
     let y = content_of section f.parts in
     let bytes = g.piece.bytes.now in
-    let between_is : between ≡ r.between = append_cancel_right between r.between rest (sym cut ∙ r.cut) in
+    let between_is : between ≡ r.between = append_cancel_right between r.between rest (sym joined ∙ r.cut) in
     let gap = passed_holds some r.between_is in
-    let loses = loses_entry key r.at left r.is_of r.blank (rw (← r.start_is) at r.is_entry) left_is in
-    let goes : Becomes (Comes text) (MayLose key) (r.front ++ bytes) start (new ++ left) =
-    spec.changed r.changes (r.front, r.joined, r.before_is) loses in
-    rw between_is (record {
+    let gone = entry_part g.piece g.parts r.inner r.tail in
+    let parts = (r.parts ++ gone ∷ []) ++ r.later in
+    let m = cut_step f.piece r.cuts is shorter in
+    let (inner, tail, part_is, left_of) = part_entry f.piece m.is_of e in
+    let part = entry_part f.piece f.parts inner tail in
+    let old = r.before ++ x ∷ r.after in
+    let goes : (value : List ℕ) (last : ℕ) → entries_in parts ≤ last
+    → EachBecomes (ReplacesPart key value last) parts (new ++ (left ++ r.between)) =
+    λ value last below.
+        let size = r.cuts.counted ∙ length-append r.before (x ∷ r.after) in
+        let here : entries_in r.parts < last = omega (arith, r.counted, size, below) in
+        let leave = left_end g left leaves r.in_line r.part_is in
+        let step = cut.next gone left (r.changes value last (omega arith))
+            (spec.goes (is_entry_of key r.parts g r.inner r.tail r.section_is r.is_of) here leave) in
+        rw (append_assoc new left r.between) at (r.stays value last (new ++ left) step) in
+    let found : IsFound key text f.piece.rest.now f.piece.rest.now (new ++ (left ++ r.between)) section f true =
+    record {
       front = r.front ++ (bytes ++ r.between);
       between = [];
-      before = r.before ++ x ∷ r.after;
+      before = old;
       left = r.left ++ r.after;
       after = [];
       at = section;
@@ -254,122 +351,97 @@ replacing_finds key text rest start new section several (Some g) f left between 
       cut = refl;
       before_is = passed_holds some (found_past r).passed;
       now_is = holds_join new (left ++ r.between) r.now_is
-          (holds_join left r.between (end_holds r.at left left_is) gap);
+          (holds_join left r.between (end_holds r.at left is_end) gap);
       blank = is.blank;
       is_entry = rw e at is.made;
       is_of = is_of;
       others = without_both r.before r.left r.others
           (without_both (x ∷ []) [] (spec.lost x spec.none r.is_of tt) r.last);
-      changes = rw (← append_assoc r.front bytes r.between, ← append_assoc new left r.between)
-          (spec.kept r.between (becomes_before goes (r.cut ∙ ap (λ s. r.between ++ s) is.joined)));
+      parts = parts;
+      inner = inner;
+      tail = tail;
+      later = [];
+      left_is = left_of;
+      part_is = rw part_is at m.part_is;
+      section_is = r.cuts.section_is;
+      counted = r.cuts.counted;
+      in_line = f_line ∙ in_line_is;
+      cuts = found_cut old y m part_is e;
+      changes = goes;
+      stays = none_stay key (parts ++ part ∷ []);
       between_is = anywhere (holds_nothing section);
       last = spec.none;
       listable = r.listable;
       single = λ one. absurd (true≢false one);
       many = λ m. (r.before, r.after, [], x, y, append_assoc r.before (x ∷ r.after) (y ∷ []), r.is_of, is_of);
-    })
-
--- only the bytes of a value change
-pub given_in : {value put start : List ℕ} {before : List Content} {section : Option Section} {parts : EntryParts}
-    {piece : Piece} (front : List ℕ)
-    → Holds None (front ++ piece.blanks.now) before section → IsGiven parts piece value put
-    → start ≡ piece.rest.now
-    → ChangesIn (GivesValue value parts.key.now (value_of parts.value)) before section
-    (front ++ (piece.bytes.now ++ start)) (front ++ (put ++ start))
-given_in {start = start} {piece = piece} front holds g start_is =
-    record {
-      front = front ++ piece.blanks.now;
-      gone = g.gone;
-      put = g.now;
-      rest = g.tail ++ start;
-      old_is = rw g.bytes_are (simp append_assoc);
-      new_is = rw g.put_is (simp append_assoc);
-      holds = holds;
-      may = rw start_is g.gives;
-    }
+    } in
+    rw between_is
+    (found, m.in_header ∙ ap (λ p. ends_in_header p) (ap (λ p. parts ++ p ∷ []) part_is ∙ sym (append-nil (parts ++ part ∷ []))))
 
 -- at the end of the text
-pub none_replaced : (key : Key) (text rest start new : List ℕ) (section : Option Section) (several : Bool)
-    → Replacing key text rest start new section None several → rest ≡ []
+pub none_replaced : (key : Key) (text rest start new : List ℕ) (section : Option Section) (several in_line : Bool)
+    → Replacing key text rest start new section None several in_line → rest ≡ []
     → (contents : List Content) × Ends None text contents × HasNone key contents
-none_replaced key text rest start new section several (front, contents, past, nothing, start_is, new_is, several_is) none =
+none_replaced key text rest start new section several in_line (front, contents, parts, past, nothing, s, e, o, c, t, i) none =
     let text_is = rw (none, append-nil) at past.joined in
     (contents, rw text_is (passed_ends none past.passed), nothing)
 
--- the piece of the last entry of the key stays, or only the bytes of its value change
-replaced_here : {key : Key} {text rest start new value put : List ℕ} {section : Option Section} {several : Bool} {f : Found}
-    (r : IsFound key text rest start new section f several)
-    → (put ≡ f.piece.bytes.now) ⊎ (IsGiven f.parts f.piece value put)
-    → Becomes (Comes text) (MayReplace key value) (r.front ++ (f.piece.bytes.now ++ start)) [] (new ++ (put ++ start))
-replaced_here {key = key} {text = text} {start = start} {new = new} {value = value} {f = f} r either =
-    let bytes = f.piece.bytes.now in
-    let loses : Becomes (Comes text) (MayReplace key value) r.front (bytes ++ start) new =
-    becomes_more (λ before at left place. place) (λ before at gone now left loses. inl loses) r.changes in
-    elim either [
-      | inl same ↦ rw same (becomes_end (bytes ++ start) loses)
-      | inr g ↦
-          let blanks = f.piece.blanks.now in
-          let was = blanks ++ (g.gone ++ g.tail) in
-          let is = blanks ++ (g.now ++ g.tail) in
-          let place = comes_blanks r.front blanks (g.gone ++ (g.tail ++ start)) r.joined
-          (rw g.bytes_are (simp append_assoc)) r.blank r.before_is in
-          let gives : MayReplace key value r.before r.at g.gone g.now (g.tail ++ start) =
-          inr (f.parts.key.now, value_of f.parts.value, r.is_of, rw r.start_is g.gives) in
-          let step = becomes_piece blanks g.gone g.now g.tail start (rw g.bytes_are at loses) place gives in
-          rw (g.bytes_are, g.put_is, ← append_assoc r.front was start, ← append_assoc new is start)
-          (becomes_end start step)
-    ]
+-- the entry of a piece gets the value
+gives_of : {value put : List ℕ} {piece : Piece} {parts : EntryParts} (s : IsShaped parts.key.now (Some value) parts piece put)
+    (inner tail : List ℕ)
+    → parts.rest.now ≡ tail ++ piece.rest.now → part_bytes (entry_part piece parts inner tail) ≡ piece.bytes.now
+    → GivesValue value (entry_part piece parts inner tail) put
+gives_of {piece = piece} {parts = parts} s inner tail left part_is =
+    let (inners, tails) = one_entry_part piece parts s.between s.tail inner tail (sym s.left ∙ left) (sym s.bytes_are ∙ sym part_is) in
+    rw (← inners, ← tails) (s.bytes, s.is_valued, s.put_is)
 
 pub one_replaced : {key : Key} {text rest start new value put : List ℕ}
-    {section : Option Section} {several : Bool} {f : Found}
-    → IsFound key text rest start new section f several
-    → rest ≡ [] → IsSet f.parts f.piece value put
+    {section : Option Section} {several in_line : Bool} {f : Found}
+    → Replacing key text rest start new section (Some f) several in_line
+    → rest ≡ [] → IsValued (Some value) f.parts f.piece put
     → (contents : List Content) × Ends None text contents × IsReplaced key value text contents (new ++ (put ++ start)) several
 one_replaced {key = key} {text = text} {start = start} {new = new} {value = value} {put = put}
-    {section = section} {f = f} found rest_is set =
+    {section = section} {f = f} (found, in_line_is) rest_is set =
     let r = rw rest_is at found in
     let x : Content = content_of r.at f.parts in
-    let now_x : Content = (r.at, f.parts.key.now, Some set.raw) in
+    let now_x : Content = (r.at, f.parts.key.now, set.raw) in
     let start_is : start ≡ r.between = r.cut ∙ append-nil r.between in
     let past = found_past r in
     let follows : f.piece.rest.now ≡ r.between ++ [] = sym r.start_is ∙ r.cut in
     let entry_now = rw follows at (entry_passed f.piece.blanks.now f.piece.is_line r.blank set.entry r.at) in
     let passed_now = holds_then new (put ++ r.between) r.now_is
-    (passed_then put r.between entry_now r.between_is) in (
+    (passed_then put r.between entry_now r.between_is) in
+    let part = entry_part f.piece f.parts r.inner r.tail in
+    let last = length r.before in
+    let gives = spec.gets (is_entry_of key r.parts f r.inner r.tail r.section_is r.is_of) r.counted
+        (gives_of set.shaped r.inner r.tail r.left_is r.part_is) in
+    let changed : EachBecomes (ReplacesPart key value last) (r.parts ++ part ∷ []) (new ++ put) =
+    cut.next part put (r.changes value last (omega (arith, r.counted))) gives in
+    let becomes = rw (append_assoc new put r.between, ← start_is) at (r.stays value last (new ++ put) changed) in
+    let cuts = rw append-nil at (r.cuts.cuts [] cut.ends) in
+    let (raw, raw_is, has) = some_raw set.value_is in (
       r.before ++ x ∷ r.after,
       rw (past.joined, append-nil) (passed_ends refl past.passed),
       record {
         now = r.left ++ now_x ∷ r.after;
+        parts = (r.parts ++ part ∷ []) ++ r.later;
         ends = rw start_is (passed_ends refl passed_now);
         replaces = record {
           before = r.before;
           left = r.left;
           after = r.after;
           x = x;
-          raw = set.raw;
+          raw = raw;
           old_is = refl;
           is_of = r.is_of;
           last = r.last;
           others = r.others;
-          has_value = set.has_value;
-          new_is = refl;
+          has_value = has;
+          new_is = ap (λ v. r.left ++ (r.at, f.parts.key.now, v) ∷ r.after) raw_is;
         };
-        changes = rw (← r.joined) at (replaced_here r (elim set.given [
-          | inl same ↦ inl same.1
-          | inr other ↦ inr other.1
-        ]));
-        single = λ one.
-            let (new_is, left_is) = r.single one in (
-              rw left_is at r.others,
-              rw (new_is, r.joined) (elim set.given [
-                | inl same ↦ inl (same.0, ap (λ p. r.front ++ (p ++ start)) same.1)
-                | inr other ↦ inr (
-                  other.0,
-                  given_in r.front (holds_blanks r.front f.piece.blanks.now r.blank r.before_is) other.1
-                      r.start_is,
-                )
-              ]),
-            );
+        cuts = cuts;
+        becomes = becomes;
+        single = λ one. (r.before, r.after, x, refl, r.is_of, rw (r.single one) at r.others, r.last);
         many = λ yes.
             let (before, between, after, a, b, e, is_a, is_b) = r.many yes in
             let all_is = simp append_assoc at (ap (λ c. c ++ r.after) e) in

@@ -10,9 +10,11 @@ use Rattle.config_file.specs.Bytes.{tab, line_feed, carriage_return, dot, space,
 use Rattle.config_file.specs.Bytes.{is_blank, is_space, is_comment_sign, is_comment_byte, hash}
 use Rattle.config_file.specs.Header.{Section, Header}
 use Rattle.config_file.specs.Value.{Ending, SpellsValue, outside, at_backslash}
-use Rattle.config_file.specs.Spelling.{SpellsSection, IsGitHeader, IsGitSpelling, HasNoHeader, LacksSpelling}
+use Rattle.config_file.specs.Spelling.{IsGitHeader, IsGitSpelling, HasNoHeader, LacksSpelling}
 use Rattle.config_file.specs.File.{Entry, TakesEntry, Begins, IsFile}
-use Rattle.config_edit.specs.Reached.{Leads}
+use Rattle.config_edit.specs.Cut as cut
+use Rattle.config_edit.specs.Cut.{AreBlank, IsTail, value_bytes, Part, HasParts, BecomesParts, part_bytes, parts_bytes}
+use Rattle.config_edit.specs.Cut.{section_after, ends_line, ends_in_header, entries_in}
 use Rattle.config_file.specs.Bytes.{BeginsWithLetter}
 use Rattle.config_file.specs.Listing.{IsListedSection}
 use Rattle.config_file.specs.declared.key.KeyError.{KeyError}
@@ -36,71 +38,9 @@ abbrev pub IsIn : Key → Option Section → Type 0
 IsIn key None = ⊥
 IsIn key (Some section) = IsListedSection section (stem key ++ dot ∷ [])
 
--- the entries of the sections of the first key are in the section of the second one now
-pub data Renames (from to : Key) : List Content → List Content → Type 0 where
-  none : Renames from to [] []
-  renamed : (x : Content) (section : Section) {old new : List Content}
-      → Renames from to old new → IsIn from x.0 → SpellsSection section to.section to.subsection
-      → Renames from to (old ++ x ∷ []) (new ++ (Some section, x.1, x.2) ∷ [])
-  kept : (x : Content) {old new : List Content}
-      → Renames from to old new → ¬ (IsIn from x.0)
-      → Renames from to (old ++ x ∷ []) (new ++ x ∷ [])
-
--- The reading of this text comes to this rest: before it are entries of these contents, and it is in this section.
-pub record Reaches (text : List ℕ) (before : List Content) (section : Option Section) (rest : List ℕ) : Type 0 where
-  pub line : ℕ
-  pub body : List ℕ
-  pub end : ℕ
-  pub entries : List Entry
-  pub begins : Begins text line body
-  pub leads : Leads None line body entries section end rest
-  pub contents_are : map content entries ≡ before
-
--- the reading of the text comes to this rest, in any section
-abbrev pub ReachesBehind : List ℕ → List Content → List ℕ → Type 0
-ReachesBehind text before rest = (section : Option Section) × Reaches text before section rest
-
--- Before this rest, the old text becomes the new one: its bytes stay, or stretches of them change as this allows. Each begins at
--- a place that the reading comes to, behind these contents and in this section.
-pub data Becomes (Place : List Content → Option Section → List ℕ → Type 0)
-    (May : List Content → Option Section → List ℕ → List ℕ → List ℕ → Type 0) : List ℕ → List ℕ → List ℕ → Type 0 where
-  none : {rest : List ℕ} → Becomes Place May [] rest []
-  kept : {old new rest : List ℕ} (bytes : List ℕ)
-      → Becomes Place May old (bytes ++ rest) new → Becomes Place May (old ++ bytes) rest (new ++ bytes)
-  changed : {old new gone put rest : List ℕ} {before : List Content} {section : Option Section}
-      → Becomes Place May old (gone ++ rest) new → Place before section (gone ++ rest)
-      → May before section gone put rest
-      → Becomes Place May (old ++ gone) rest (new ++ put)
-
--- the new text is the old one, of which stretches have changed as this allows, each where it stands
-abbrev pub Changes : (List Content → Option Section → List ℕ → List ℕ → List ℕ → Type 0) → List ℕ → List ℕ → Type 0
-Changes May old new = Becomes (Reaches old) May old [] new
-
--- whatever follows them, these bytes are a header of a section of the key
-abbrev pub IsHeaderOf : Key → List ℕ → Type 0
-IsHeaderOf key bytes = (inner : List ℕ) × (section : Section) × (bytes ≡ left_bracket ∷ inner)
-    × ((other : List ℕ) → Header (inner ++ other) section other) × IsIn key (Some section)
-
 -- these bytes are the header of the section of the key that is written
 abbrev pub IsWrittenHeader : Key → List ℕ → Type 0
 IsWrittenHeader key bytes = IsGitHeader bytes key.section key.subsection
-
--- a header of the first key may become one of the second
-abbrev pub RenamesHeader : Key → Key → List Content → Option Section → List ℕ → List ℕ → List ℕ → Type 0
-RenamesHeader from to before section gone put rest = IsHeaderOf from gone × IsWrittenHeader to put
-
--- the section of this name is that of the key
-abbrev pub NamesSection : List ℕ → Key → Type 0
-NamesSection name key = IsKey (name ++ dot ∷ 120 ∷ []) key
-
--- The new text is a file with the entries of the old one, but those of the sections of the old name are in the section of
--- the new name, and only headers have changed. If the names are equal, it is the old text.
-abbrev pub RenamesSection : List ℕ → List ℕ → List ℕ → List ℕ → Type 0
-RenamesSection old_name new_name old new = (contents : List Content) × HasContents old contents
-    × (((old_name ≡ new_name) × (new ≡ old))
-    ⊎ ((from : Key) × (to : Key) × NamesSection old_name from × NamesSection new_name to
-    × (now : List Content) × HasContents new now × Renames from to contents now
-    × Changes (RenamesHeader from to) old new))
 
 -- the content is that of an entry of the key
 abbrev pub IsOf : Key → Content → Type 0
@@ -138,6 +78,11 @@ HasNone key contents = HasNoneAt None key contents
 abbrev pub HasSeveral : Key → List Content → Type 0
 HasSeveral key contents = (before between after : List Content) × (x y : Content)
     × (contents ≡ before ++ x ∷ (between ++ y ∷ after)) × IsOf key x × IsOf key y
+
+-- one of the contents is of the key
+abbrev pub HasOne : Key → List Content → Type 0
+HasOne key contents = (before after : List Content) × (x : Content)
+    × (contents ≡ before ++ x ∷ after) × IsOf key x × HasNone key before × HasNone key after
 
 -- one of the contents is of the key, and now it is gone
 pub record LosesOne (key : Key) (old new : List Content) : Type 0 where
@@ -177,25 +122,6 @@ IsLineEnd bytes = (bytes ≡ line_feed ∷ []) ⊎ (bytes ≡ carriage_return �
 abbrev pub IsEnd : List ℕ → Type 0
 IsEnd bytes = (bytes ≡ []) ⊎ IsLineEnd bytes
 
-abbrev pub AreBlank : List ℕ → Type 0
-AreBlank bytes = list_all is_blank bytes ≡ true
-
--- nothing, or a comment
-pub data IsComment : List ℕ → Type 0 where
-  absent : IsComment []
-  present : {sign : ℕ} {bytes : List ℕ}
-      → is_comment_sign sign ≡ true → list_all is_comment_byte bytes ≡ true
-      → IsComment (sign ∷ bytes)
-
--- what is left of a line: blanks, a comment or none, and the line end, or the end of the text
-pub record IsTail (tail rest : List ℕ) (is_line : Bool) : Type 0 where
-  pub blanks : List ℕ
-  pub comment : List ℕ
-  pub are_blank : AreBlank blanks
-  pub is_comment : IsComment comment
-  pub ends : ((is_line ≡ true) × (tail ≡ blanks ++ (comment ++ line_feed ∷ [])))
-      ⊎ ((is_line ≡ false) × (rest ≡ []) × (tail ≡ blanks ++ comment))
-
 -- blanks, an entry of this key and this value before this text, and what is left of its line
 pub record IsEntry
     (key : List ℕ) (value : Option (List ℕ)) (lines : ℕ) (at blanks bytes rest : List ℕ) (is_line : Bool)
@@ -208,104 +134,88 @@ pub record IsEntry
   pub is_tail : IsTail tail rest is_line
   pub joined : bytes ≡ blanks ++ (front ++ tail)
 
--- In this section and before this rest, an entry of the key goes with its line. The line end may stay, if a header precedes the
--- entry on it.
-abbrev pub LosesEntry : Key → Option Section → List ℕ → List ℕ → List ℕ → Type 0
-LosesEntry key section gone put rest =
-    (name : List ℕ) × (value : Option (List ℕ)) × (lines : ℕ) × (at blanks : List ℕ) × (is_line : Bool)
-    × IsOf key (section, name, value) × AreBlank blanks × IsEntry name value lines at blanks gone rest is_line × IsEnd put
-
--- behind these contents, an entry of the key that is at one of the places goes
-abbrev pub LosesEntryAt : Key → Option (List ℕ) → List Content → Option Section → List ℕ → List ℕ → List ℕ → Type 0
-LosesEntryAt key places before section gone put rest =
-    IsPlaceOf places (length before) × LosesEntry key section gone put rest
-
--- Before this rest and behind these contents: nothing, blanks up to the end of a line, or an entry of the key in this
--- section, at one of the places.
-abbrev pub IsLostTail : Key → Option (List ℕ) → List Content → Section → List ℕ → List ℕ → Type 0
-IsLostTail key places before section bytes rest =
-    (bytes ≡ []) ⊎ ((is_line : Bool) × (t : IsTail bytes rest is_line) × (t.comment ≡ []))
-    ⊎ LosesEntryAt key places before (Some section) bytes [] rest
-
--- A header of a section of the key goes, alone or with what its line has left: blanks, or an entry of the key at one of
--- the places.
-pub record LosesHeader (key : Key) (places : Option (List ℕ)) (before : List Content) (gone put rest : List ℕ) : Type 0 where
-  pub blanks : List ℕ
-  pub header : List ℕ
-  pub tail : List ℕ
-  pub joined : gone ≡ blanks ++ (header ++ tail)
-  pub are_blank : AreBlank blanks
-  pub is_header : IsHeaderOf key header
-  pub is_tail : IsLostTail key places before is_header.1 tail rest
-  pub is_end : IsEnd put
-
--- an entry of the key at one of the places goes, or the header of a section that has none left
-abbrev pub MayUnset : Key → Option (List ℕ) → List Content → Option Section → List ℕ → List ℕ → List ℕ → Type 0
-MayUnset key places before section gone put rest =
-    LosesEntryAt key places before section gone put rest ⊎ LosesHeader key places before gone put rest
-
--- nothing, or a space
-abbrev pub IsGap : List ℕ → Type 0
-IsGap bytes = (bytes ≡ []) ⊎ (bytes ≡ space ∷ [])
+-- a space where this holds, and otherwise nothing
+pub data SpaceIf (Wanted : Type 0) : List ℕ → Type 0 where
+  wanted : Wanted → SpaceIf Wanted (space ∷ [])
+  unwanted : ¬ Wanted → SpaceIf Wanted []
 
 -- there are bytes, of which neither the first nor the last is a blank
 abbrev pub IsCore : List ℕ → Type 0
 IsCore bytes = (bytes ≢ []) × ((b : ℕ) (more : List ℕ) → bytes ≡ b ∷ more → is_blank b ≡ false)
     × ((more : List ℕ) (b : ℕ) → bytes ≡ more ++ b ∷ [] → is_blank b ≡ false)
 
--- The new text is the old one, of which one stretch has changed as this allows. It begins where the reading comes behind
--- these contents, in this section.
-pub record ChangesAt (May : List ℕ → List ℕ → List ℕ → Type 0) (before : List Content) (section : Option Section)
-    (old new : List ℕ) : Type 0 where
-  pub front : List ℕ
-  pub gone : List ℕ
-  pub put : List ℕ
-  pub rest : List ℕ
-  pub old_is : old ≡ front ++ (gone ++ rest)
-  pub new_is : new ≡ front ++ (put ++ rest)
-  pub reaches : Reaches old before section (gone ++ rest)
-  pub may : May gone put rest
+-- The blanks before a first value and those behind it: one comes before it, if there is one. A CR alone comes behind it, since
+-- it belongs to the line end.
+pub data PartsBlanks : List ℕ → List ℕ → Type 0 where
+  none : PartsBlanks [] []
+  return : PartsBlanks [] (carriage_return ∷ [])
+  first : {b : ℕ} {trail : List ℕ} → ¬ ((b ≡ carriage_return) × (trail ≡ [])) → PartsBlanks (b ∷ []) trail
 
--- the bytes of a value, of which there are none if only a key stands
-abbrev pub value_bytes : Option (List ℕ) → List ℕ
-value_bytes None = []
-value_bytes (Some raw) = raw
+-- the bytes begin with a comment sign
+abbrev pub BeginsWithSign : List ℕ → Type 0
+BeginsWithSign bytes = (sign : ℕ) × (more : List ℕ) × (bytes ≡ sign ∷ more) × (is_comment_sign sign ≡ true)
 
--- The bytes of a value become those of another one: blanks around it stay. If the old one has only blanks, all of them stay,
--- and behind a key alone a sign comes before the value.
-pub data PutsValue (value : List ℕ) : Option (List ℕ) → List ℕ → Type 0 where
+-- The bytes of a value, between these bytes behind the key and what is left of the line, become those of another one: blanks
+-- around it stay. If the old one has only blanks, all of them stay: a space is put before the value if it would touch an `=`
+-- behind blanks, and one behind it if it would touch a comment. Behind a key alone comes ` = value`, or `= value` if blanks are there.
+pub data PutsValue (value between tail : List ℕ) : Option (List ℕ) → List ℕ → Type 0 where
   in_place : {core spelling : List ℕ} (lead trail : List ℕ)
       → AreBlank lead → IsCore core → AreBlank trail → IsGitSpelling spelling value
-      → PutsValue value (Some (lead ++ (core ++ trail))) (lead ++ (spelling ++ trail))
+      → PutsValue value between tail (Some (lead ++ (core ++ trail))) (lead ++ (spelling ++ trail))
   in_blanks : {gap spelling later : List ℕ} (lead trail : List ℕ)
-      → AreBlank (lead ++ trail) → IsGap gap → IsGitSpelling spelling value → IsGap later
-      → PutsValue value (Some (lead ++ trail)) (lead ++ ((gap ++ (spelling ++ later)) ++ trail))
+      → AreBlank (lead ++ trail) → PartsBlanks lead trail
+      → SpaceIf ((lead ≡ []) × (between ≢ equals_sign ∷ [])) gap → IsGitSpelling spelling value
+      → SpaceIf ((trail ≡ []) × BeginsWithSign tail) later
+      → PutsValue value between tail (Some (lead ++ trail)) (lead ++ ((gap ++ (spelling ++ later)) ++ trail))
   behind_key : {gap spelling : List ℕ}
-      → IsGap gap → IsGitSpelling spelling value
-      → PutsValue value None (gap ++ equals_sign ∷ space ∷ spelling)
+      → SpaceIf (between ≡ []) gap → IsGitSpelling spelling value
+      → PutsValue value between tail None (gap ++ equals_sign ∷ space ∷ spelling)
 
--- before this rest, an entry of this key and this value gets another value: all that precedes the old one stays
-pub record GivesValue (value key : List ℕ) (was : Option (List ℕ)) (gone put rest : List ℕ) : Type 0 where
-  pub lines : ℕ
-  pub front : List ℕ
-  pub bytes : List ℕ
-  pub begins : BeginsWithLetter (gone ++ rest)
-  pub takes : TakesEntry (gone ++ rest) key was lines rest
-  pub gone_is : gone ≡ front ++ value_bytes was
-  pub put_is : put ≡ front ++ bytes
-  pub puts : PutsValue value was bytes
+-- the bytes of a value become those of this one, or stay if they spell it
+abbrev pub ChangesValueTo : List ℕ → List ℕ → List ℕ → Option (List ℕ) → List ℕ → Type 0
+ChangesValueTo value between tail was bytes =
+    (HasValue was value × (bytes ≡ value_bytes was)) ⊎ (¬ (HasValue was value) × PutsValue value between tail was bytes)
 
--- The entry of this content, behind these others, has this value, and the text stays; or the bytes of its value have become
--- those of this one, and all other bytes stay.
-abbrev pub SetsBytes : List ℕ → List Content → Content → List ℕ → List ℕ → Type 0
-SetsBytes value before x old new =
-    (HasValue x.2 value × (new ≡ old))
-    ⊎ (¬ (HasValue x.2 value) × ChangesAt (GivesValue value x.1 x.2) before x.0 old new)
+-- an entry gets this value, and its other bytes stay
+abbrev pub GivesValue : List ℕ → Part → List ℕ → Type 0
+GivesValue value (cut.entry blanks key between was tail is_line) put =
+    (bytes : List ℕ) × ChangesValueTo value between tail was bytes × (put ≡ blanks ++ ((key ++ (between ++ bytes)) ++ tail))
+GivesValue value _ put = ⊥
 
--- an entry of the key goes, or the bytes of its value become those of this one
-abbrev pub MayReplace : Key → List ℕ → List Content → Option Section → List ℕ → List ℕ → List ℕ → Type 0
-MayReplace key value before section gone put rest = LosesEntry key section gone put rest
-    ⊎ ((name : List ℕ) × (was : Option (List ℕ)) × IsOf key (section, name, was) × GivesValue value name was gone put rest)
+-- behind these parts, the part is an entry of the key
+abbrev pub IsEntryOf : Key → List Part → Part → Type 0
+IsEntryOf key before (cut.entry blanks name between value tail is_line) = IsOf key (section_after before, name, value)
+IsEntryOf key before _ = ⊥
+
+-- the line end of these bytes: CR LF if they have it, and nothing if none ends their line
+pub data IsEndOfLine : List ℕ → Bool → List ℕ → Type 0 where
+  unended : {bytes : List ℕ} → IsEndOfLine bytes false []
+  feed : {bytes : List ℕ} → ((front : List ℕ) → bytes ≢ front ++ carriage_return ∷ line_feed ∷ [])
+      → IsEndOfLine bytes true (line_feed ∷ [])
+  return_feed : (front : List ℕ)
+      → IsEndOfLine (front ++ carriage_return ∷ line_feed ∷ []) true (carriage_return ∷ line_feed ∷ [])
+
+-- the last line end of a text, if it has one
+abbrev pub IsLastLineEnd : List ℕ → Option (List ℕ) → Type 0
+IsLastLineEnd text None = list_all is_comment_byte text ≡ true
+IsLastLineEnd text (Some end) = (front back : List ℕ) × (text ≡ front ++ line_feed ∷ back)
+    × (list_all is_comment_byte back ≡ true) × IsEndOfLine (front ++ line_feed ∷ []) true end
+
+-- of these bytes, which a line end ends or not, the line end stays, or nothing
+abbrev pub LeavesEnd : Bool → List ℕ → Bool → List ℕ → Type 0
+LeavesEnd true bytes is_line put = IsEndOfLine bytes is_line put
+LeavesEnd false bytes is_line put = put ≡ []
+
+-- Of the entries of the key, the one behind this many entries gets the value. Those before it go with their lines, but for the
+-- line end if a header is on the line. Every other part stays.
+pub data ReplacesPart (key : Key) (value : List ℕ) (last : ℕ) (before : List Part) (part : Part) : List ℕ → Type 0 where
+  goes : {put : List ℕ}
+      → IsEntryOf key before part → entries_in before < last → LeavesEnd (ends_in_header before) (part_bytes part) (ends_line part) put
+      → ReplacesPart key value last before part put
+  gets : {put : List ℕ}
+      → IsEntryOf key before part → entries_in before ≡ last → GivesValue value part put
+      → ReplacesPart key value last before part put
+  stays : ¬ (IsEntryOf key before part) → ReplacesPart key value last before part (part_bytes part)
 
 -- the values have the same bytes, or spell the same text
 abbrev pub SameValue : Option (List ℕ) → Option (List ℕ) → Type 0
@@ -346,134 +256,115 @@ pub record AddsContent (key : Key) (value : List ℕ) (old new : List Content) :
 
 -- a TAB, the key, ` = `, this spelling of its value, and a line end
 abbrev pub entry_line : List ℕ → List ℕ → List ℕ → List ℕ
-entry_line name spelling feed = tab ∷ (name ++ (space ∷ equals_sign ∷ space ∷ (spelling ++ feed)))
+entry_line name spelling end = tab ∷ (name ++ (space ∷ equals_sign ∷ space ∷ (spelling ++ end)))
 
--- a header of the key and a line end, at the end of a text without entries in that section; or nothing
-abbrev pub IsNewHeader : Key → List Content → List ℕ → List ℕ → List ℕ → Type 0
-IsNewHeader key contents back feed bytes =
-    (bytes ≡ []) ⊎ ((header : List ℕ) × IsWrittenHeader key header
-    × (bytes ≡ header ++ feed) × (back ≡ []) × NoneIn key contents)
+-- whether a part is a header or an entry
+abbrev pub is_item : Part → Bool
+is_item (cut.line tail is_line) = false
+is_item part = true
 
--- after any blanks, the text has no comment
-abbrev pub NoCommentNext : List ℕ → Type 0
-NoCommentNext text =
-    (blanks more : List ℕ) (b : ℕ) → text ≡ blanks ++ b ∷ more → AreBlank blanks → is_comment_sign b ≡ false
+-- Behind these parts a new entry of the key can stand: in its section, they end in a header or an entry, or in what is left of
+-- the line of a header.
+abbrev pub CanFollow : Key → List Part → Type 0
+CanFollow key parts = (before : List Part) × (last : Part) × (parts ≡ before ++ last ∷ []) × IsIn key (section_after parts)
+    × ((is_item last ≡ true) ⊎ (ends_in_header before ≡ true))
 
--- the front ends a line, or no comment follows it on its line
-abbrev pub IsApart : List ℕ → List ℕ → Type 0
-IsApart front back = ((line : List ℕ) × (front ≡ line ++ line_feed ∷ [])) ⊎ NoCommentNext back
+-- the last place of these parts where a new entry of the key can stand, or their end and a new header if it can nowhere
+pub data IsPlace (key : Key) (header feed : List ℕ) : List Part → List Part → List ℕ → Type 0 where
+  inside : {front back : List Part}
+      → CanFollow key front → ((more left : List Part) → back ≡ more ++ left → CanFollow key (front ++ more) → more ≡ [])
+      → IsPlace key header feed front back []
+  at_end : {parts : List Part}
+      → ((front back : List Part) → parts ≡ front ++ back → ¬ (CanFollow key front)) → IsWrittenHeader key header
+      → IsPlace key header feed parts [] (header ++ feed)
 
--- The new text is the old one with one line more, which has the key and the value, at a place behind these contents: a line
--- end is put before it where one is missing, or two if a backslash ends the text, and a header if the key has no section.
-pub record PutsLine (Place : List Content → List ℕ → Type 0) (key : Key) (value : List ℕ) (contents before : List Content)
-    (old new : List ℕ) : Type 0 where
-  pub front : List ℕ
-  pub back : List ℕ
+-- a backslash ends the text of an entry
+abbrev pub IsOpen : Part → Type 0
+IsOpen (cut.entry blanks key between (Some raw) tail is_line) = (value : List ℕ) × SpellsValue raw value at_backslash
+IsOpen _ = ⊥
+
+-- What ends the last line of these parts: nothing if it is ended, a line end, or two behind a backslash, which would go on over
+-- the first one.
+pub data EndsParts (feed : List ℕ) : List Part → List ℕ → Type 0 where
+  empty : EndsParts feed [] []
+  ended : (before : List Part) (last : Part)
+      → ends_line last ≡ true → EndsParts feed (before ++ last ∷ []) []
+  unended : (before : List Part) (last : Part)
+      → ends_line last ≡ false → ¬ (IsOpen last) → EndsParts feed (before ++ last ∷ []) feed
+  open_entry : (before : List Part) (last : Part)
+      → ends_line last ≡ false → IsOpen last → EndsParts feed (before ++ last ∷ []) (feed ++ feed)
+
+-- the line end behind this front of a text: its last one, otherwise that of the text, otherwise LF
+pub data IsFeedAt (front text : List ℕ) : List ℕ → Type 0 where
+  of_front : {feed : List ℕ} → IsLastLineEnd front (Some feed) → IsFeedAt front text feed
+  of_text : {feed : List ℕ} → IsLastLineEnd front None → IsLastLineEnd text (Some feed) → IsFeedAt front text feed
+  of_none : IsLastLineEnd text None → IsFeedAt front text (line_feed ∷ [])
+
+-- The new text is the old one with one line more, which has the key and the value, and stands where a new entry does.
+pub record PutsLine (key : Key) (value old new : List ℕ) : Type 0 where
+  pub mark : List ℕ
+  pub front : List Part
+  pub back : List Part
   pub feed : List ℕ
   pub ends : List ℕ
   pub header : List ℕ
+  pub headed : List ℕ
   pub spelling : List ℕ
-  pub old_is : old ≡ front ++ back
-  pub new_is : new ≡ front ++ (ends ++ (header ++ (entry_line key.name spelling feed ++ back)))
-  pub is_feed : IsLineEnd feed
-  pub are_ends : (ends ≡ []) ⊎ (ends ≡ feed) ⊎ (ends ≡ feed ++ feed)
-  pub place : Place before back
-  pub apart : IsApart front back
-  pub is_header : IsNewHeader key contents back feed header
+  pub has_parts : HasParts old mark (front ++ back)
+  pub is_feed : IsFeedAt (parts_bytes front) (parts_bytes (front ++ back)) feed
+  pub are_ends : EndsParts feed front ends
+  pub is_place : IsPlace key header feed front back headed
   pub spells : IsGitSpelling spelling value
-
--- before this rest: entries, comments and blanks, each up to the end of its line, and no header
-pub data IsBody : List ℕ → List ℕ → Type 0 where
-  none : {rest : List ℕ} → IsBody [] rest
-  entry : {body key at blanks bytes rest : List ℕ} {value : Option (List ℕ)} {lines : ℕ} {is_line : Bool}
-      → IsBody body (bytes ++ rest) → IsEntry key value lines at blanks bytes rest is_line
-      → IsBody (body ++ bytes) rest
-  line : {body tail rest : List ℕ} {is_line : Bool} (blanks : List ℕ)
-      → IsBody body ((blanks ++ tail) ++ rest) → AreBlank blanks → IsTail tail rest is_line
-      → IsBody (body ++ (blanks ++ tail)) rest
-
--- a header of a section of the key goes, with what precedes the next header
-pub record LosesSection (key : Key) (gone put rest : List ℕ) : Type 0 where
-  pub blanks : List ℕ
-  pub header : List ℕ
-  pub body : List ℕ
-  pub joined : gone ≡ blanks ++ (header ++ body)
-  pub are_blank : AreBlank blanks
-  pub is_header : IsHeaderOf key header
-  pub is_body : IsBody body rest
-  pub is_end : IsEnd put
-
--- a section of the key goes
-abbrev pub MayRemove : Key → List Content → Option Section → List ℕ → List ℕ → List ℕ → Type 0
-MayRemove key before section gone put rest = LosesSection key gone put rest
-
--- The new text is a file without the entries of the sections of this name, and those sections are gone.
-abbrev pub RemovesSection : List ℕ → List ℕ → List ℕ → Type 0
-RemovesSection name old new =
-    (key : Key) × NamesSection name key × (contents : List Content) × HasContents old contents
-    × (now : List Content) × HasContents new now × WithoutIn key contents now
-    × Changes (MayRemove key) old new
-
--- The text has no entry in a section of this name, which may be the name of none.
-abbrev pub LacksSection : List ℕ → List ℕ → Type 0
-LacksSection name text =
-    (contents : List Content) × HasContents text contents
-    × ((key : Key) → NamesSection name key → NoneIn key contents)
-
--- no header has the section of this name, which may be the name of none
-abbrev pub LacksHeader : List ℕ → Type 0
-LacksHeader name = (key : Key) → NamesSection name key → HasNoHeader key.section key.subsection
-
--- why a section is not renamed, in this order: by the new name, by the text, or by what the text has
-abbrev pub RefusesRenaming : List ℕ → List ℕ → List ℕ → EditError → Type 0
-RefusesRenaming old new text (error.Memory e) = ⊤
-RefusesRenaming old new text error.Section = LacksHeader new
-RefusesRenaming old new text (error.File e) = (entries : List Entry) × IsFile text entries (Some e)
-RefusesRenaming old new text error.Absent = LacksSection old text
-RefusesRenaming old new text _ = ⊥
-
--- why a section is not removed
-abbrev pub RefusesRemoval : List ℕ → List ℕ → EditError → Type 0
-RefusesRemoval name text (error.Memory e) = ⊤
-RefusesRemoval name text (error.File e) = (entries : List Entry) × IsFile text entries (Some e)
-RefusesRemoval name text error.Absent = LacksSection name text
-RefusesRemoval name text _ = ⊥
+  pub new_is : new ≡ mark ++ (parts_bytes front ++ (ends ++ (headed ++ (entry_line key.name spelling feed ++ parts_bytes back))))
 
 -- a reason to refuse that an edit does not have
 abbrev pub Never : Key → List Content → Type 0
 Never key contents = ⊥
 
+-- the name is this key, a header can have its section, and if there is a value, it has a spelling
+abbrev pub CanBeWritten : List ℕ → Option (List ℕ) → Key → Type 0
+CanBeWritten name value key = IsKey name key × ¬ (HasNoHeader key.section key.subsection) × ¬ (LacksSpelling value)
+
 -- Why an edit is refused, in this order: by the key, by the value, if there is one, by the text, or by what the text has
--- of the key. Memory may be refused at any time.
+-- of the key. Each reason says that those before it do not hold. Memory may be refused at any time.
 abbrev pub RefusesEdit : (Key → List Content → Type 0) → (Key → List Content → Type 0)
     → List ℕ → Option (List ℕ) → List ℕ → EditError → Type 0
-RefusesEdit Several Absent key value text (error.Memory e) = ⊤
-RefusesEdit Several Absent key value text (error.Key e) = RefusesKey key e
-RefusesEdit Several Absent key value text error.Section =
-    (k : Key) × IsKey key k × HasNoHeader k.section k.subsection
-RefusesEdit Several Absent key value text error.Value = (k : Key) × IsKey key k × LacksSpelling value
-RefusesEdit Several Absent key value text error.Comment = ⊥
-RefusesEdit Several Absent key value text (error.File e) =
-    (k : Key) × IsKey key k × (entries : List Entry) × IsFile text entries (Some e)
-RefusesEdit Several Absent key value text error.Several =
-    (k : Key) × IsKey key k × (contents : List Content) × HasContents text contents × Several k contents
-RefusesEdit Several Absent key value text error.Absent =
-    (k : Key) × IsKey key k × (contents : List Content) × HasContents text contents × Absent k contents
+RefusesEdit Several Absent name value text (error.Memory e) = ⊤
+RefusesEdit Several Absent name value text (error.Key e) = RefusesKey name e
+RefusesEdit Several Absent name value text error.Section =
+    (key : Key) × IsKey name key × HasNoHeader key.section key.subsection
+RefusesEdit Several Absent name value text error.Value =
+    (key : Key) × IsKey name key × ¬ (HasNoHeader key.section key.subsection) × LacksSpelling value
+RefusesEdit Several Absent name value text error.Comment = ⊥
+RefusesEdit Several Absent name value text (error.File e) =
+    (key : Key) × (CanBeWritten name value key) × (entries : List Entry) × IsFile text entries (Some e)
+RefusesEdit Several Absent name value text error.Several =
+    (key : Key) × (CanBeWritten name value key) × (contents : List Content) × HasContents text contents × Several key contents
+RefusesEdit Several Absent name value text error.Absent =
+    (key : Key) × (CanBeWritten name value key) × (contents : List Content) × HasContents text contents × Absent key contents
+
+-- memory was refused, which may be at any time
+abbrev pub IsMemory : EditError → Type 0
+IsMemory (error.Memory e) = ⊤
+IsMemory _ = ⊥
+
+-- but for want of memory, one of these reasons holds
+abbrev pub HasOneReason : (EditError → Type 0) → Type 0
+HasOneReason Refuses = (e f : EditError) → Refuses e → Refuses f → IsMemory e ⊎ IsMemory f ⊎ (e ≡ f)
 
 -- the new text has one entry more
 abbrev pub AddsKey : Key → List ℕ → List ℕ → List Content → List ℕ → Type 0
 AddsKey key value old contents new = (now : List Content) × HasContents new now
-    × (a : AddsContent key value contents now) × PutsLine (ReachesBehind old) key value contents a.before old new
-
--- the key had one entry, which has the value now
-abbrev pub ChangesKey : Key → List ℕ → List ℕ → List Content → List ℕ → Type 0
-ChangesKey key value old contents new = (now : List Content) × HasContents new now
-    × (r : Replaces key value contents now) × HasNone key r.before × SetsBytes value r.before r.x old new
+    × AddsContent key value contents now × PutsLine key value old new
 
 -- the key had entries, of which the last one has the value now, and the others are gone
 abbrev pub ReplacesKey : Key → List ℕ → List ℕ → List Content → List ℕ → Type 0
 ReplacesKey key value old contents new = (now : List Content) × HasContents new now
-    × Replaces key value contents now × Changes (MayReplace key value) old new
+    × (r : Replaces key value contents now) × BecomesParts (ReplacesPart key value (length r.before)) old new
+
+-- the key had one entry, which has the value now
+abbrev pub ChangesKey : Key → List ℕ → List ℕ → List Content → List ℕ → Type 0
+ChangesKey key value old contents new = HasOne key contents × ReplacesKey key value old contents new
 
 -- what an edit makes of a key and a text that is a file
 abbrev pub Edits : (Key → List Content → List ℕ → Type 0) → List ℕ → List ℕ → List ℕ → Type 0
@@ -494,24 +385,6 @@ ReplacesAll name value old new = Edits (λ key contents new. ReplacesKey key val
 -- what `add` makes: one entry more
 abbrev pub AddsOne : List ℕ → List ℕ → List ℕ → List ℕ → Type 0
 AddsOne name value old new = Edits (λ key contents new. AddsKey key value old contents new) name old new
-
--- what `unset` makes: the one entry of the key is gone
-abbrev pub Unsets : List ℕ → List ℕ → List ℕ → Type 0
-Unsets name old new = Edits (λ key contents new. (now : List Content) × HasContents new now
-    × LosesOne key contents now × Changes (MayUnset key None) old new) name old new
-
--- the entries of the key at these places are gone, or all of the key
-abbrev pub UnsetsEach : Option (List ℕ) → List ℕ → List ℕ → List ℕ → Type 0
-UnsetsEach places name old new = Edits (λ key contents new. (now : List Content) × HasContents new now
-    × Without key places contents now × Changes (MayUnset key places) old new) name old new
-
--- what `unset_all` makes: all entries of the key are gone
-abbrev pub UnsetsAll : List ℕ → List ℕ → List ℕ → Type 0
-UnsetsAll name old new = UnsetsEach None name old new
-
--- what `unset_at` makes: the entries of the key at these places are gone
-abbrev pub UnsetsAt : List ℕ → List ℕ → List ℕ → List ℕ → Type 0
-UnsetsAt places name old new = UnsetsEach (Some places) name old new
 
 -- the last entry of the key in this file has the value
 abbrev pub Decides : List ℕ → List ℕ → List ℕ → Type 0
@@ -548,11 +421,6 @@ abbrev pub name_after : Option (List ℕ) → List ℕ → List ℕ
 name_after None key = key
 name_after (Some name) key = name
 
--- The bytes of a value after a change: they stay if they spell the new one, and otherwise become it.
-abbrev pub ChangesValueTo : List ℕ → Option (List ℕ) → List ℕ → Type 0
-ChangesValueTo value was bytes =
-    (HasValue was value × (bytes ≡ value_bytes was)) ⊎ (¬ (HasValue was value) × PutsValue value was bytes)
-
 -- What Git writes for a comment: if spaces and TABs and `#` begin it, it stays as it is; a space comes before a `#` that
 -- begins it; and ` # ` comes before any other.
 pub data WritesComment : List ℕ → List ℕ → Type 0 where
@@ -563,65 +431,57 @@ pub data WritesComment : List ℕ → List ℕ → Type 0 where
       → ((blanks more : List ℕ) → list_all is_space blanks ≡ true → comment ≢ blanks ++ hash ∷ more)
       → WritesComment comment (space ∷ hash ∷ space ∷ comment)
 
--- the line end of these bytes: CR LF if they have it, and nothing if none ends their line
-pub data IsEndOfLine : List ℕ → Bool → List ℕ → Type 0 where
-  unended : {bytes : List ℕ} → IsEndOfLine bytes false []
-  feed : {bytes : List ℕ} → ((front : List ℕ) → bytes ≢ front ++ carriage_return ∷ line_feed ∷ [])
-      → IsEndOfLine bytes true (line_feed ∷ [])
-  return_feed : (front : List ℕ)
-      → IsEndOfLine (front ++ carriage_return ∷ line_feed ∷ []) true (carriage_return ∷ line_feed ∷ [])
-
 -- what has to come between these bytes, which a value has now, and a comment: a line end if a backslash ends the text
 pub data FeedsComment : Option (List ℕ) → List ℕ → List ℕ → Type 0 where
   closed : {raw bytes value : List ℕ} → SpellsValue bytes value outside → FeedsComment (Some raw) bytes []
   open_value : {raw value : List ℕ} → SpellsValue raw value at_backslash → FeedsComment (Some raw) raw (line_feed ∷ [])
   behind_key : {bytes : List ℕ} → FeedsComment None bytes []
 
--- Before this rest, the bytes that a value has now and what is left of its line become the value without the blanks behind
--- it, the comment as Git writes it, and the line end of the bytes that are gone.
-pub record PutsComment (comment : List ℕ) (was : Option (List ℕ)) (gone bytes tail rest after : List ℕ) : Type 0 where
+-- The bytes that a value has now and what is left of its line become the value without the blanks behind it, the comment as Git
+-- writes it, and the line end of the part.
+pub record PutsComment (comment : List ℕ) (part : Part) (was : Option (List ℕ)) (bytes after : List ℕ) : Type 0 where
   pub core : List ℕ
   pub blanks : List ℕ
   pub feed : List ℕ
   pub written : List ℕ
   pub end : List ℕ
-  pub is_line : Bool
-  pub is_tail : IsTail tail rest is_line
   pub bytes_are : bytes ≡ core ++ blanks
   pub are_blank : AreBlank blanks
   pub ends_core : (more : List ℕ) (b : ℕ) → core ≡ more ++ b ∷ [] → is_blank b ≡ false
   pub feeds : FeedsComment was bytes feed
   pub is_written : WritesComment comment written
-  pub is_end : IsEndOfLine gone is_line end
+  pub is_end : IsEndOfLine (part_bytes part) (ends_line part) end
   pub after_is : after ≡ core ++ (feed ++ (written ++ end))
 
--- Before this rest, an entry of this key and this value gets the key and the value of the change: what is between them
--- stays. If the change has a comment, what is left of the line of the entry goes too, and the comment comes in its place.
-pub record ChangesEntry (change : Change) (key : List ℕ) (was : Option (List ℕ)) (gone put rest : List ℕ) : Type 0 where
-  pub lines : ℕ
-  pub between : List ℕ
-  pub bytes : List ℕ
-  pub tail : List ℕ
-  pub after : List ℕ
-  pub begins : BeginsWithLetter (gone ++ rest)
-  pub takes : TakesEntry (gone ++ rest) key was lines (tail ++ rest)
-  pub gone_is : gone ≡ (key ++ (between ++ value_bytes was)) ++ tail
-  pub put_is : put ≡ name_after (option_copied change.name) key ++ (between ++ after)
-  pub is_valued : MatchOption (option_copied change.value) (bytes ≡ value_bytes was) (λ value. ChangesValueTo value was bytes)
-  pub is_commented : MatchOption (option_copied change.comment) ((tail ≡ []) × (after ≡ bytes))
-      (λ comment. PutsComment comment was gone bytes tail rest after)
+-- An entry gets the key and the value of the change: what is between them stays. If the change has a comment, what is left of the
+-- line of the entry goes too, and the comment comes in its place.
+abbrev pub ChangesEntry : Change → Part → List ℕ → Type 0
+ChangesEntry change (cut.entry blanks key between was tail is_line) put = (bytes after : List ℕ)
+    × MatchOption (option_copied change.value) (bytes ≡ value_bytes was) (λ value. ChangesValueTo value between tail was bytes)
+    × MatchOption (option_copied change.comment) (after ≡ bytes ++ tail)
+        (λ comment. PutsComment comment (cut.entry blanks key between was tail is_line) was bytes after)
+    × (put ≡ blanks ++ (name_after (option_copied change.name) key ++ (between ++ after)))
+ChangesEntry change _ put = ⊥
 
--- an entry changes as the change of it asks
-abbrev pub MayChange : List Change → List Content → Option Section → List ℕ → List ℕ → List ℕ → Type 0
-MayChange changes before section gone put rest =
-    (change : Change) × (key : List ℕ) × (was : Option (List ℕ)) × Has changes change
-    × (change.entry ≡ length before) × ChangesEntry change key was gone put rest
+-- the part is an entry, and one of the changes names it
+abbrev pub NamesPart : List Change → List Part → Part → Type 0
+NamesPart changes before (cut.entry blanks key between value tail is_line) =
+    (change : Change) × Has changes change × (change.entry ≡ entries_in before)
+NamesPart changes before _ = ⊥
+
+-- an entry that a change names changes as it asks, and every other part stays
+pub data ChangesPart (changes : List Change) (before : List Part) (part : Part) : List ℕ → Type 0 where
+  changed : {put : List ℕ} (change : Change)
+      → Has changes change → change.entry ≡ entries_in before → ChangesEntry change part put
+      → ChangesPart changes before part put
+  stays : ¬ (NamesPart changes before part) → ChangesPart changes before part (part_bytes part)
 
 -- what `change_entries` makes: the entries that the changes name are changed, and no other bytes
 abbrev pub ChangesEntries : List Change → List ℕ → List ℕ → Type 0
 ChangesEntries changes old new = (contents : List Content) × HasContents old contents
+    × AreInOrder 0 changes (length contents)
     × (now : List Content) × HasContents new now × ChangesEach changes contents now
-    × Changes (MayChange changes) old new
+    × BecomesParts (ChangesPart changes) old new
 
 -- why a text is not the last part of a key: it is empty, or has a wrong byte
 abbrev pub RefusesLastPart : Option (List ℕ) → KeyError → Type 0
@@ -635,21 +495,35 @@ RefusesComment value None = ⊥
 RefusesComment None (Some comment) = ⊤
 RefusesComment (Some value) (Some comment) = list_all is_comment_byte comment ≡ false
 
--- why a change is refused: by its name, by its value, or by its comment
+-- the name of a change is refused
+abbrev pub LacksName : Change → Type 0
+LacksName change = (e : KeyError) × RefusesLastPart (option_copied change.name) e
+
+-- why a change is refused: by its name, otherwise by its value, otherwise by its comment
 abbrev pub RefusesOneChange : Change → EditError → Type 0
 RefusesOneChange change (error.Key e) = RefusesLastPart (option_copied change.name) e
-RefusesOneChange change error.Value = LacksSpelling (option_copied change.value)
-RefusesOneChange change error.Comment = RefusesComment (option_copied change.value) (option_copied change.comment)
+RefusesOneChange change error.Value = ¬ (LacksName change) × LacksSpelling (option_copied change.value)
+RefusesOneChange change error.Comment = ¬ (LacksName change) × ¬ (LacksSpelling (option_copied change.value))
+    × RefusesComment (option_copied change.value) (option_copied change.comment)
 RefusesOneChange change _ = ⊥
 
--- why changes are refused of which one cannot be written
-abbrev pub RefusesOneOf : List Change → EditError → Type 0
-RefusesOneOf changes e = (change : Change) × Has changes change × RefusesOneChange change e
+-- a change can be written
+abbrev pub IsAccepted : Change → Type 0
+IsAccepted change = (e : EditError) → ¬ (RefusesOneChange change e)
 
--- why changes are refused, in this order: by one of them, by the text, or by their order and the entries of the text
+abbrev pub AreAccepted : List Change → Type 0
+AreAccepted [] = ⊤
+AreAccepted (change ∷ changes) = IsAccepted change × AreAccepted changes
+
+-- why changes are refused of which one cannot be written, and none before it
+abbrev pub RefusesOneOf : List Change → EditError → Type 0
+RefusesOneOf changes e = (before after : List Change) × (change : Change) × (changes ≡ before ++ change ∷ after)
+    × AreAccepted before × RefusesOneChange change e
+
+-- why changes are refused: by one of them, otherwise by the text, otherwise by their order and the entries of the text
 abbrev pub RefusesChanges : List Change → List ℕ → EditError → Type 0
 RefusesChanges changes text (error.Memory e) = ⊤
-RefusesChanges changes text (error.File e) = (entries : List Entry) × IsFile text entries (Some e)
-RefusesChanges changes text error.Absent =
-    (contents : List Content) × HasContents text contents × ¬ (AreInOrder 0 changes (length contents))
+RefusesChanges changes text (error.File e) = AreAccepted changes × (entries : List Entry) × IsFile text entries (Some e)
+RefusesChanges changes text error.Absent = AreAccepted changes
+    × (contents : List Content) × HasContents text contents × ¬ (AreInOrder 0 changes (length contents))
 RefusesChanges changes text e = RefusesOneOf changes e

@@ -8,5 +8,8 @@ pub use Rattle.config_file.specs.Key
 pub use Rattle.config_file.specs.KeyView
 pub use Rattle.config_file.specs.Spelling
 pub mod Reached
+pub mod Cut
 pub mod Edit
+pub mod Sections
+pub mod Unset
 pub mod Reading

@@ -1,9 +1,12 @@
 //! Laws of edits: what is got from a text in which a key was set, and what a clone of a change is.
-ghost use Rattle.std.specs.Prelude.{ℕ, List, codes, ◌≡◌, ◌≤◌, ◌+◌, ◌⊎◌, ◌∷◌, ◌++◌, Option, length, true};
+ghost use Rattle.std.specs.Prelude.{ℕ, List, [], codes, ◌≡◌, ◌≤◌, ◌+◌, ◌⊎◌, ◌∷◌, ◌++◌, Option, Some, None, length, true};
 ghost use Rattle.config_file.specs.Bytes.{BeginsWithLetter, is_comment_byte, is_comment_sign};
 ghost use Rattle.config_file.specs.Runs.{Run};
 ghost use Rattle.config_file.specs.Header.{Section};
-ghost use Rattle.config_edit.specs.Edit.{AddsOne, Content, Decides, Reaches, ReplacesAll, Sets};
+ghost use Rattle.config_edit.specs.Edit.{AddsOne, ChangesEntries, Content, Decides, HasNone, HasNoneAt, HasOneReason, HasSeveral, Never, RefusesEdit, ReplacesAll, Sets};
+ghost use Rattle.config_edit.specs.Unset.{Unsets, UnsetsAll, UnsetsEach};
+ghost use Rattle.config_edit.specs.Cut.{Cuts, Part};
+ghost use Rattle.config_edit.specs.Sections.{LacksSection, RefusesRemoval, RefusesRenaming, RemovesSection, RenamesSection};
 ghost use Rattle.config_text.specs.Orders.{IsCopied};
 
 use crate::Change;
@@ -15,25 +18,89 @@ pub fn set_decides()
     ensures added { (name value old new : List ℕ) → AddsOne name value old new → Decides name value new }
 {}
 
-/// The reading of a text comes to an entry behind as many others at one place. So edits change an entry where it stands.
-pub fn one_place()
-    ensures { (text at other : List ℕ) (before also : List Content) (section next : Option Section)
-        → Reaches text before section at → Reaches text also next other → BeginsWithLetter at → BeginsWithLetter other
-        → length before ≡ length also → (at ≡ other) × (section ≡ next) }
+/// An edit makes one text of a text: for one key and one value [`crate::set`], [`crate::replace_all`] and [`crate::add`] have
+/// one result, and so has [`crate::change_entries`] for the same changes.
+pub fn one_result()
+    ensures set { (name value old new other : List ℕ) → Sets name value old new → Sets name value old other → new ≡ other }
+    ensures replaced { (name value old new other : List ℕ)
+        → ReplacesAll name value old new → ReplacesAll name value old other → new ≡ other }
+    ensures added { (name value old new other : List ℕ) → AddsOne name value old new → AddsOne name value old other → new ≡ other }
+    ensures changed { (changes : List Change) (old new other : List ℕ)
+        → ChangesEntries changes old new → ChangesEntries changes old other → new ≡ other }
 {}
 
-/// The reading of a text comes to no place inside a comment. So no stretch that an edit changes begins in one.
-pub fn whole_comments()
-    ensures { (text comment rest at : List ℕ) (sign : ℕ) (before also : List Content) (section next : Option Section)
-        → is_comment_sign sign ≡ true → Run is_comment_byte (comment ++ rest) comment rest
-        → Reaches text before section (sign ∷ (comment ++ rest)) → Reaches text also next at
-        → (length (comment ++ rest) + 1 ≤ length at) ⊎ (length at ≤ length rest) }
+/// A text is cut in its parts in one way. So what an edit makes of each part is what it makes of the text.
+pub fn one_cut()
+    ensures { (text : List ℕ) (parts also : List Part) → Cuts text parts → Cuts text also → parts ≡ also }
+{}
+
+/// A text has one new text in which sections have another name, and one without the sections of a name.
+pub fn one_text_of_sections()
+    ensures renamed { (old_name new_name old new other : List ℕ) → RenamesSection old_name new_name old new
+        → RenamesSection old_name new_name old other → new ≡ other }
+    ensures removed { (name old new other : List ℕ) → RemovesSection name old new → RemovesSection name old other → new ≡ other }
+{}
+
+/// Where sections went, no header of their name is left: to remove them again is refused.
+pub fn sections_are_gone()
+    ensures { (name old new : List ℕ) → RemovesSection name old new → LacksSection name new }
+{}
+
+/// Sections that get another name: Git writes the same texts. A header in a comment keeps its name.
+pub fn renamed_texts()
+    ensures comment { (new : List ℕ) → RenamesSection (codes "a") (codes "b") (codes "#[a]\n[a]\nk=1\n") new
+        → new ≡ codes "#[a]\n[b]\nk=1\n" }
+    ensures both { (new : List ℕ) → RenamesSection (codes "a") (codes "b") (codes "[a]\n[a]\nk=1\n") new
+        → new ≡ codes "[b]\n[b]\nk=1\n" }
+    ensures subsection { (new : List ℕ) → RenamesSection (codes "a") (codes "b.C") (codes "[a]\nk=1\n") new
+        → new ≡ codes "[b \"C\"]\nk=1\n" }
+{}
+
+/// Sections that go: Git writes the same texts.
+pub fn removed_texts()
+    ensures alone { (new : List ℕ) → RemovesSection (codes "a") (codes "[a]\n") new → new ≡ [] }
+    ensures both { (new : List ℕ) → RemovesSection (codes "a") (codes "[a]\n[a]\nk=1\n") new → new ≡ [] }
+    ensures between { (new : List ℕ) → RemovesSection (codes "a") (codes "[b]\n[a]\n[c]\n") new
+        → new ≡ codes "[b]\n[c]\n" }
 {}
 
 /// Results that lose a comment are none of `set`.
 pub fn refused()
     ensures behind { Sets (codes "a.k") (codes "2") (codes "[a]\nk =# me\n") (codes "[a]\nk =2\n") → ⊥ }
     ensures below { Sets (codes "a.k") (codes "2") (codes "[a]\nk = 1 # me\n\n# About b\n[b]\nl=3\n") (codes "[a]\nk = 2\n[b]\nl=3\n") → ⊥ }
+{}
+
+/// An edit that takes entries of a key out has one result.
+pub fn one_unset()
+    ensures one { (name old new other : List ℕ) → Unsets name old new → Unsets name old other → new ≡ other }
+    ensures each { (places : Option (List ℕ)) (name old new other : List ℕ)
+        → UnsetsEach places name old new → UnsetsEach places name old other → new ≡ other }
+{}
+
+/// What `unset` and `unset_all` make of some texts, as Git does, and what they do not make of them.
+pub fn unset_texts()
+    ensures emptied { Unsets (codes "a.k") (codes "[a]\nk=1\n") [] }
+    ensures commented { Unsets (codes "a.k") (codes "[a]\nk=1# me\n") [] }
+    ensures below { Unsets (codes "a.k") (codes "#[a]\n[a]\nk=1\n") (codes "#[a]\n[a]\n") }
+    ensures all_commented { UnsetsAll (codes "a.k") (codes "[a]\nk=1# me\n") [] }
+    ensures all_below { UnsetsAll (codes "a.k") (codes "#k=0\n[a]\nk=1\n") (codes "#k=0\n[a]\n") }
+    ensures in_line { UnsetsAll (codes "a.k") (codes "[a]k=1\nj=0\n") (codes "[a]\nj=0\n") }
+    ensures no_blank_line { UnsetsAll (codes "a.k") (codes "[a]\nk=1\n") (codes "[a]\n\n") → ⊥ }
+    ensures no_comment { UnsetsAll (codes "a.k") (codes "[a]\nk=1# me\n") (codes "[a]\n# me\n") → ⊥ }
+    ensures no_setting_lost { UnsetsAll (codes "a.k") (codes "#k=0\n[a]\nk=1\n") (codes "#\n[a]\n") → ⊥ }
+    ensures no_header_lost { Unsets (codes "a.k") (codes "#[a]\n[a]\nk=1\n") (codes "#\n[a]\n") → ⊥ }
+    ensures no_other_header { UnsetsAll (codes "a.k") (codes "[a]\n[a]\nj=0\n") (codes "[a]\nj=0\n") → ⊥ }
+{}
+
+/// An edit is refused for one reason, or for want of memory.
+pub fn one_refusal()
+    ensures set { (name value text : List ℕ) → HasOneReason (RefusesEdit HasSeveral Never name (Some value) text) }
+    ensures added { (name value text : List ℕ) → HasOneReason (RefusesEdit Never Never name (Some value) text) }
+    ensures unset { (name text : List ℕ) → HasOneReason (RefusesEdit HasSeveral HasNone name None text) }
+    ensures each { (places : Option (List ℕ)) (name text : List ℕ)
+        → HasOneReason (RefusesEdit Never (HasNoneAt places) name None text) }
+    ensures renaming { (old new text : List ℕ) → HasOneReason (RefusesRenaming old new text) }
+    ensures removal { (name text : List ℕ) → HasOneReason (RefusesRemoval name text) }
 {}
 
 /// A clone of a change of an entry is the same, and never fails.

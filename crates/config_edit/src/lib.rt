@@ -7,12 +7,15 @@
 #![tactic(auto)]
 
 ghost use Rattle.std.specs.Prelude.{◌≡◌, ◌++◌, ◌∷◌, [], List, ℕ, None, Some, true, map, ⊤, IfOk, MatchResult, option_copied};
-ghost use Rattle.config_edit.specs.Edit.{content, AddsOne, AreInOrder, ChangesEntries, HasNone, HasNoneAt, HasSeveral, Never, RefusesChanges, RefusesComment, RefusesEdit, RefusesLastPart, RefusesOneChange, RefusesOneOf, RefusesRemoval, RefusesRenaming, RemovesSection, RenamesSection, ReplacesAll, Sets, Unsets, UnsetsAll, UnsetsAt, UnsetsEach};
+ghost use Rattle.config_edit.specs.Edit.{content, AddsOne, AreInOrder, ChangesEntries, HasNone, HasNoneAt, HasSeveral, Never, RefusesChanges, RefusesComment, RefusesEdit, RefusesLastPart, RefusesOneChange, RefusesOneOf, ReplacesAll, Sets};
+ghost use Rattle.config_edit.specs.Unset.{Unsets, UnsetsAll, UnsetsAt, UnsetsEach};
 ghost use Rattle.std.specs.List.{list_all};
 ghost use Rattle.config_file.specs.Bytes.{is_comment_byte};
-ghost use Rattle.config_file.specs.Spelling.{HasNoSpelling, LacksSpelling};
+ghost use Rattle.config_file.specs.Spelling.{HasNoHeader, HasNoSpelling, LacksSpelling};
 ghost use Rattle.config_file.specs.File.{Entry, IsFile};
-ghost use Rattle.config_edit.specs.Reading.{AreWritable, IsSplit, IsWritable, IsWritableComment, IsWritableName, IsWritableValue, RefusesName, RefusesText};
+ghost use Rattle.config_edit.specs.Reading.{AreWritable, IsWritable, IsWritableComment, IsWritableName, IsWritableValue, RefusesName, RefusesText};
+ghost use Rattle.config_edit.specs.Cut.{IsSplit};
+ghost use Rattle.config_edit.specs.Sections.{RefusesRemoval, RefusesRenaming, RemovesSection, RenamesSection};
 ghost use Rattle.config_file.specs.Key.{IsKey};
 ghost use Rattle.config_file.specs.KeyView.{key_of};
 ghost use Rattle.config_file.specs.Reading.Spellings as spec;
@@ -113,7 +116,8 @@ fn fault_of(text: &[u8]) -> EditError
 fn parse_key(text: &[u8]) -> Result<Key<'_>, EditError>
     ensures { MatchResult result
         (λ key. IsKey text.now (key_of key)
-        × (spec.is_section (key_of key).section (key_of key).subsection ≡ true))
+        × (spec.is_section (key_of key).section (key_of key).subsection ≡ true)
+        × ¬ (HasNoHeader (key_of key).section (key_of key).subsection))
         (RefusesName text.now) }
 {
     let key = match Key::parse(text) {
@@ -128,7 +132,7 @@ fn parse_key(text: &[u8]) -> Result<Key<'_>, EditError>
 }
 
 fn check_value(value: &[u8]) -> Result<(), EditError>
-    ensures { MatchResult result (λ _. spec.is_spellable value.now ≡ true)
+    ensures { MatchResult result (λ _. (spec.is_spellable value.now ≡ true) × ¬ (HasNoSpelling value.now))
         (λ error. (error ≡ Value) × HasNoSpelling value.now) }
 {
     if is_spellable(value) {
@@ -232,8 +236,8 @@ pub fn add(alloc: Global, text: &[u8], key: &[u8], value: &[u8]) -> Result<Vec<u
 /// header before it on the line stays. If nothing is left in its section, neither an entry nor a comment, and
 /// no comment precedes the header, the line of the header goes too.
 ///
-/// It fails if Git refuses the key, the text is no configuration file, no entry or more than one has the key,
-/// or memory is refused.
+/// It fails, in this order, if Git refuses the key, no header can have its section, the text is no
+/// configuration file, no entry or more than one has the key, or memory is refused at any time.
 ///
 /// ```rust
 /// use config_edit::unset;
@@ -267,8 +271,8 @@ pub fn unset_all(alloc: Global, text: &[u8], key: &[u8]) -> Result<Vec<u8>, Edit
 /// What [`unset`] does, with those entries of a key that stand at these places. A place counts all entries of
 /// the text, from 0. The places rise: one that is below one before it stands for no entry.
 ///
-/// It fails if Git refuses the key, no header can have its section, the text is no configuration file, no
-/// entry of the key is at one of the places, or memory is refused.
+/// It fails, in this order, if Git refuses the key, no header can have its section, the text is no
+/// configuration file, no entry of the key is at one of the places, or memory is refused at any time.
 ///
 /// ```rust
 /// use config_edit::{EditError, unset_at};
@@ -321,9 +325,10 @@ fn in_section(alloc: Global, name: &[u8]) -> Result<Vec<u8>, AllocError>
 }
 
 /// The text in which the sections of the old name have the new one. A name is a section, or a section, a dot
-/// and a subsection. Only headers change, and what follows them on their lines stays. It fails with `Section`
-/// if no header can have the new name, if the text is no configuration file, if no section has the old name,
-/// or if memory is refused.
+/// and a subsection. Only headers change, and what follows them on their lines stays.
+///
+/// It fails, in this order, with `Section` if no header can have the new name, if the text is no configuration
+/// file, if no header has the old name, or if memory is refused at any time.
 ///
 /// ```rust
 /// use config_edit::rename_section;
@@ -366,8 +371,10 @@ fn copied(alloc: Global, text: &[u8]) -> Result<Vec<u8>, AllocError>
 }
 
 /// The text without the sections of a name, with their headers. Comments directly above the next header stay
-/// with it. It fails if the text is no configuration file, if no section has the name, or if memory is
-/// refused.
+/// with it, and so does the last line end of a section that began behind another header on its line.
+///
+/// It fails, in this order, if the text is no configuration file, if no header has the name, or if memory is
+/// refused at any time.
 pub fn remove_section(alloc: Global, text: &[u8], name: &[u8]) -> Result<Vec<u8>, EditError>
     ensures { MatchResult result (λ new. RemovesSection name.now text.now new.items)
         (RefusesRemoval name.now text.now) }
@@ -461,7 +468,9 @@ fn check_change(change: &Change<'_>) -> Result<(), EditError>
         return Err(EditError::Key(error));
     }
     check_given(change.value)?;
-    check_comment(change.value, change.comment)?;
+    if let Err(error) = check_comment(change.value, change.comment) {
+        return Err(error);
+    }
     Ok(())
 }
 
@@ -495,7 +504,9 @@ pub fn change_entries(
         (RefusesChanges changes.now text.now) }
 {
     check_changes(changes)?;
-    check_file(text)?;
+    if let Err(error) = check_file(text) {
+        return Err(error);
+    }
     let (mark, body) = split_mark(text);
     match change_each(alloc, body, changes)? {
         Some(new) => Ok(marked(new, alloc, mark)?),

@@ -1,8 +1,8 @@
 //! The pieces of a text: each holds the same wherever it stands.
-ghost use Rattle.std.specs.Prelude.{◌≡◌, ◌≢◌, ◌<◌, ◌≤◌, ◌++◌, ◌⊎◌, ◌∷◌, List, ℕ, [], true, false, length, IfSome, MatchOption};
-ghost use Rattle.config_edit.specs.Reading.{EndsComment, GoesOn, IsPiece, IsRead, StartsLine, StartsNoComment};
-ghost use Rattle.config_edit.specs.Edit.{AreBlank, IsEnd, IsComment, IsTail};
-ghost use Rattle.config_edit.specs.Edit.{IsEndOfLine, IsLineEnd};
+ghost use Rattle.std.specs.Prelude.{◌≡◌, ◌≢◌, ◌<◌, ◌≤◌, ◌++◌, ◌⊎◌, ◌∷◌, List, ℕ, [], ◌↔◌, true, false, length, IfSome, IsTrue, MatchOption, None, Some};
+ghost use Rattle.config_edit.specs.Reading.{EndsComment, EndsInCommentHeld, GoesOn, IsPiece, IsRead, StartsLine, StartsNoComment};
+ghost use Rattle.config_edit.specs.Edit.{IsEnd, IsEndOfLine, IsLastLineEnd, IsLineEnd};
+ghost use Rattle.config_edit.specs.Cut.{AreBlank, HasComment, IsComment, IsTail};
 ghost use Rattle.config_file.specs.Bytes.{BeginsWithLetter};
 
 use config_file::bytes::{Class, before, is_comment_sign, run, split};
@@ -48,7 +48,8 @@ struct Tail<'a> {
 /// Whether the text begins with a comment, and what follows it.
 #[tactic(auto, using(crate::proofs::Pieces::comment_cut, crate::proofs::Pieces::no_comment))]
 fn after_comment(text: &[u8]) -> (bool, &[u8])
-    ensures cut { (comment : List ℕ) × (text.now ≡ comment ++ result.1.now) × IsComment comment }
+    ensures cut { (comment : List ℕ) × (text.now ≡ comment ++ result.1.now) × IsComment comment
+        × (result.0 ≡ true → comment ≢ []) }
     ensures none { result.0 ≡ false → StartsNoComment text.now × (result.1.now ≡ text.now) }
     ensures end { result.0 ≡ true → EndsComment result.1.now }
 {
@@ -62,7 +63,7 @@ fn after_comment(text: &[u8]) -> (bool, &[u8])
 fn read_tail(text: &[u8]) -> Option<Tail<'_>>
     ensures tail { MatchOption result (GoesOn text.now)
         (λ left. (tail : List ℕ) × (text.now ≡ tail ++ left.rest.now) × (t : IsTail tail left.rest.now left.is_line)
-        × (left.has_comment ≡ false → t.comment ≡ [])) }
+        × (left.has_comment ≡ false → t.comment ≡ []) × (left.has_comment ≡ true → t.comment ≢ [])) }
     ensures within { IfSome result (λ left. length left.rest.now ≤ length text.now) }
     ensures shorter { text.now ≢ [] → IfSome result (λ left. length left.rest.now < length text.now) }
 {
@@ -179,18 +180,25 @@ impl<'a> Piece<'a> {
     }
 
     /// Whether the last item of the piece is a comment.
-    pub(crate) fn ends_in_comment(&self) -> bool {
+    pub(crate) fn ends_in_comment(&self) -> bool
+        ensures { IsTrue result ↔ EndsInCommentHeld self.now.held }
+    {
         match &self.held {
             Held::Comment => true,
-            Held::Entry(parts) => {
-                let (_, tail) = run(parts.rest, Class::Blank);
-                match split(tail) {
-                    Some((sign, _)) => is_comment_sign(sign),
-                    None => false,
-                }
-            }
-            _ => false,
+            Held::Entry(parts) => has_comment(parts.rest),
+            Held::Nothing | Held::Header(_) => false,
         }
+    }
+}
+
+/// Whether the text has a comment, behind any blanks.
+fn has_comment(text: &[u8]) -> bool
+    ensures { IsTrue result ↔ HasComment text.now }
+{
+    let (_, at) = run(text, Class::Blank);
+    match split(at) {
+        Some((sign, _)) => is_comment_sign(sign),
+        None => false,
     }
 }
 
@@ -208,7 +216,8 @@ fn line_end(line: &[u8]) -> &'static [u8]
 
 /// The line end that a text uses: its last one, or `None` if it has none.
 pub(crate) fn last_line_end(text: &[u8]) -> Option<&'static [u8]>
-    ensures { IfSome result (λ line_end. IsLineEnd line_end.now) }
+    ensures is { IfSome result (λ line_end. IsLineEnd line_end.now) }
+    ensures last { MatchOption result (IsLastLineEnd text.now None) (λ line_end. IsLastLineEnd text.now (Some line_end.now)) }
 {
     let last = text.iter().rposition(|byte| *byte == b'\n')?;
     Some(line_end(&text[..last + 1]))

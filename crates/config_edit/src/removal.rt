@@ -2,9 +2,10 @@
 ghost use Rattle.std.specs.Prelude.{◌≡◌, ◌++◌, ◌↔◌, List, ℕ, [], None, Option, true, false, IfOk, IsTrue, OnOk, option_copied, ◌||◌, ◌⊎◌, not};
 ghost use Rattle.config_edit.specs.Edit.{Content, IsEnd, IsPlaceOf};
 ghost use Rattle.config_file.specs.KeyView.{key_of};
-ghost use Rattle.config_edit.specs.Reading.{AreLeft, Ends, IsFinished, IsPushed, IsTaken, is_blank_held, one_more};
+ghost use Rattle.config_edit.specs.Unset.{LeavesEnd};
+ghost use Rattle.config_edit.specs.Reading.{AreLeft, EndsInCommentHeld, Ends, IsBegun, IsFinished, IsPushed, IsTaken, is_blank_held, one_more};
 
-use crate::piece::{Held, Piece, last_line_end, next_piece};
+use crate::piece::{Held, Piece, next_piece};
 use crate::setting::is_of;
 use config_file::key::Key;
 use config_file::section::Section;
@@ -43,8 +44,10 @@ struct Group {
     head: Vec<u8>,
     /// What follows that line.
     body: Vec<u8>,
-    /// Whether nothing precedes the header on its line.
-    starts_line: bool,
+    /// What stays of that line if the header goes.
+    line_end: &'static [u8],
+    /// Whether another header precedes this one on its line.
+    in_line: bool,
     /// Whether the line of the header goes on.
     in_head: bool,
     /// Whether an entry was taken out.
@@ -58,14 +61,15 @@ impl Group {
     fn new(alloc: Global) -> Group
         ensures head { result.head.items ≡ [] }
         ensures body { result.body.items ≡ [] }
+        ensures line_end { result.line_end.now ≡ [] }
         ensures in_head { result.in_head ≡ false }
-        ensures has_lost { result.has_lost ≡ false }
         ensures is_kept { result.is_kept ≡ true }
     {
         Group {
             head: Vec::new(alloc),
             body: Vec::new(alloc),
-            starts_line: true,
+            line_end: &[],
+            in_line: false,
             in_head: false,
             has_lost: false,
             is_kept: true,
@@ -73,19 +77,14 @@ impl Group {
     }
 
     /// Goes on with the section of this header.
-    fn begin(
-        &mut self,
-        piece: &Piece<'_>,
-        starts_line: bool,
-        is_kept: bool,
-    ) -> Result<(), AllocError>
-        ensures { OnOk result ((self.new.head.items ≡ piece.now.bytes.now) × (self.new.body.items ≡ [])
-            × (self.new.in_head ≡ true) × (self.new.has_lost ≡ false) × (self.new.is_kept ≡ is_kept)) }
+    fn begin(&mut self, piece: &Piece<'_>, is_kept: bool) -> Result<(), AllocError>
+        ensures { OnOk result (IsBegun self.old self.new piece.now is_kept) }
     {
         self.head.clear();
         self.body.clear();
         self.head.extend_from_slice(piece.bytes)?;
-        self.starts_line = starts_line;
+        self.line_end = &[];
+        self.in_line = self.in_head;
         self.in_head = true;
         self.has_lost = false;
         self.is_kept = is_kept;
@@ -94,33 +93,36 @@ impl Group {
 
     /// Keeps a piece.
     fn keep(&mut self, piece: &Piece<'_>) -> Result<(), AllocError>
-        ensures { OnOk result (IsPushed self.old self.new piece.now.bytes.now × (self.new.in_head ≡ false)
+        ensures { OnOk result (IsPushed self.old self.new piece.now piece.now.bytes.now
             × (self.new.has_lost ≡ self.old.has_lost) × (self.new.is_kept ≡ self.old.is_kept || not (is_blank_held piece.now.held))) }
     {
         self.is_kept = self.is_kept || !is_blank(piece);
-        self.push(piece.bytes)
+        self.push(piece, piece.bytes)
     }
 
     /// Leaves an entry out. The end of its line stays if the header is on the line.
     fn lose(&mut self, piece: &Piece<'_>) -> Result<(), AllocError>
-        ensures { OnOk result ((end : List ℕ) × IsEnd end × IsPushed self.old self.new end × (self.old.in_head ≡ false → end ≡ [])
-            × (self.new.in_head ≡ false) × (self.new.has_lost ≡ true) × (self.new.is_kept ≡ self.old.is_kept)) }
+        ensures { OnOk result ((end : List ℕ) × IsEnd end × LeavesEnd self.old.in_head piece.now.bytes.now piece.now.is_line end
+            × IsPushed self.old self.new piece.now end
+            × (self.new.has_lost ≡ true) × (self.new.is_kept ≡ self.old.is_kept)) }
     {
         self.has_lost = true;
         let end: &[u8] = if self.in_head { piece.line_end() } else { &[] };
-        self.push(end)
+        self.push(piece, end)
     }
 
-    fn push(&mut self, bytes: &[u8]) -> Result<(), AllocError>
-        ensures { OnOk result (IsPushed self.old self.new bytes.now × (self.new.in_head ≡ false)
+    /// Appends what is left of a piece.
+    fn push(&mut self, piece: &Piece<'_>, bytes: &[u8]) -> Result<(), AllocError>
+        ensures { OnOk result (IsPushed self.old self.new piece.now bytes.now
             × (self.new.has_lost ≡ self.old.has_lost) × (self.new.is_kept ≡ self.old.is_kept)) }
     {
-        if self.in_head {
-            self.in_head = false;
-            self.head.extend_from_slice(bytes)?;
-        } else {
+        if !self.in_head {
             self.body.extend_from_slice(bytes)?;
+            return Ok(());
         }
+        self.in_head = false;
+        self.line_end = if self.in_line { piece.line_end() } else { &[] };
+        self.head.extend_from_slice(bytes)?;
         Ok(())
     }
 
@@ -133,20 +135,15 @@ impl Group {
         Ok(())
     }
 
-    /// The head, or what is left of its line if the section has lost its only entries.
+    /// The head, or what stays of its line if the section has lost its only entries.
     fn head_left(&self) -> &[u8]
-        ensures { (result.now ≡ self.now.head.items)
-            ⊎ ((self.now.is_kept ≡ false) × (self.now.has_lost ≡ true) × IsEnd result.now) }
+        ensures { ((result.now ≡ self.now.head.items) × ((self.now.is_kept ≡ true) ⊎ (self.now.has_lost ≡ false)))
+            ⊎ ((result.now ≡ self.now.line_end.now) × (self.now.is_kept ≡ false) × (self.now.has_lost ≡ true)) }
     {
         if self.is_kept || !self.has_lost {
-            return self.head.as_slice();
-        }
-        if self.starts_line {
-            return &[];
-        }
-        match last_line_end(self.head.as_slice()) {
-            Some(line_end) => line_end,
-            None => &[],
+            self.head.as_slice()
+        } else {
+            self.line_end
         }
     }
 }
@@ -189,14 +186,13 @@ pub(crate) fn without(
     let mut count = Count::None;
     let mut left = places;
     let mut index = 0usize;
-    let mut starts_line = true;
     let mut below_comment = false;
     'pieces: while let Some(piece) = next_piece(rest) {
         match &piece.held {
             Held::Header(header) => {
                 section = Some(*header);
                 group.finish(&mut new)?;
-                group.begin(&piece, starts_line, below_comment)?;
+                group.begin(&piece, below_comment)?;
             }
             Held::Entry(parts) => {
                 let (is_place, later) = at_place(left, index);
@@ -211,12 +207,18 @@ pub(crate) fn without(
             }
             Held::Nothing | Held::Comment => group.keep(&piece)?,
         }
-        below_comment = piece.ends_in_comment() || below_comment && is_blank(&piece);
-        starts_line = piece.is_line;
+        below_comment = is_below_comment(&piece, below_comment);
         rest = piece.rest;
     }
     group.finish(&mut new)?;
     Ok(Taken { text: new, count })
+}
+
+/// Whether a comment is right above what follows the piece, if it was so of the piece or not.
+fn is_below_comment(piece: &Piece<'_>, was: bool) -> bool
+    ensures { IsTrue result ↔ (EndsInCommentHeld piece.now.held ⊎ ((is_blank_held piece.now.held ≡ true) × (was ≡ true))) }
+{
+    piece.ends_in_comment() || (was && is_blank(piece))
 }
 
 /// Whether a piece has only blanks.

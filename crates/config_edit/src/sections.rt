@@ -1,12 +1,13 @@
 //! Sections that get another name, or are taken out.
 ghost use Rattle.std.specs.Prelude.{[], ◌≡◌, ◌↔◌, ◌⊎◌, ◌++◌, ◌∷◌, ℕ, List, true, false, IsTrue, IfOk, IfSome, MatchOption, OnOk, None, Some};
-ghost use Rattle.config_edit.specs.Edit.{Content, Renames, Becomes, RenamesHeader, IsEnd, IsIn, NoneIn};
+ghost use Rattle.config_edit.specs.Edit.{Content, IsEndOfLine, IsIn};
+ghost use Rattle.config_edit.specs.Cut.{Cuts, Part};
+ghost use Rattle.config_edit.specs.Sections.{Clears, IsHeaderIn, NoneIs, RenamesParts, end_of, goes_on_behind};
 ghost use Rattle.config_file.specs.Listing.{IsListedSection};
 ghost use Rattle.config_file.specs.Views.{section_of};
 ghost use Rattle.config_edit.specs.declared.piece.Held.TheVariants.{Comment};
 ghost use Rattle.config_file.specs.KeyView.{key_of};
-ghost use Rattle.config_edit.specs.Reading.{Comes, Ends, IsCleared, IsHeaderHeld, IsPiece};
-ghost use Rattle.config_file.specs.Reading.Spellings.{is_section};
+ghost use Rattle.config_edit.specs.Reading.{Ends, IsHeaderHeld, IsPiece};
 
 use crate::piece::{Held, Piece, next_piece};
 use config_file::bytes::before;
@@ -33,12 +34,11 @@ pub(crate) fn renamed(
     from: &Key<'_>,
     to: &Key<'_>,
 ) -> Result<Option<Vec<u8>>, AllocError>
-    requires { is_section (key_of to.now).section (key_of to.now).subsection ≡ true }
     ensures { (contents : List Content) → Ends None text.now contents
-        → IfOk result (λ found. MatchOption found (NoneIn (key_of from.now) contents)
-        (λ new. (now : List Content) × Ends None new.items now
-        × Renames (key_of from.now) (key_of to.now) contents now
-        × Becomes (Comes text.now) (RenamesHeader (key_of from.now) (key_of to.now)) text.now [] new.items)) }
+        → IfOk result (λ found. (parts : List Part) × Cuts text.now parts
+        × MatchOption found (NoneIs (IsHeaderIn (key_of from.now)) parts)
+        (λ new. ¬ (NoneIs (IsHeaderIn (key_of from.now)) parts)
+        × RenamesParts (key_of from.now) (key_of to.now) parts new.items)) }
 {
     let mut header = Vec::new(alloc);
     push_header(&mut header, to.section(), to.subsection())?;
@@ -72,7 +72,7 @@ fn lost_from<'a>(key: &Key<'_>, section: &Section<'_>, piece: &Piece<'a>) -> Opt
     ensures { (text : List ℕ) → IsListedSection (section_of section.now) text
         → MatchOption result (¬ (IsIn (key_of key.now) (Some (section_of section.now))))
         (λ lost. IsIn (key_of key.now) (Some (section_of section.now)) × (lost.comments.now ≡ piece.now.rest.now)
-        × IsEnd lost.line_end.now) }
+        × (lost.line_end.now ≡ [])) }
 {
     if key.is_in(section) {
         Some(Lost {
@@ -87,8 +87,10 @@ fn lost_from<'a>(key: &Key<'_>, section: &Section<'_>, piece: &Piece<'a>) -> Opt
 /// A section that is left out, with a piece more. A comment at the start of a line may stay.
 fn lost_with<'a>(lost: &Option<Lost<'a>>, piece: &Piece<'a>, starts_line: bool) -> Option<Lost<'a>>
     ensures { MatchOption lost.now (result ≡ None) (λ before. MatchOption result ⊥ (λ after.
-        (((after.comments.now ≡ before.comments.now) × (piece.now.held ≡ Comment)) ⊎ (after.comments.now ≡ piece.now.rest.now))
-        × (IsEnd before.line_end.now → IsEnd after.line_end.now))) }
+        (((after.comments.now ≡ before.comments.now) × (starts_line ≡ true) × (piece.now.held ≡ Comment))
+        ⊎ ((after.comments.now ≡ piece.now.rest.now) × ¬ ((starts_line ≡ true) × (piece.now.held ≡ Comment))))
+        × (((piece.now.is_line ≡ true) × IsEndOfLine piece.now.bytes.now true after.line_end.now)
+        ⊎ ((piece.now.is_line ≡ false) × (after.line_end.now ≡ before.line_end.now))))) }
 {
     let Some(last) = lost else {
         return None;
@@ -113,11 +115,11 @@ fn push_left(
     in_line: bool,
     header: &[u8],
 ) -> Result<bool, AllocError>
-    requires { IfSome lost.now (λ last. IsEnd last.line_end.now
-        × ((comments : List ℕ) × (last.comments.now ≡ comments ++ header.now))) }
-    ensures { IfOk result (λ goes_on. MatchOption lost.now (new.new.items ≡ new.old.items)
-        (λ last. (end comments : List ℕ) × IsEnd end × (last.comments.now ≡ comments ++ header.now)
-        × (new.new.items ≡ new.old.items ++ (end ++ comments)))) }
+    requires { IfSome lost.now (λ last. (comments : List ℕ) × (last.comments.now ≡ comments ++ header.now)) }
+    ensures { IfOk result (λ goes_on. MatchOption lost.now ((new.new.items ≡ new.old.items) × (goes_on ≡ in_line))
+        (λ last. (comments : List ℕ) × (last.comments.now ≡ comments ++ header.now)
+        × (new.new.items ≡ new.old.items ++ (end_of in_line last.line_end.now ++ comments))
+        × (goes_on ≡ goes_on_behind in_line last.line_end.now))) }
 {
     let Some(last) = lost else {
         return Ok(in_line);
@@ -134,8 +136,9 @@ pub(crate) fn without_section(
     key: &Key<'_>,
 ) -> Result<Option<Vec<u8>>, AllocError>
     ensures { (contents : List Content) → Ends None text.now contents
-        → IfOk result (λ found. MatchOption found (NoneIn (key_of key.now) contents)
-        (λ new. IsCleared (key_of key.now) text.now contents new.items)) }
+        → IfOk result (λ found. (parts : List Part) × Cuts text.now parts
+        × MatchOption found (NoneIs (IsHeaderIn (key_of key.now)) parts)
+        (λ new. ¬ (NoneIs (IsHeaderIn (key_of key.now)) parts) × Clears (key_of key.now) false parts new.items)) }
 {
     let mut new = Vec::with_capacity(alloc, text.len())?;
     let mut rest = text;
@@ -172,8 +175,7 @@ fn push_between(
     line_end: &[u8],
     comments: &[u8],
 ) -> Result<(), AllocError>
-    requires { IsEnd line_end.now }
-    ensures { OnOk result ((end : List ℕ) × IsEnd end × (new.new.items ≡ new.old.items ++ (end ++ comments.now))) }
+    ensures { OnOk result (new.new.items ≡ new.old.items ++ (end_of in_line line_end.now ++ comments.now)) }
 {
     if in_line {
         new.extend_from_slice(line_end)?;

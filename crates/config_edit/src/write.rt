@@ -1,11 +1,12 @@
 //! What an edit writes: values, entries, and the ends of lines.
-ghost use Rattle.std.specs.Prelude.{◌≡◌, ◌++◌, ◌∷◌, ◌↔◌, [], true, false, List, ℕ, Some, IfOk, IsTrue, OnOk};
+ghost use Rattle.std.specs.Prelude.{◌≡◌, ◌≢◌, ◌++◌, ◌∷◌, ◌↔◌, [], true, false, List, ℕ, Some, IfOk, IsTrue, OnOk};
 ghost use Rattle.config_file.specs.Bytes.{is_blank as spec_blank};
-ghost use Rattle.config_edit.specs.Edit.{IsGap};
+ghost use Rattle.config_edit.specs.Edit.{BeginsWithSign, PartsBlanks};
 ghost use Rattle.config_file.specs.Value.{Ending, SpellsValue};
 ghost use Rattle.config_file.specs.Views.{value_of};
-ghost use Rattle.config_edit.specs.Reading.{IsEndOf, IsOpen, IsSet, IsPutIn, line_ends, new_line, IsCommented, IsShaped};
-ghost use Rattle.config_edit.specs.Edit.{AreBlank, IsEntry, WritesComment};
+ghost use Rattle.config_edit.specs.Reading.{IsEndOf, IsOpenEntry, IsValued, IsPutIn, line_ends, new_line, space_if, IsCommented, IsShaped};
+ghost use Rattle.config_edit.specs.Edit.{IsEntry, WritesComment};
+ghost use Rattle.config_edit.specs.Cut.{AreBlank};
 ghost use Rattle.config_file.specs.Reading.Spellings.{is_spellable};
 ghost use Rattle.config_file.specs.Spelling.{git_spelled};
 
@@ -85,7 +86,7 @@ impl End {
 
 /// Whether a backslash ends the text of an entry.
 fn is_open(parts: &EntryParts<'_>) -> bool
-    ensures { IsTrue result ↔ IsOpen parts.now }
+    ensures { IsTrue result ↔ IsOpenEntry parts.now }
 {
     match &parts.value {
         Some(value) => config_file::bytes::line_feeds(value.raw) != parts.lines,
@@ -122,7 +123,7 @@ pub(crate) fn push_changed(
     requires entry { IsEntry parts.now.key.now (value_of parts.now.value) parts.now.lines parts.now.rest.now
         piece.now.blanks.now piece.now.bytes.now piece.now.rest.now piece.now.is_line }
     ensures { OnOk result ((put : List ℕ) × (text.new.items ≡ text.old.items ++ put)
-        × IsSet parts.now piece.now value.now put) }
+        × IsValued (Some value.now) parts.now piece.now put) }
 {
     if has_value(alloc, parts, value)? {
         text.extend_from_slice(piece.bytes)?;
@@ -158,7 +159,9 @@ fn has_value(alloc: Global, parts: &EntryParts<'_>, value: &[u8]) -> Result<bool
 }
 
 /// Whether a blank precedes the `=` that ends this text.
-fn ends_spaced(front: &[u8]) -> bool {
+fn ends_spaced(front: &[u8]) -> bool
+    ensures { (before : List ℕ) (b c : ℕ) → front.now ≡ before ++ b ∷ c ∷ [] → result ≡ spec_blank b }
+{
     match front {
         [.., byte, _] => is_blank(*byte),
         _ => false,
@@ -167,7 +170,7 @@ fn ends_spaced(front: &[u8]) -> bool {
 
 /// Appends a gap if there has to be one.
 fn push_gap(text: &mut Vec<u8>, is_wanted: bool) -> Result<(), AllocError>
-    ensures { OnOk result ((gap : List ℕ) × IsGap gap × (text.new.items ≡ text.old.items ++ gap)) }
+    ensures { OnOk result (text.new.items ≡ text.old.items ++ space_if is_wanted) }
 {
     if is_wanted {
         text.push(b' ')?;
@@ -177,8 +180,7 @@ fn push_gap(text: &mut Vec<u8>, is_wanted: bool) -> Result<(), AllocError>
 
 /// Appends `=` and a value behind a key alone, with a gap before it if no blank is there.
 fn push_given(text: &mut Vec<u8>, is_close: bool, value: &[u8]) -> Result<(), AllocError>
-    ensures { OnOk result ((gap : List ℕ) × IsGap gap
-        × (text.new.items ≡ text.old.items ++ (gap ++ 61 ∷ 32 ∷ git_spelled value.now))) }
+    ensures { OnOk result (text.new.items ≡ text.old.items ++ (space_if is_close ++ 61 ∷ 32 ∷ git_spelled value.now)) }
 {
     push_gap(text, is_close)?;
     text.extend_from_slice(b"= ")?;
@@ -194,7 +196,8 @@ fn push_in_place(
     tail: &[u8],
 ) -> Result<(), AllocError>
     requires { is_spellable value.now ≡ true }
-    ensures { OnOk result ((put : List ℕ) × (text.new.items ≡ text.old.items ++ put) × IsPutIn raw.now value.now put) }
+    ensures { (between : List ℕ) → (IsTrue is_spaced ↔ (between ≢ 61 ∷ [])) → OnOk result ((put : List ℕ)
+        × (text.new.items ≡ text.old.items ++ put) × IsPutIn between tail.now raw.now value.now put) }
 {
     let (lead, rest) = run(raw, Class::Blank);
     if rest.is_empty() {
@@ -216,7 +219,8 @@ fn push_in_blanks(
 ) -> Result<(), AllocError>
     requires spellable { is_spellable value.now ≡ true }
     requires blank { AreBlank blanks.now }
-    ensures { OnOk result ((put : List ℕ) × (text.new.items ≡ text.old.items ++ put) × IsPutIn blanks.now value.now put) }
+    ensures { (between : List ℕ) → (IsTrue is_spaced ↔ (between ≢ 61 ∷ [])) → OnOk result ((put : List ℕ)
+        × (text.new.items ≡ text.old.items ++ put) × IsPutIn between tail.now blanks.now value.now put) }
 {
     let (lead, trail) = first_blank(blanks);
     text.extend_from_slice(lead)?;
@@ -229,15 +233,26 @@ fn push_in_blanks(
 
 /// The first of these blanks, if it is no CR before the line end, and the others.
 fn first_blank(blanks: &[u8]) -> (&[u8], &[u8])
-    ensures { blanks.now ≡ result.0.now ++ result.1.now }
+    ensures joined { blanks.now ≡ result.0.now ++ result.1.now }
+    ensures parts { PartsBlanks result.0.now result.1.now }
 {
-    match blanks {
-        [b'\r'] | [] => blanks.split_at(0),
-        _ => blanks.split_at(1),
+    match split(blanks) {
+        None => blanks.split_at(0),
+        Some((first, rest)) => {
+            if first != b'\r' {
+                blanks.split_at(1)
+            } else if rest.is_empty() {
+                blanks.split_at(0)
+            } else {
+                blanks.split_at(1)
+            }
+        }
     }
 }
 
-fn begins_with_sign(text: &[u8]) -> bool {
+fn begins_with_sign(text: &[u8]) -> bool
+    ensures { IsTrue result ↔ BeginsWithSign text.now }
+{
     match split(text) {
         Some((byte, _)) => is_comment_sign(byte),
         None => false,

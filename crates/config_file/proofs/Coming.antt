@@ -17,6 +17,7 @@ use Rattle.config_file.specs.declared.errors.FileError.{FileError}
 use Rattle.config_file.specs.declared.walk.Include.{Include}
 use Rattle.config_file.specs.declared.walk.Include.TheVariants.{NotFollowed, MissingValue, UnknownDirectory}
 use Rattle.config_file.specs.declared.walk.Include.TheVariants.{Named}
+use Rattle.config_file.specs.declared.walk.Include.TheVariants as what
 use Rattle.config_file.specs.declared.walk.Step.TheVariants as step
 use Rattle.config_file.specs.declared.settings.AddError.{AddError}
 use Rattle.config_file.specs.declared.settings.AddError.TheVariants as error
@@ -129,6 +130,13 @@ module _ (contents : List ℕ → Content → Type 0) (known : Known) where
     (refl, refl, rw is tt),
     comes_from old new
         (found_item (place.name.now, entry_of entry) ∷ (place.name.now, Stops (w.Unknown (entry_of entry))) ∷ []) takes,
+  )
+  stop_comes old new place entry what.ForbiddenUrl why takes is = (
+    w.ForbiddenUrl (entry_of entry),
+    (refl, refl, rw is tt),
+    comes_from old new
+        (found_item (place.name.now, entry_of entry) ∷ (place.name.now, Stops (w.ForbiddenUrl (entry_of entry))) ∷ [])
+        takes,
   )
   stop_comes old new place entry (Named name) (fault.Unreadable why) takes is = (
     w.NotRead (entry_of entry),

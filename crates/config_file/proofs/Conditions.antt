@@ -11,7 +11,7 @@ use Rattle.config_file.specs.File.{Entry}
 use Rattle.config_file.specs.Header.{Section}
 use Rattle.config_file.specs.Subsection.{SpellsSubsection}
 use Rattle.config_file.specs.Include.{below, anywhere, at_home, IsSameName, MatchesBelow, MatchesDir, near}
-use Rattle.config_file.specs.Include.{other, SpellsCondition, Holds, IsPathIn, EntryFollows}
+use Rattle.config_file.specs.Include.{other, SpellsCondition, Holds, IsPathIn, EntryFollows, Forbids, forbids_urls}
 use Rattle.config_file.specs.Include as follows
 use Rattle.config_file.specs.Pattern.{MatchesText}
 use Rattle.std.proofs.lemmas.Bool.Decides.{eqb_tells}
@@ -22,27 +22,27 @@ use Rattle.config_file.specs.declared.include.Condition.TheVariants.{Always}
 use Rattle.config_file.specs.declared.include.Includes.{Includes}
 use Rattle.config_file.proofs.Patterns.{no_match}
 
-pub is_near : {i h : Bool} {dir name rest slashed whole : List ℕ} (pattern : List ℕ)
-    → pattern ≡ codes "./" ++ rest
+pub is_near : {i h : Bool} {dir real name rest slashed whole : List ℕ} (pattern : List ℕ)
+    → pattern ≡ codes "./" ++ rest → MatchesBelow i dir (codes "/**") real
     → slashed ≡ codes "/" ++ rest → whole ≡ below slashed → (IsTrue h ↔ (MatchesBelow i dir whole name))
-    → IsTrue h ↔ (MatchesDir i dir pattern name)
-is_near {rest = rest} pattern e slash ends is = (
-  λ yes. near rest e (rw (ends ∙ ap below slash) at (is.0 yes)),
+    → IsTrue h ↔ (MatchesDir i dir real pattern name)
+is_near {rest = rest} pattern e real slash ends is = (
+  λ yes. near rest e real (rw (ends ∙ ap below slash) at (is.0 yes)),
   λ matches. elim matches [
-    | near rest2 e2 within ↦
+    | near rest2 e2 real2 within ↦
         let same : rest2 ≡ rest = append_cancel_left (codes "./") rest2 rest (sym e2 ∙ e) in
         is.1 (rw (ap (λ r. below (codes "/" ++ r)) same ∙ sym (ends ∙ ap below slash)) at within)
     | other lacks matches ↦ absurd (lacks rest e)
   ],
 )
 
-pub is_other : {i h : Bool} {dir name any whole : List ℕ} (pattern : List ℕ)
+pub is_other : {i h : Bool} {dir real name any whole : List ℕ} (pattern : List ℕ)
     → LacksFront (codes "./") pattern → any ≡ anywhere pattern
-    → whole ≡ below any → (IsTrue h ↔ (MatchesText i whole name)) → IsTrue h ↔ (MatchesDir i dir pattern name)
+    → whole ≡ below any → (IsTrue h ↔ (MatchesText i whole name)) → IsTrue h ↔ (MatchesDir i dir real pattern name)
 is_other pattern lacks found ends is = (
   λ yes. other lacks (rw (ends ∙ ap below found) at (is.0 yes)),
   λ matches. elim matches [
-    | near rest e within ↦ absurd (lacks rest e)
+    | near rest e real within ↦ absurd (lacks rest e)
     | other lacks2 text ↦ is.1 (rw (sym (ends ∙ ap below found)) at text)
   ],
 )
@@ -140,3 +140,20 @@ home_unknown None pattern unknown = refl
 home_unknown (Some home) pattern (user rest e not) = rw (e, not) refl
 home_unknown (Some home) pattern (no_home rest e none) = absurd (none-some home (sym none))
 home_unknown (Some home) pattern (no_prefix rest e none) = rw e refl
+
+-- ---- whether the condition of an entry forbids the URLs of remotes
+
+pub no_section_forbids : (includes : Includes) (entry : Entry) → entry.section ≡ None
+    → Forbids includes entry false
+no_section_forbids includes entry none = follows.plain (λ written raw is. none-some _ (sym none ∙ is))
+
+pub no_condition_forbids : (includes : Includes) (entry : Entry) (name : List ℕ) → entry.section ≡ Some (name, None)
+    → Forbids includes entry false
+no_condition_forbids includes entry name e =
+    follows.plain (λ written raw is. none-some raw (ap (λ s. s.1) (same_Some _ _ (sym e ∙ is))))
+
+pub condition_forbids : (includes : Includes) (entry : Entry) (name raw text : List ℕ) (c : Condition) (b : Bool)
+    → entry.section ≡ Some (name, Some raw) → ((spelled : List ℕ) → SpellsSubsection raw spelled → text ≡ spelled)
+    → SpellsCondition text c → b ≡ forbids_urls includes c → Forbids includes entry b
+condition_forbids includes entry name raw text c b is spelled names e =
+    follows.on_condition name raw is (λ t spells. (c, rw (spelled t spells) at names, sym e))

@@ -14,6 +14,7 @@ pub mod EachListed
 pub mod OneRun
 pub mod Scan
 pub mod OneSubsection
+pub mod OneText
 pub mod Pick
 pub mod OneValue
 pub mod OneHeader
@@ -38,6 +39,7 @@ pub mod Conditions
 pub mod Remotes
 pub mod OnLiterals
 pub mod StandardFacts
+pub mod ForbiddenUrls
 pub mod KeyFacts
 pub mod PatternsOnLiterals
 pub mod Steps

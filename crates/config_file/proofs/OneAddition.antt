@@ -1,16 +1,20 @@
--- Two additions of a text that do not lack memory add the same settings, and stop at the same place.
+-- Two additions of a text that do not lack memory add the same settings, and stop at the same place. Git lists what
+-- is added.
 use Rattle.std.proofs.Common.{◌≡◌, ℕ, Bool, true, false, List, [], ◌∷◌, ◌++◌, Option, None, Some, map}
-use Rattle.std.proofs.Common.{refl, sym, ap, ◌∙◌, inl, inr}
+use Rattle.std.proofs.Common.{refl, sym, ap, subst, ◌∙◌, inl, inr}
 use Rattle.std.specs.Prelude.{Result, Ok, Err, ⊤}
 use Rattle.std.proofs.lemmas.Option.{same_Some}
 use Rattle.std.proofs.lemmas.List.{append-nil, append_assoc}
-use Rattle.std.proofs.lemmas.List.Elements.{All-head, All-tail}
+use Rattle.std.proofs.lemmas.List.Elements.{All-head, All-tail, All-nil, All-cons, All-append}
 use Rattle.std.specs.List.{All, AllZip, AllByRecursion}
 use Rattle.std.specs.declared.alloc.AllocError.{AllocError}
 use Rattle.config_file.specs.File.{Entry, IsFile}
 use Rattle.config_file.specs.Walk as walk
 use Rattle.config_file.specs.Walk.{Content, Stop, Line, NoValue, Unknown, NotRead, TooDeep, Item, Found}
 use Rattle.config_file.specs.Walk.{Stops, Walks, WalksText, HasOneContent}
+use Rattle.config_file.specs.Listing.{IsListed}
+use Rattle.config_file.specs.Views.{entry_of}
+use Rattle.config_file.specs.Settings.{AddsFile, AreListed}
 use Rattle.config_file.specs.Settings.{IsValueOf, IsSettingOf, AddsEach, TellsStop, found_item, AddsWalk}
 use Rattle.config_file.specs.Settings.{IsSameSetting, HasSameFront, HasMemory, IsSameEnd, value_text}
 use Rattle.config_file.specs.declared.errors.FileError.{FileError}
@@ -42,17 +46,18 @@ of_file : {text : List ℕ} {entries : List Entry} {error : Option FileError} �
     → AllByRecursion IsRead entries
 of_file {entries = entries} file = each_read entries (entries_are_read file)
 
-items_are_read : {contents : List ℕ → Content → Type 0} {known : Known} {depth : ℕ} {place : FilePlace}
-    {entries : List Entry} {error : Option FileError} {items : List (List ℕ × Item)} {whole : Bool}
-    → Walks contents known depth place entries error items whole → AllByRecursion IsRead entries → AreRead items
+items_are_read : {contents : List ℕ → Content → Type 0} {known : Known} {depth : ℕ} {here : Bool}
+    {place : FilePlace} {entries : List Entry} {error : Option FileError} {items : List (List ℕ × Item)} {whole : Bool}
+    → Walks contents known depth here place entries error items whole → AllByRecursion IsRead entries → AreRead items
 items_are_read walk.cut read = tt
 items_are_read walk.ends read = tt
 items_are_read walk.line read = tt
-items_are_read (walk.plain is more) read = (read.0, items_are_read more read.1)
+items_are_read (walk.plain is free more) read = (read.0, items_are_read more read.1)
+items_are_read (walk.forbidden_url is forbidden more) read = (read.0, items_are_read more read.1)
 items_are_read (walk.missing name is holds more) read = (read.0, items_are_read more read.1)
-items_are_read (walk.included {items = rest} less at text inner end within is holds file deep first more) read =
+items_are_read (walk.included {items = rest} less at text forbids inner end within is holds says file deep first more) read =
     (read.0, both_read within rest (items_are_read first (of_file file)) (items_are_read more read.1))
-items_are_read (walk.cut_within less at text inner end within is holds file deep first) read =
+items_are_read (walk.cut_within less at text forbids inner end within is holds says file deep first) read =
     (read.0, items_are_read first (of_file file))
 items_are_read (walk.no_value is more) read = (read.0, items_are_read more read.1)
 items_are_read (walk.unknown is more) read = (read.0, items_are_read more read.1)
@@ -90,7 +95,7 @@ same_after (x ∷ old) a b same = ((refl, refl, refl), same_after old a b same)
 
 -- ---- the end of a walk
 
-abbrev last : Option (List ℕ × Stop) → List (List ℕ × Item)
+abbrev pub last : Option (List ℕ × Stop) → List (List ℕ × Item)
 last None = []
 last (Some (file, stop)) = (file, Stops stop) ∷ []
 
@@ -151,7 +156,7 @@ ends_same f g s t more all e =
     let same = sym (seen_is f s [] (λ n. refl)) ∙ ap seen (append-nil _ ∙ e) ∙ seen_is g t more all in
     (ap (λ p. p.0) same, ap (λ p. p.1) same)
 
-same_found : (f g : List (List ℕ × Entry)) (s t : Option (List ℕ × Stop)) (v w : Bool) → (s ≡ None → v ≡ true)
+pub same_found : (f g : List (List ℕ × Entry)) (s t : Option (List ℕ × Stop)) (v w : Bool) → (s ≡ None → v ≡ true)
     → (t ≡ None → w ≡ true) → Agree (map found_item f ++ last s) v (map found_item g ++ last t) w
     → (f ≡ g) × (s ≡ t)
 same_found f g s t v w first second (inl is) =
@@ -235,3 +240,53 @@ cut_addition contents known place text old a b e s one memory (found, (first, sa
     let read : AreRead (map found_item found ++ []) =
     rw (append-nil (map found_item found)) (items_are_read walks (of_file file)) in
     rw (same, so) (settings_begin found h old first others read zip (rw whole at also))
+
+-- ---- what is added is listed
+
+abbrev IsListedSetting : Setting → Type 0
+IsListedSetting setting =
+    (text : List ℕ) × IsListed (entry_of setting.entry).section (entry_of setting.entry).key text
+
+listed_each : (found : List (List ℕ × Entry)) (rest : List (List ℕ × Item)) (added : List Setting)
+    → AreRead (map found_item found ++ rest) → AllZip IsSettingOf found added → AreListed added
+listed_each [] rest [] read zip = All-nil IsListedSetting
+listed_each (one ∷ found) rest (s ∷ added) read zip = All-cons IsListedSetting s added
+    (subst (λ e. (text : List ℕ) × IsListed e.section e.key text) (sym zip.0.entry) read.0.listed)
+    (listed_each found rest added read.1 zip.1)
+listed_each found rest added read zip = absurd (search)
+
+still_listed : (found : List (List ℕ × Entry)) (rest : List (List ℕ × Item)) (old new : List Setting)
+    → AreRead (map found_item found ++ rest) → AddsEach found old new → AreListed old → AreListed new
+still_listed found rest old new read (added, is, zip) listed =
+    rw is (All-append IsListedSetting old added listed (listed_each found rest added read zip))
+
+text_read : {contents : List ℕ → Content → Type 0} {known : Known} {place : FilePlace} {text : List ℕ}
+    {items : List (List ℕ × Item)} {whole : Bool} → WalksText contents known place text items whole → AreRead items
+text_read (entries, error, file, walks) = items_are_read walks (of_file file)
+
+pub walk_keeps_listed : (contents : List ℕ → Content → Type 0) (known : Known) (place : FilePlace) (text : List ℕ)
+    (old new : List Setting) (result : Result (Unit {0}) AddError)
+    → AddsWalk contents known place text old new result → AreListed old → AreListed new
+walk_keeps_listed contents known place text old new (Ok u) (found, adds, walks) listed =
+    still_listed found [] old new (rw (append-nil (map found_item found)) (text_read {text = text} walks)) adds listed
+walk_keeps_listed contents known place text old new (Err (error.Memory e)) (found, adds, walks) listed =
+    still_listed found [] old new (rw (append-nil (map found_item found)) (text_read {text = text} walks)) adds listed
+walk_keeps_listed contents known place text old new (Err (error.Line n at)) (found, file, stop, adds, tells, walks) listed =
+    still_listed found ((file, Stops stop) ∷ []) old new (text_read {text = text} walks) adds listed
+walk_keeps_listed contents known place text old new (Err (error.Include n line why)) (found, file, stop, adds, tells, walks)
+    listed = still_listed found ((file, Stops stop) ∷ []) old new (text_read {text = text} walks) adds listed
+
+of_one : (file : List ℕ) (entries more : List Entry) → AllByRecursion IsRead (entries ++ more)
+    → AreRead (map found_item (map (λ entry. (file, entry)) entries) ++ [])
+of_one file [] more read = tt
+of_one file (entry ∷ entries) more read = (read.0, of_one file entries more read.1)
+
+pub file_keeps_listed : (file text : List ℕ) (old new : List Setting) (result : Result (Unit {0}) AddError)
+    → AddsFile file text old new result → AreListed old → AreListed new
+file_keeps_listed file text old new (Ok u) (entries, is, adds) listed =
+    still_listed _ [] old new (of_one file entries [] (rw (append-nil entries) (of_file is))) adds listed
+file_keeps_listed file text old new (Err (error.Line name at)) (same, (entries, is, adds)) listed =
+    still_listed _ [] old new (of_one file entries [] (rw (append-nil entries) (of_file is))) adds listed
+file_keeps_listed file text old new (Err (error.Memory e)) (entries, (rest, end, is), adds) listed =
+    still_listed _ [] old new (of_one file entries rest (of_file is)) adds listed
+file_keeps_listed file text old new (Err (error.Include name line why)) is listed = absurd is

@@ -1,6 +1,6 @@
 -- An entry of a file aims at one file at most: its section and its value spell a text, and a text has one
 -- meaning.
-use Rattle.std.proofs.Common.{◌≡◌, ℕ, true, false, List, [], ◌++◌, codes, Option, None, Some, refl, sym, ap}
+use Rattle.std.proofs.Common.{◌≡◌, ℕ, Bool, true, false, List, [], ◌++◌, codes, Option, None, Some, refl, sym, ap}
 use Rattle.std.proofs.Common.{◌∙◌, subst, arith}
 use Rattle.std.proofs.lemmas.Bool.{true≢false}
 use Rattle.std.proofs.lemmas.Option.{same_Some, none-some}
@@ -12,13 +12,15 @@ use Rattle.config_file.specs.Value.{SpellsValue}
 use Rattle.config_file.specs.Listing.{IsListed, alone, in_section, plain, quoted}
 use Rattle.config_file.specs.Include as include
 use Rattle.config_file.specs.Include.{SpellsCondition, Holds, IsSameCondition, IsPathIn, EntryFollows}
-use Rattle.config_file.specs.Include.{IsGitDir, IsOnBranch, HasUrl}
+use Rattle.config_file.specs.Include.{IsGitDir, IsOnBranch, HasUrl, forbids_urls, Forbids, IsForbidden}
 use Rattle.config_file.specs.Path as path
 use Rattle.config_file.specs.Path.{Expands, BeginsUnknown, IsIncludedName, is_rest}
 use Rattle.config_file.specs.Walk.{IsNameOf, SpellsName, SpellsUnknown}
 use Rattle.config_file.specs.declared.path.Directories.{Directories}
 use Rattle.config_file.specs.declared.walk.Known.{Known}
 use Rattle.config_file.specs.declared.include.Includes.{Includes}
+use Rattle.config_file.specs.declared.include.Urls.TheVariants.{Sought}
+use Rattle.config_file.specs.declared.include.Urls.TheVariants as urls
 use Rattle.config_file.specs.declared.include.Includes.TheVariants.{Skipped, AsGit, All}
 use Rattle.config_file.specs.declared.include.Condition.{Condition}
 use Rattle.config_file.specs.declared.include.Condition.TheVariants.{Always, GitDir, GitDirIgnoringCase}
@@ -204,3 +206,39 @@ one_aim known name dir entry (file a) unknown read is so =
     absurd (known_and_unknown known name a read.spelled is.1.1 so.1.1 is.1.2 so.1.2)
 one_aim known name dir entry (file a) (file b) read is so =
     ap file (same_file known name read.spelled is.1.1 so.1.1 is.1.2 so.1.2)
+
+-- ---- URLs of remotes
+
+same_condition_forbids : (includes : Includes) (a b : Condition) → IsSameCondition a b
+    → forbids_urls includes a ≡ forbids_urls includes b
+same_condition_forbids Skipped a b same = refl
+same_condition_forbids All a b same = refl
+same_condition_forbids (AsGit r Sought) a b same = refl
+same_condition_forbids (AsGit r (urls.Known of)) (GitDir a) (GitDir b) same = refl
+same_condition_forbids (AsGit r (urls.Known of)) (GitDirIgnoringCase a) (GitDirIgnoringCase b) same = refl
+same_condition_forbids (AsGit r (urls.Known of)) (OnBranch a) (OnBranch b) same = refl
+same_condition_forbids (AsGit r (urls.Known of)) (HasRemoteUrl a) (HasRemoteUrl b) same = refl
+same_condition_forbids (AsGit r (urls.Known of)) a b same = ap (forbids_urls (AsGit r (urls.Known of))) same
+
+pub one_forbids : (includes : Includes) (entry : Entry) {a b : Bool} → IsRead entry → Forbids includes entry a
+    → Forbids includes entry b → a ≡ b
+one_forbids includes entry read (include.plain none) (include.plain also) = refl
+one_forbids includes entry read (include.plain none) (include.on_condition written raw is named) =
+    absurd (none written raw is)
+one_forbids includes entry read (include.on_condition written raw is named) (include.plain none) =
+    absurd (none written raw is)
+one_forbids includes entry read (include.on_condition written raw is named) (include.on_condition other same so also) =
+    let (text, spelled) = spells read.listed.1 is in
+    let (c, names, first) = named text spelled in
+    let raws = same_Some raw same (ap (λ s. s.1) (same_Some _ _ (sym is ∙ so))) in
+    let (d, tells, second) = also text (subst (λ r. SpellsSubsection r text) raws spelled) in
+    sym first ∙ same_condition_forbids includes c d (one_condition text c d names tells) ∙ second
+
+pub one_forbidden : (here : Bool) (entry : Entry) {a b : Bool} → IsRead entry → IsForbidden here entry a
+    → IsForbidden here entry b → a ≡ b
+one_forbidden here entry {a = true} {b = true} read first second = refl
+one_forbidden here entry {a = false} {b = false} read first second = refl
+one_forbidden here entry {a = true} {b = false} read first second =
+    let (text, listed) = read.listed in sym ((second text listed).1 ((first text listed).0 refl))
+one_forbidden here entry {a = false} {b = true} read first second =
+    let (text, listed) = read.listed in (first text listed).1 ((second text listed).0 refl)

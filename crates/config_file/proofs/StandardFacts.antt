@@ -2,8 +2,8 @@
 -- comment sign, byte of a name, case, include or condition fails here. Not on that page, but as Git reads
 -- them, are CR, the byte order mark, and the lines of entries and errors.
 use Rattle.std.proofs.Common.{true, false, ◌≡◌, ℕ, List, [], ◌∷◌, ◌++◌, map, option_map, codes, Bor, Option}
-use Rattle.std.proofs.Common.{Some, None, false, refl, ap}
-use Rattle.std.specs.List.{flat_map}
+use Rattle.std.proofs.Common.{Some, None, false, refl, ap, inl, inr, arith, zero, suc, ◌<◌}
+use Rattle.std.specs.List.{flat_map, slice_index_or}
 use Rattle.std.proofs.lemmas.Option.{same_Some, none-some}
 use Prim.Native.String.{String}
 use Rattle.config_file.proofs.Fronts.{is_front, lacks}
@@ -13,9 +13,17 @@ use Rattle.config_file.specs.declared.errors.FileFault.TheVariants.{BadLine, Nul
 use Rattle.config_file.specs.declared.errors.FileError.{FileError}
 use Rattle.config_file.specs.declared.include.Condition.TheVariants.{GitDir, GitDirIgnoringCase, OnBranch}
 use Rattle.config_file.specs.declared.include.Condition.TheVariants.{HasRemoteUrl, Unknown}
+use Rattle.config_file.specs.declared.include.Condition.{Condition}
+use Rattle.config_file.specs.declared.include.Includes.TheVariants.{AsGit}
+use Rattle.config_file.specs.declared.include.Repository.{Repository}
+use Rattle.config_file.specs.declared.include.Urls.TheVariants.{Known}
+use Rattle.config_file.specs.declared.scope.Scope.TheVariants.{System, Global, Local, Worktree, Command}
 use Rattle.config_file.specs.Bytes.{line_feed}
 use Rattle.config_file.specs.File.{Entry, entry_at, error_at}
-use Rattle.config_file.specs.Include.{SpellsCondition, IsPathIn, below, anywhere, at_home}
+use Rattle.config_file.specs.Include.{SpellsCondition, IsPathIn, below, anywhere, at_home, Holds, MatchesDir}
+use Rattle.config_file.specs.Include as include
+use Rattle.config_file.specs.Pattern.{MatchesText}
+use Rattle.config_file.specs.Scope.{scope_name}
 use Rattle.config_file.specs.Path.{Expands, below_home, below_prefix, other, BeginsUnknown, user}
 use Rattle.config_file.specs.Path.{IsIncludedName, absolute, relative}
 
@@ -327,3 +335,72 @@ matched_in_any_case =
 
 pub patterns_match_in_any_case : AreMatched true true (pairs matched_in_any_case)
 patterns_match_in_any_case = all_matched true true (pairs matched_in_any_case) refl
+
+-- ---- conditions that hold
+
+abbrev repository : Repository
+repository = record {
+  real_git_dir = lent "/path/to/foo/.git";
+  git_dir = lent "/path/to/foo/.git";
+  branch = Some (lent "foo-branch");
+  real_home = None;
+}
+
+abbrev remote : Bor (List ℕ)
+remote = lent "https://example.com/git"
+
+-- the condition holds in this repository, which has a remote
+abbrev HoldsThere : Condition → Type 0
+HoldsThere = Holds (AsGit (Some repository)
+    (Known (record { ref_ptr = (0, 0); now = remote ∷ [] }))) (codes "/etc")
+
+abbrev cased : List (String × String)
+cased = ("/path/to/FOO/.git", "/path/to/foo/.git") ∷ ("FOO-branch", "foo-branch")
+    ∷ ("https://EXAMPLE.com/**", "https://example.com/git") ∷ []
+
+cased_differ : AreMatched false false (pairs cased)
+cased_differ = all_matched false false (pairs cased) refl
+
+abbrev same : List (String × String)
+same = ("/path/to/foo/.git", "/path/to/foo/.git") ∷ ("foo-branch", "foo-branch")
+    ∷ ("https://example.com/**", "https://example.com/git") ∷ []
+
+same_match : AreMatched true false (pairs same)
+same_match = all_matched true false (pairs same) refl
+
+-- "gitdir/i: .. the same as gitdir except that matching is done case-insensitively", and the others mind case
+pub conditions_mind_case : HoldsThere (GitDir (lent "/path/to/foo/.git"))
+    × HoldsThere (OnBranch (lent "foo-branch"))
+    × HoldsThere (HasRemoteUrl (lent "https://example.com/**"))
+    × ¬ (HoldsThere (GitDir (lent "/path/to/FOO/.git")))
+    × ¬ (HoldsThere (OnBranch (lent "FOO-branch")))
+    × ¬ (HoldsThere (HasRemoteUrl (lent "https://EXAMPLE.com/**")))
+conditions_mind_case = (
+  inl (include.other (lacks (codes "./") _ refl) same_match.0),
+  same_match.1.0,
+  (0, remote, omega arith, refl, same_match.1.1.0),
+  λ h. elim h [ inl d ↦ elsewhere d | inr d ↦ elsewhere d ],
+  cased_differ.1.0,
+  λ h. only (λ (url : Bor (List ℕ)). MatchesText false (codes "https://EXAMPLE.com/**") url.now) remote
+      cased_differ.1.1.0 h.0 h.1 h.2 h.3 h.4,
+) where
+  only : {X : Type 0} (P : X → Type 0) (x : X) → ¬ (P x) → (k : ℕ) (y : X) → k < 1
+      → slice_index_or (x ∷ []) k y ≡ y → ¬ (P y)
+  only P x never zero y less is p = never (rw is p)
+  only P x never (suc k) y less is p = omega (arith, less)
+
+  elsewhere : ¬ (MatchesDir false (codes "/etc") (codes "/path/to/foo/.git") (codes "/path/to/FOO/.git") (codes "/path/to/foo/.git"))
+  elsewhere (include.near rest e within m) = lacks (codes "./") (codes "/path/to/FOO/.git") refl rest e
+  elsewhere (include.other l m) = cased_differ.0 m
+
+pub gitdir_i_ignores_case : HoldsThere (GitDirIgnoringCase (lent "/path/to/FOO/.git"))
+gitdir_i_ignores_case = inl (include.other (lacks (codes "./") _ refl) all.0) where
+  all : AreMatched true true (pairs cased)
+  all = all_matched true true (pairs cased) refl
+
+-- ---- scopes
+
+-- "--show-scope .. (worktree, local, global, system, command)"
+pub scopes_are_named : map scope_name (Worktree ∷ Local ∷ Global ∷ System ∷ Command ∷ [])
+    ≡ map (λ t. codes t) ("worktree" ∷ "local" ∷ "global" ∷ "system" ∷ "command" ∷ [])
+scopes_are_named = refl

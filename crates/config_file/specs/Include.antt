@@ -1,5 +1,5 @@
 -- The entries that include a file, and the conditions on which they are followed.
-use Rattle.std.specs.Prelude.{◌≡◌, ℕ, Bool, true, false, if◌then◌else◌, ◌==◌, ◌&&◌, List, ◌++◌, ◌∷◌, codes}
+use Rattle.std.specs.Prelude.{◌≡◌, ◌≢◌, ◌↔◌, ℕ, Bool, true, false, IsTrue, if◌then◌else◌, ◌==◌, ◌&&◌, List, ◌++◌, ◌∷◌, codes}
 use Rattle.std.specs.Prelude.{nat_eq, Option, None, Some, ◌⊎◌, ⊤, map, option_copied, option_map}
 use Rattle.std.specs.Char.{to_ascii_lowercase}
 use Rattle.std.specs.List.{Any, ends_with, starts_with}
@@ -14,6 +14,7 @@ use Rattle.config_file.specs.declared.include.Urls.{Urls}
 use Rattle.config_file.specs.declared.include.Urls.TheVariants.{Sought, Known}
 use Rattle.config_file.specs.File.{Entry}
 use Rattle.config_file.specs.Key.{HasKey, key}
+use Rattle.config_file.specs.Listing.{IsListed}
 use Rattle.config_file.specs.Subsection.{SpellsSubsection}
 use Rattle.config_file.specs.Path.{is_rest}
 use Rattle.config_file.specs.Pattern.{MatchesText}
@@ -60,20 +61,22 @@ abbrev pub MatchesBelow : Bool → List ℕ → List ℕ → List ℕ → Type 0
 MatchesBelow ignores_case dir pattern name =
     (front : List ℕ) × (left : List ℕ) × (name ≡ front ++ left) × IsSameName ignores_case front dir × MatchesText ignores_case pattern left
 
--- A pattern, in a file of this directory, matches the name of a git directory. The `.` of `./` at its start
--- is this directory, whose bytes match only themselves, or their other case if case is ignored.
-pub data MatchesDir (ignores_case : Bool) (dir pattern name : List ℕ) : Type 0 where
-  near : (rest : List ℕ) → pattern ≡ codes "./" ++ rest
+-- A pattern, in a file of this directory, matches the name of a git directory whose real name has no links. The
+-- `.` of `./` at its start is this directory, whose bytes match only themselves, or their other case if case is
+-- ignored. The real name has to be below it then.
+pub data MatchesDir (ignores_case : Bool) (dir real pattern name : List ℕ) : Type 0 where
+  near : (rest : List ℕ) → pattern ≡ codes "./" ++ rest → MatchesBelow ignores_case dir (codes "/**") real
       → MatchesBelow ignores_case dir (below (codes "/" ++ rest)) name
-      → MatchesDir ignores_case dir pattern name
+      → MatchesDir ignores_case dir real pattern name
   other : LacksFront (codes "./") pattern → MatchesText ignores_case (below (anywhere pattern)) name
-      → MatchesDir ignores_case dir pattern name
+      → MatchesDir ignores_case dir real pattern name
 
 -- the pattern, in a file of this directory, matches one of the two names of the git directory
 abbrev pub IsGitDir : Bool → List ℕ → List ℕ → Repository → Type 0
 IsGitDir ignores_case dir pattern repository =
-    MatchesDir ignores_case dir (at_home (option_copied repository.real_home) pattern) repository.real_git_dir.now
-    ⊎ MatchesDir ignores_case dir (at_home (option_copied repository.real_home) pattern) repository.git_dir.now
+    let whole = at_home (option_copied repository.real_home) pattern in
+    let real = repository.real_git_dir.now in
+    MatchesDir ignores_case dir real whole real ⊎ MatchesDir ignores_case dir real whole repository.git_dir.now
 
 -- there is a branch, and the pattern matches its name
 abbrev pub IsOnBranch : List ℕ → Option (List ℕ) → Type 0
@@ -125,3 +128,23 @@ pub data EntryFollows (includes : Includes) (dir : List ℕ) (entry : Entry) : B
   unrelated : ¬ (IsPathIn (codes "include") None entry)
       → ((raw : List ℕ) → ¬ (IsPathIn (codes "includeif") (Some raw) entry))
       → EntryFollows includes dir entry false
+
+-- whether Git allows no URL of a remote in a file that is included on this condition: on any while the URLs are
+-- sought, and otherwise on one that asks about them
+abbrev pub forbids_urls : Includes → Condition → Bool
+forbids_urls (AsGit repository Sought) condition = true
+forbids_urls (AsGit repository (Known urls)) (HasRemoteUrl pattern) = true
+forbids_urls _ _ = false
+
+-- whether Git allows no URL of a remote in the file that the entry includes, because of the condition of the entry
+pub data Forbids (includes : Includes) (entry : Entry) : Bool → Type 0 where
+  plain : ((written raw : List ℕ) → entry.section ≢ Some (written, Some raw)) → Forbids includes entry false
+  on_condition : (written raw : List ℕ) {forbids : Bool} → entry.section ≡ Some (written, Some raw)
+      → ((text : List ℕ) → SpellsSubsection raw text
+      → (condition : Condition) × SpellsCondition text condition × (forbids_urls includes condition ≡ forbids))
+      → Forbids includes entry forbids
+
+-- whether the entry is the URL of a remote where the flag says that Git allows none
+abbrev pub IsForbidden : Bool → Entry → Bool → Type 0
+IsForbidden none_allowed entry forbidden = (text : List ℕ) → IsListed entry.section entry.key text
+    → (IsTrue forbidden ↔ (IsTrue none_allowed × IsRemoteUrl entry))

@@ -26,7 +26,7 @@ use Rattle.config_file.specs.Shown.{quoted}
 use Rattle.config_file.specs.Value.{Ending, SpellsValue}
 use Rattle.config_file.specs.Views.{entry_of}
 use Rattle.config_file.specs.Walk.{Content, Text, Missing, Unreadable, Stop, Line, NoValue, Unknown, NotRead}
-use Rattle.config_file.specs.Walk.{TooDeep, Item, Found, Stops, WalksText}
+use Rattle.config_file.specs.Walk.{TooDeep, ForbiddenUrl, Item, Found, Stops, WalksText}
 use Rattle.config_file.specs.declared.errors.FileError.{FileError}
 use Rattle.config_file.specs.declared.files.Content.{Content as Given}
 use Rattle.config_file.specs.declared.files.Content.TheVariants as given
@@ -44,6 +44,7 @@ use Rattle.config_file.specs.declared.settings.Next.TheVariants as next
 use Rattle.config_file.specs.declared.walk.Include.{Include}
 use Rattle.config_file.specs.declared.walk.Include.TheVariants.{NotFollowed, MissingValue, UnknownDirectory}
 use Rattle.config_file.specs.declared.walk.Include.TheVariants.{Named}
+use Rattle.config_file.specs.declared.walk.Include.TheVariants as what
 use Rattle.config_file.specs.declared.walk.Known.{Known}
 use Rattle.config_file.specs.declared.walk.FilePlace.{FilePlace}
 
@@ -65,12 +66,15 @@ abbrev pub text_shown : Option (List ℕ) → List ℕ
 text_shown None = []
 text_shown (Some text) = codes ": " ++ quoted text
 
--- why Git does not go on after an entry that includes a file, in words
+-- why Git does not go on after an entry, in words
 abbrev pub include_fault_text : IncludeFault → List ℕ
 include_fault_text fault.MissingValue = codes "an include has no value"
 include_fault_text fault.UnknownDirectory = codes "the path of an include begins with an unknown directory"
 include_fault_text (fault.Unreadable why) = why.now
 include_fault_text fault.TooDeep = codes "files include each other too deep"
+include_fault_text fault.ForbiddenUrl =
+    codes "remote URLs cannot be configured in file directly or indirectly included by "
+    ++ codes "includeIf.hasconfig:remote.*.url"
 
 -- `FILE:LINE: reason`, or `no memory`
 abbrev pub add_error_shown : AddError → List ℕ
@@ -159,6 +163,7 @@ IsEntered contents place text _ = ⊥
 abbrev pub IsStop : (List ℕ → Content → Type 0) → Include → IncludeFault → Type 0
 IsStop contents MissingValue why = why ≡ fault.MissingValue
 IsStop contents UnknownDirectory why = why ≡ fault.UnknownDirectory
+IsStop contents what.ForbiddenUrl why = why ≡ fault.ForbiddenUrl
 IsStop contents (Named name) (fault.Unreadable why) = contents name.items Unreadable
 IsStop contents _ _ = ⊥
 
@@ -174,6 +179,7 @@ IsFaultOf (NoValue _) fault.MissingValue = ⊤
 IsFaultOf (Unknown _) fault.UnknownDirectory = ⊤
 IsFaultOf (NotRead _) (fault.Unreadable _) = ⊤
 IsFaultOf (TooDeep _) fault.TooDeep = ⊤
+IsFaultOf (ForbiddenUrl _) fault.ForbiddenUrl = ⊤
 IsFaultOf _ _ = ⊥
 
 -- the error tells this stop in the file of this name, with its line and its fault
@@ -187,6 +193,8 @@ TellsStop file (NotRead entry) (error.Include name line fault) =
     (name.now ≡ file) × (line ≡ entry.line) × IsFaultOf (NotRead entry) fault
 TellsStop file (TooDeep entry) (error.Include name line fault) =
     (name.now ≡ file) × (line ≡ entry.line) × IsFaultOf (TooDeep entry) fault
+TellsStop file (ForbiddenUrl entry) (error.Include name line fault) =
+    (name.now ≡ file) × (line ≡ entry.line) × IsFaultOf (ForbiddenUrl entry) fault
 TellsStop _ _ _ = ⊥
 
 -- an entry as an item of a walk

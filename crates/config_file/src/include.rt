@@ -5,6 +5,7 @@ ghost use Rattle.std.specs.Char.{to_ascii_lowercase};
 ghost use Rattle.config_file.specs.Include as spec;
 ghost use Rattle.config_file.specs.Include.{SpellsCondition, IsGitDir, IsOnBranch, HasUrl, Holds};
 ghost use Rattle.config_file.specs.Include.{EntryFollows, IsSameName, MatchesBelow, MatchesDir, IsRemoteUrl};
+ghost use Rattle.config_file.specs.Include.{Forbids};
 ghost use Rattle.config_file.specs.Listing.{IsListed};
 ghost use Rattle.config_file.specs.Views.{entry_of};
 
@@ -146,19 +147,25 @@ fn matches_below(pattern: &[u8], name: &[u8], dir: &[u8], ignores_case: bool) ->
     }
 }
 
-/// Whether the pattern, in a file of this directory, matches the name of a git directory.
+/// Whether the pattern, in a file of this directory, matches the name of a git directory whose name without
+/// links is `real`.
 #[tactic(auto, using(crate::proofs::Conditions::is_other))]
 fn matches_dir(
     alloc: Global,
     dir: &[u8],
     pattern: &[u8],
+    real: &[u8],
     name: &[u8],
     ignores_case: bool,
 ) -> Result<bool, AllocError>
-    ensures { IfOk result (λ holds. IsTrue holds ↔ (MatchesDir ignores_case dir.now pattern.now name.now)) }
+    ensures { IfOk result (λ holds. IsTrue holds
+        ↔ (MatchesDir ignores_case dir.now real.now pattern.now name.now)) }
 {
     match pattern.strip_prefix(b"./") {
         Some(rest) => {
+            if !matches_below(b"/**", real, dir, ignores_case) {
+                return Ok(false);
+            }
             let mut whole = joined(alloc, b"/", rest)?;
             push_below(&mut whole)?;
             Ok(matches_below(&whole, name, dir, ignores_case))
@@ -174,7 +181,8 @@ fn matches_dir(
 impl Repository<'_> {
     /// Whether the pattern of `gitdir:` matches the git directory. `~` at its start is the home directory, if
     /// that is known, and the `.` of `./` is `real_dir`, the directory of the file that has the pattern, with
-    /// its links resolved and no `/` at its end. It fails only if memory is refused.
+    /// its links resolved and no `/` at its end. A pattern with `./` matches only if the git directory, with its
+    /// links resolved, is below that directory. It fails only if memory is refused.
     pub fn is_git_dir(
         &self,
         alloc: Global,
@@ -185,11 +193,11 @@ impl Repository<'_> {
         ensures { IfOk result (λ holds. IsTrue holds
             ↔ (IsGitDir ignores_case real_dir.now pattern.now self.now)) }
     {
-        let pattern = at_home(alloc, self.real_home, pattern)?;
-        if matches_dir(alloc, real_dir, &pattern, self.real_git_dir, ignores_case)? {
+        let (pattern, real) = (at_home(alloc, self.real_home, pattern)?, self.real_git_dir);
+        if matches_dir(alloc, real_dir, &pattern, real, real, ignores_case)? {
             return Ok(true);
         }
-        Ok(matches_dir(alloc, real_dir, &pattern, self.git_dir, ignores_case)?)
+        Ok(matches_dir(alloc, real_dir, &pattern, real, self.git_dir, ignores_case)?)
     }
 
     /// Whether the pattern of `onbranch:` matches the branch, if there is one.
@@ -240,7 +248,8 @@ pub fn is_remote_url(entry: &Entry<'_>) -> bool
 /// The URLs of remotes, which `hasconfig:remote.*.url:` asks about.
 ///
 /// Git reads all files twice if one has such a condition. The first time the URLs are sought, and the second
-/// time they are known.
+/// time they are known. Each time a walk stops at a URL in a file that such a condition includes, directly or
+/// not; while the URLs are sought, also in one that any other condition includes.
 ///
 /// ```rust
 /// use config_file::Urls;
@@ -353,5 +362,33 @@ impl Includes<'_> {
         let mut text = Vec::new(alloc);
         subsection.push_text(&mut text)?;
         self.hold(alloc, real_dir, Condition::parse(&text))
+    }
+
+    /// Whether Git allows no URL of a remote in a file that is included on this condition.
+    fn forbids_urls(self, condition: Condition<'_>) -> bool
+        ensures { result ≡ spec.forbids_urls self.entry condition.entry }
+    {
+        let Includes::AsGit(_, urls) = self else {
+            return false;
+        };
+        match urls {
+            Urls::Sought => true,
+            Urls::Known(_) => matches!(condition, Condition::HasRemoteUrl(_)),
+        }
+    }
+
+    /// Whether Git allows no URL of a remote in the file that an entry includes, because of its condition.
+    pub(crate) fn forbid(self, alloc: Global, entry: &Entry<'_>) -> Result<bool, AllocError>
+        ensures { IfOk result (Forbids self.entry (entry_of entry.now)) }
+    {
+        let Some(section) = &entry.section else {
+            return Ok(false);
+        };
+        let Some(subsection) = &section.subsection else {
+            return Ok(false);
+        };
+        let mut text = Vec::new(alloc);
+        subsection.push_text(&mut text)?;
+        Ok(self.forbids_urls(Condition::parse(&text)))
     }
 }

@@ -34,6 +34,11 @@ pub fn each_is_listed()
         → (spelled : List ℕ) × (ending : Ending) × SpellsValue raw spelled ending) entries }
 {}
 
+/// The bytes of a value spell at most one text.
+pub fn one_value()
+    ensures { (raw s t : List ℕ) (e f : Ending) → SpellsValue raw s e → SpellsValue raw t f → s ≡ t }
+{}
+
 /// Each text is a key, or Git refuses it, in exactly one way.
 pub fn one_key()
     ensures each { (text : List ℕ)

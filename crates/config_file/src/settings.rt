@@ -132,7 +132,7 @@ impl<F: fmt::Display> fmt::Display for RefusedSetting<'_, '_, F> {
     }
 }
 
-/// Why Git does not go on after an entry that includes a file.
+/// Why Git does not go on after an entry.
 ///
 /// ```rust
 /// use config_file::IncludeFault;
@@ -151,6 +151,8 @@ pub enum IncludeFault<'t> {
     Unreadable(&'t str),
     /// The file is more than ten includes deep.
     TooDeep,
+    /// It is the URL of a remote, in a file that is included on a condition ([`Urls`](crate::Urls)).
+    ForbiddenUrl,
 }
 
 impl<'t> IncludeFault<'t> {
@@ -165,6 +167,10 @@ impl<'t> IncludeFault<'t> {
             }
             IncludeFault::Unreadable(why) => why,
             IncludeFault::TooDeep => "files include each other too deep",
+            IncludeFault::ForbiddenUrl => {
+                "remote URLs cannot be configured in file directly or indirectly included by \
+                    includeIf.hasconfig:remote.*.url"
+            }
         }
     }
 }
@@ -468,6 +474,7 @@ pub fn next_of<'t, S: Files<'t>>(
         Include::NotFollowed => return Ok(Next::Behind),
         Include::MissingValue => return Ok(Next::Stops(IncludeFault::MissingValue)),
         Include::UnknownDirectory => return Ok(Next::Stops(IncludeFault::UnknownDirectory)),
+        Include::ForbiddenUrl => return Ok(Next::Stops(IncludeFault::ForbiddenUrl)),
         Include::Named(name) => name,
     };
     match files.read(alloc, &name)? {

@@ -1,16 +1,17 @@
 //! The walk over the entries of a file and of the files that it includes, in Git's order. Its caller pulls
 //! it, and opens the files.
 ghost use Rattle.std.specs.Prelude.{◌≡◌, ◌≤◌, ◌++◌, ◌∷◌, ℕ, List, [], IfOk, MatchOption, length, true, false};
-ghost use Rattle.std.specs.Prelude.{option_copied, map, codes};
+ghost use Rattle.std.specs.Prelude.{option_copied, map, codes, reverse, None};
 ghost use Rattle.std.specs.Char.{to_ascii_lowercase};
 ghost use Rattle.config_file.specs.Path.{BeginsUnknown};
 ghost use Rattle.config_file.specs.Views.{entry_of};
 ghost use Rattle.config_file.specs.Walk.{Content, IsNameOf, IsInclude};
-ghost use Rattle.config_file.specs.Reading.Walks.{Enters, Takes};
+ghost use Rattle.config_file.specs.Left.{HasLeft};
+ghost use Rattle.config_file.specs.Reading.Walks.{Enters, Takes, IsIncludeIn, ForbidsBelow, none_allowed};
 
 use crate::entry::Entry;
 use crate::errors::FileError;
-use crate::include::Includes;
+use crate::include::{Includes, is_remote_url};
 use crate::path::{Directories, expand, included_name, joined};
 use crate::reader::Entries;
 use arrayvec::ArrayVec;
@@ -85,6 +86,9 @@ pub enum Include {
     MissingValue,
     /// Its path begins with a user's name, or with a directory that is not known, where Git stops.
     UnknownDirectory,
+    /// It is the URL of a remote, in a file that is included on a condition, directly or not, where Git allows
+    /// none ([`Urls`](crate::Urls)) and stops.
+    ForbiddenUrl,
     /// It includes the file of this name.
     Named(Vec<u8>),
 }
@@ -149,6 +153,42 @@ pub fn include_of(
     }
 }
 
+/// What an entry of a file includes, or that it is the URL of a remote where none is allowed.
+#[inline(always)]
+fn include_in(
+    alloc: Global,
+    known: &Known<'_>,
+    place: FilePlace<'_>,
+    none_allowed: bool,
+    entry: &Entry<'_>,
+) -> Result<Include, AllocError>
+    ensures { IfOk result (IsIncludeIn known.now place.entry none_allowed (entry_of entry.now)) }
+{
+    let include = include_of(alloc, known, place, entry)?;
+    if none_allowed && matches!(include, Include::NotFollowed) && is_remote_url(entry) {
+        return Ok(Include::ForbiddenUrl);
+    }
+    Ok(include)
+}
+
+/// Whether Git allows no URL of a remote in the file that an entry includes, if it includes one: none may be in
+/// its own file, or its condition says so.
+#[inline(always)]
+fn forbids_below(
+    alloc: Global,
+    known: &Known<'_>,
+    none_allowed: bool,
+    entry: &Entry<'_>,
+    include: &Include,
+) -> Result<bool, AllocError>
+    ensures { IfOk result (ForbidsBelow known.now.includes none_allowed (entry_of entry.now) include.now) }
+{
+    match include {
+        Include::Named(_) => Ok(known.includes.forbid(alloc, entry)? || none_allowed),
+        _ => Ok(false),
+    }
+}
+
 /// A file that a walk is in, and the entries that are left of it.
 ///
 /// ```rust
@@ -160,7 +200,7 @@ pub fn include_of(
 /// for frame in walk.frames() {
 ///     let (section, line, rest) = frame.entries.parts();
 ///     let entries = Entries::resume(section, line, rest).expect(&rt, "lines that can be counted");
-///     assert!(rt; same.go_on(Frame { place: frame.place, entries }));
+///     assert!(rt; same.go_on(Frame { place: frame.place, entries, forbids_urls: frame.forbids_urls }));
 /// }
 /// assert_eq!(rt; same.frames().len(), 1);
 /// ```
@@ -170,10 +210,13 @@ pub struct Frame<'t> {
     pub place: FilePlace<'t>,
     /// What is left of it.
     pub entries: Entries<'t>,
+    /// Whether Git allows no URL of a remote in the file that the last entry includes.
+    pub forbids_urls: bool,
 }
 
 impl Default for Frame<'_> {
-    ghost is_default = { λ frame. (frame.place.name.now ≡ []) × (frame.place.real_dir.now ≡ []) };
+    ghost is_default = { λ frame. (frame.place.name.now ≡ []) × (frame.place.real_dir.now ≡ [])
+        × HasLeft frame.entries [] None };
 
     fn default() -> Self {
         let place = FilePlace {
@@ -183,6 +226,7 @@ impl Default for Frame<'_> {
         Frame {
             place,
             entries: Entries::new(b""),
+            forbids_urls: false,
         }
     }
 }
@@ -214,8 +258,8 @@ pub enum Step<'t> {
 /// [`Walk::next`] returns one entry after the other. If an entry includes a file, it returns the name of that
 /// file, and the caller says what this file holds: [`Walk::enter`] goes on in its text. A caller that does
 /// not enter it goes on after the entry, as Git does if there is no such file. Git stops where an entry
-/// cannot be followed, a line cannot be read, a file cannot be opened, or `enter` returns false; a caller may
-/// go on all the same. A walk takes no memory, and it borrows from the texts.
+/// cannot be followed, a line cannot be read, a file cannot be opened, `enter` returns false, or the URL of a
+/// remote is forbidden; a caller may go on all the same. A walk takes no memory, and it borrows from the texts.
 ///
 /// ```rust
 /// use config_file::{Directories, FilePlace, Include, Includes, Known, Step, Urls, Walk};
@@ -268,6 +312,7 @@ impl<'t> Walk<'t> {
         let _ = frames.try_push(Frame {
             place,
             entries: Entries::new(text),
+            forbids_urls: false,
         });
         Walk { frames }
     }
@@ -283,6 +328,7 @@ impl<'t> Walk<'t> {
         self.go_on(Frame {
             place,
             entries: Entries::new(text),
+            forbids_urls: false,
         })
     }
 
@@ -304,6 +350,16 @@ impl<'t> Walk<'t> {
         &self.frames
     }
 
+    /// Whether Git allows no URL of a remote in the next file that is entered.
+    fn none_allowed(&self) -> bool
+        ensures { result ≡ none_allowed (reverse self.now.frames.items) }
+    {
+        match self.frames.last() {
+            Some(frame) => frame.forbids_urls,
+            None => false,
+        }
+    }
+
     /// The next step of the walk. It fails only if memory is refused, and the walk is of no use after that.
     #[inline(always)]
     pub fn next(&mut self, alloc: Global, known: &Known<'_>) -> Result<Step<'t>, AllocError>
@@ -318,8 +374,11 @@ impl<'t> Walk<'t> {
                 Some(Err(error)) => return Ok(Step::Line(place, error)),
                 None => continue 'frames,
             };
+            let none_allowed = self.none_allowed();
+            let include = include_in(alloc, known, place, none_allowed, &entry)?;
+            let forbids_urls = forbids_below(alloc, known, none_allowed, &entry, &include)?;
+            frame.forbids_urls = forbids_urls;
             let _ = self.frames.try_push(frame);
-            let include = include_of(alloc, known, place, &entry)?;
             return Ok(Step::Entry(place, entry, include));
         }
         Ok(Step::Ends)

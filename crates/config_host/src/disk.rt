@@ -4,7 +4,7 @@ ghost use Rattle.config_host.specs.declared.disk.ReadError.TheVariants.{Name, Sy
 
 use crate::environment::current_folder;
 use crate::names::{answer, path_inside, real_name, split_last, text_of};
-use bstr::BStr;
+use bstr::{BStr, ByteSlice};
 use bumpalo::Bump;
 use bumpalo::collections::into_bump_slice;
 use config_file::errors::FileFault;
@@ -93,6 +93,16 @@ impl ReadError {
     }
 }
 
+/// Whether Git stops in these whole lines.
+fn is_wrong(lines: &[u8]) -> bool {
+    for entry in Entries::new(lines) {
+        if entry.is_err() {
+            return true;
+        }
+    }
+    false
+}
+
 /// Whether what follows this text cannot change where Git stops in it.
 fn is_refused(text: &[u8]) -> bool {
     let lines = text.iter().filter(|byte| **byte == b'\n').count();
@@ -131,27 +141,67 @@ fn read_piece<'t, F: Read>(
     Ok(count != 0)
 }
 
-/// Reads to the end, at most 1 GiB, through this room. If the length is not known, it reads until Git
-/// would stop.
+/// Where the last line ends that ends behind this place, unless the next line may continue it.
+fn last_end(text: &[u8], seen: usize) -> Option<usize> {
+    let (_, new) = text.split_at_checked(seen)?;
+    let end = seen.saturating_add(new.rfind_byte(b'\n')?);
+    let (lines, _) = text.split_at_checked(end)?;
+    if lines.ends_with(b"\\") || lines.ends_with(b"\\\r") {
+        return None;
+    }
+    Some(end.saturating_add(1))
+}
+
+/// How far a text is judged that still comes.
+#[derive(Drop)]
+struct Judged {
+    /// The number of bytes at its start in which Git does not stop. They are whole lines.
+    passed: usize,
+    /// The length at which the rest is judged though no line of it has ended.
+    next: usize,
+}
+
+impl Judged {
+    /// Whether Git stops in this text, whatever follows it. What follows `seen` has come since it was asked last.
+    /// Each line is read once.
+    fn stops(&mut self, text: &[u8], seen: usize) -> bool {
+        if let Some(end) = last_end(text, seen) {
+            if is_wrong(text.get(self.passed..end).unwrap_or_default()) {
+                return true;
+            }
+            (self.passed, self.next) = (end, end.saturating_add(PIECE));
+        }
+        if text.len() < self.next {
+            return false;
+        }
+        let rest = text.get(self.passed..).unwrap_or_default();
+        self.next = text.len().saturating_add(rest.len());
+        is_refused(rest)
+    }
+}
+
+/// Reads to the end, at most 1 GiB, through this room. Behind the length that is known it reads until Git would
+/// stop, and judges each line as soon as it has come.
 fn read_all<'t, F: Read>(
     file: &mut F,
     room: &mut [u8],
     text: &mut Vec<u8, &'t Bump>,
-    is_known: bool,
+    known: usize,
 ) -> Result<(), ReadError> {
-    let mut asked_at = PIECE;
+    let mut judged = Judged {
+        passed: 0,
+        next: PIECE,
+    };
     for _ in 0..u64::MAX {
+        let seen = text.len();
         if !read_piece(file, room, text)? {
             break;
         }
         if LONGEST < text.len() {
             return Err(ReadError::Length);
         }
-        if !is_known && asked_at <= text.len() {
-            if is_refused(text) {
-                break;
-            }
-            asked_at = text.len().saturating_mul(2);
+        if known < text.len() && judged.stops(text, seen) {
+            break;
         }
     }
     Ok(())
@@ -276,8 +326,8 @@ impl<'t> Disk<'t> {
         }
     }
 
-    /// The bytes to the end of what is read, at most 1 GiB. If the length is not known, as that of a
-    /// device, they are read until Git would stop in them.
+    /// The bytes to the end of what is read, at most 1 GiB. If there are more than is known, as in a device or a
+    /// pipe, they are read until Git would stop in them.
     pub fn text<F: Read + Drop>(
         &self,
         mut file: F,
@@ -287,7 +337,7 @@ impl<'t> Disk<'t> {
         let mut text = Vec::with_capacity(self.texts, wanted)?;
         let mut room = Vec::new(self.host.alloc());
         room.resize(wanted.max(LEAST).min(PIECE), 0)?;
-        read_all(&mut file, &mut room, &mut text, length.is_some())?;
+        read_all(&mut file, &mut room, &mut text, length.unwrap_or(0))?;
         Ok(into_bump_slice(text))
     }
 

@@ -3,7 +3,7 @@ ghost use Rattle.std.specs.Prelude.{◌≡◌};
 ghost use Rattle.config_host.specs.declared.environment.HostError.TheVariants.{System};
 ghost use Rattle.config_host.specs.declared.error.HereError.TheVariants.{Host};
 
-use crate::disk::ReadError;
+use crate::disk::{Disk, ReadError};
 use crate::environment::HostError;
 use bstr::BStr;
 use config_file::{AddError, CommandError};
@@ -30,19 +30,24 @@ pub enum HereError<'t> {
     /// Git reads this file, and it cannot be read.
     #[error("{}: {error}", BStr::new(.file))]
     File { file: &'t [u8], error: ReadError },
-    /// A line of a file cannot be read, or an include cannot be followed.
+    /// A line of a file cannot be read, an include cannot be followed, or a file has the URL of a remote where none
+    /// is allowed.
     #[error("{0}")]
     Stops(AddError<'t>),
-    /// A setting of the repository's format has no value of its type, as this text says.
+    /// A setting or a variable that decides about the repository has no value that Git knows there, or a file of the
+    /// repository names no folder, as this text says.
     #[error("{0}")]
     Format(&'t str),
     /// The settings of the command are refused.
     #[error("{0}")]
     Command(CommandError),
-    /// A file that is included on a condition has the URL of a remote, which other conditions ask about.
-    #[error("{}:{line}: remote URLs cannot be configured in file directly or indirectly included by \
-        includeIf.hasconfig:remote.*.url", BStr::new(.file))]
-    RemoteUrl { file: &'t [u8], line: usize },
+}
+
+impl<'t> HereError<'t> {
+    /// The error that this text tells.
+    pub(crate) fn format(disk: &Disk<'t>, text: &str) -> Result<HereError<'t>, AllocError> {
+        Ok(HereError::Format(disk.texts.try_alloc_str(text)?))
+    }
 }
 
 impl From<HostError> for HereError<'_> {

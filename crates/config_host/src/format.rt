@@ -1,7 +1,9 @@
 //! The format of a repository: its version, its extensions, and whether it is bare.
 
 use crate::disk::Disk;
+use crate::environment::kept_variable;
 use crate::error::{HereError, Refusal};
+use bstr::{BStr, ByteSlice};
 use config_file::{AddError, Setting, Settings};
 use gix_config_value::{Boolean, Integer};
 use std::alloc::AllocError;
@@ -16,6 +18,8 @@ pub(crate) struct Format<'t> {
     pub work_tree: Option<&'t [u8]>,
     /// Whether each work tree has a file of its own.
     pub has_worktree_files: bool,
+    /// How references are stored.
+    pub store: Store<'t>,
     version: Option<i32>,
     unknown: Option<&'t [u8]>,
     of_later: Option<&'t [u8]>,
@@ -32,17 +36,24 @@ enum Extension {
     Boolean,
     /// It needs a value.
     Text,
-    /// Its value is one of these words.
-    OneOf(&'static [&'static [u8]]),
-    /// Its value begins with one of these words, and a place may follow `://`.
-    Stored(&'static [&'static [u8]]),
+    /// Its value is the name of a hash.
+    Hash,
+    /// Its value says how references are stored.
+    Store,
 }
 
-/// The names of hashes.
-const HASHES: &[&[u8]] = &[b"sha1", b"sha256"];
+/// How references are stored, and in which folder, if they are in a place of their own.
+#[derive(Clone, Copy)]
+pub(crate) struct Store<'t> {
+    pub is_table: bool,
+    pub place: Option<&'t [u8]>,
+}
 
-/// How references are stored.
-const STORES: &[&[u8]] = &[b"files", b"reftable"];
+/// How references are stored if nothing says so.
+const FILES: Store<'static> = Store {
+    is_table: false,
+    place: None,
+};
 
 /// The extensions that count in each version.
 fn early(name: &[u8]) -> Extension {
@@ -58,31 +69,56 @@ fn early(name: &[u8]) -> Extension {
 fn later(name: &[u8]) -> Extension {
     match str::from_utf8(name) {
         Ok("noop-v1") => Extension::Any,
-        Ok("objectformat" | "compatobjectformat") => Extension::OneOf(HASHES),
-        Ok("refstorage") => Extension::Stored(STORES),
+        Ok("objectformat" | "compatobjectformat") => Extension::Hash,
+        Ok("refstorage") => Extension::Store,
         Ok("relativeworktrees" | "submodulepathconfig") => Extension::Boolean,
         _ => Extension::Unknown,
     }
 }
 
-/// The text before `://`.
-fn store_in(text: &[u8]) -> &[u8] {
-    for (index, part) in text.windows(3).enumerate() {
-        if part == b"://".as_slice() {
-            return text.get(..index).unwrap_or(text);
-        }
+/// What a text says of how references are stored: a form, and a place that may follow `://`. `None` if Git knows no
+/// such form.
+fn store_in(text: &[u8]) -> Option<Store<'_>> {
+    let (form, place) = match text.split_once_str(b"://") {
+        Some((form, place)) => (form, Some(place)),
+        None => (text, None),
+    };
+    match str::from_utf8(form) {
+        Ok("files") => Some(Store {
+            is_table: false,
+            place,
+        }),
+        Ok("reftable") => Some(Store {
+            is_table: true,
+            place,
+        }),
+        _ => None,
     }
-    text
+}
+
+/// What GIT_REFERENCE_BACKEND says of how references are stored, or `None` if it is not set.
+pub(crate) fn given_store<'t>(disk: &Disk<'t>) -> Result<Option<Store<'t>>, HereError<'t>> {
+    let Some(given) = kept_variable(disk, "GIT_REFERENCE_BACKEND")? else {
+        return Ok(None);
+    };
+    if let Some(store) = store_in(given) {
+        return Ok(Some(store));
+    }
+    let given = BStr::new(given);
+    let text = format!(in disk.host.alloc();
+        "GIT_REFERENCE_BACKEND: unknown ref storage format: '{given}'"
+    )?;
+    Err(HereError::format(disk, &text)?)
 }
 
 /// An error that says where a setting is, and why Git stops there.
-fn stop<'t, F: fmt::Display + Drop>(
+pub(crate) fn stop<'t, F: fmt::Display + Drop>(
     disk: &Disk<'t>,
     setting: &Setting<'_>,
     fault: F,
 ) -> Result<HereError<'t>, AllocError> {
     let text = format!(in disk.host.alloc(); "{}", setting.refused(fault))?;
-    Ok(HereError::Format(disk.texts.try_alloc_str(&text)?))
+    HereError::format(disk, &text)
 }
 
 /// The boolean of a setting.
@@ -122,8 +158,11 @@ fn is_right<'t>(
             Ok(true)
         }
         Extension::Text => Ok(setting.value.is_some()),
-        Extension::OneOf(words) => Ok(words.contains(&text(disk, setting)?)),
-        Extension::Stored(words) => Ok(words.contains(&store_in(text(disk, setting)?))),
+        Extension::Hash => Ok(matches!(
+            str::from_utf8(text(disk, setting)?),
+            Ok("sha1" | "sha256")
+        )),
+        Extension::Store => Ok(store_in(text(disk, setting)?).is_some()),
     }
 }
 
@@ -156,6 +195,7 @@ impl<'t> Format<'t> {
             is_bare: false,
             work_tree: None,
             has_worktree_files: false,
+            store: FILES,
             version: None,
             unknown: None,
             of_later: None,
@@ -199,6 +239,14 @@ impl<'t> Format<'t> {
         Ok(())
     }
 
+    /// Takes what a setting says of how references are stored.
+    fn take_store(&mut self, disk: &Disk<'t>, setting: &Setting<'_>) -> Result<(), HereError<'t>> {
+        if let Some(store) = store_in(disk.kept(text(disk, setting)?)?) {
+            self.store = store;
+        }
+        Ok(())
+    }
+
     /// Takes what a setting of this key says.
     fn take_named(
         &mut self,
@@ -209,6 +257,7 @@ impl<'t> Format<'t> {
         match str::from_utf8(key) {
             Ok("core.repositoryformatversion") => self.version = Some(version(disk, setting)?),
             Ok("extensions.worktreeconfig") => self.has_worktree_files = boolean(disk, setting)?,
+            Ok("extensions.refstorage") => self.take_store(disk, setting)?,
             _ => self.take_work_tree(disk, setting, key)?,
         }
         match key.strip_prefix(b"extensions.") {

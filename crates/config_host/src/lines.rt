@@ -2,6 +2,7 @@
 
 use crate::environment::variable;
 use crate::names::{answer, is_file, path_inside, text_of, without_line_ends};
+use bstr::ByteSlice;
 use config_text::readers::TryRead;
 use gix_config_value::Boolean;
 use std::alloc::AllocError;
@@ -9,7 +10,7 @@ use std::fs::File;
 use std::io::{self, Read};
 
 /// The number of bytes that are read of a file with one line, or with the names of tables.
-const LONGEST: u64 = 1 << 16;
+pub(crate) const LONGEST: u64 = 1 << 16;
 
 /// The first bytes of a file, at most `longest`.
 fn first_bytes(host: &HostRuntime, file: &str, longest: u64) -> io::Result<Vec<u8>> {
@@ -32,12 +33,25 @@ pub(crate) fn bytes_of(
     answer(first_bytes(host, text_of(file)?, longest))
 }
 
+/// The bytes before the first NUL, at which a text ends in Git.
+pub(crate) fn before_nul(text: &[u8]) -> &[u8] {
+    match text.split_once_str(b"\0") {
+        Some((front, _)) => front,
+        None => text,
+    }
+}
+
+/// A text without the line ends at its end.
+pub(crate) fn line(text: &[u8]) -> &[u8] {
+    before_nul(without_line_ends(text))
+}
+
 /// The text of a regular file without the line ends at its end, or `None` if there is no such text.
 pub fn line_of(host: &HostRuntime, file: &[u8]) -> io::Result<Option<Vec<u8>>> {
     let Some(mut text) = bytes_of(host, file, LONGEST)? else {
         return Ok(None);
     };
-    let length = without_line_ends(&text).len();
+    let length = line(&text).len();
     text.truncate(length);
     Ok(Some(text))
 }

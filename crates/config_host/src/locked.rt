@@ -7,7 +7,7 @@ ghost use Rattle.config_host.specs.declared.disk.ReadError.TheVariants.{System};
 ghost use Rattle.config_host.specs.declared.locked.LockError.TheVariants.{Held, Lock, Read};
 
 use crate::disk::{Disk, ReadError, known_length, opened};
-use crate::names::{folder_of, inside, joined, text_of};
+use crate::names::{answer, folder_of, inside, joined, known_of_link, text_of};
 use bstr::BStr;
 use std::alloc::AllocError;
 use std::fs::{self, File, OpenFile, OpenOptions, Permissions};
@@ -30,13 +30,14 @@ const MODE: u32 = 0o7777;
 /// let texts = Bump::new(rt.alloc());
 /// let disk = Disk::new(&rt, &texts);
 /// let _locked = Locked::of(&disk, b"twice").expect(&rt, "a lock");
-/// assert!(rt; matches!(Locked::of(&disk, b"twice"), Err(LockError::Held(_))));
+/// assert!(rt; matches!(Locked::of(&disk, b"twice"), Err(LockError::Held(..))));
 /// ```
 #[derive(Debug, Drop, Error)]
 pub enum LockError {
-    /// The lock of this name is there: another program replaces the text, or was ended as it did.
-    #[error("{}: the lock is held", BStr::new(.0))]
-    Held(Vec<u8>),
+    /// The lock of this name was made so many seconds ago, as far as the system tells: another program replaces the
+    /// text, or a signal ended it as it did.
+    #[error("{}: the lock is held, and {} seconds old: remove it if no program is changing the file", BStr::new(.0), .1)]
+    Held(Vec<u8>, u64),
     /// The system makes no lock.
     #[error("{0}")]
     Lock(io::Error),
@@ -72,13 +73,24 @@ impl From<io::Error> for LockError {
     }
 }
 
-/// Why there is no lock of this name, if the system refuses to make it with this error.
-fn refusal(lock: Vec<u8>, error: io::Error) -> LockError
-    ensures held { error_kind error ≡ AlreadyExists → result ≡ Held lock }
+/// How many seconds old the file of this name is, or 0 if the system does not say it.
+fn age_of(host: &HostRuntime, name: &[u8]) -> io::Result<u64> {
+    let Some(known) = known_of_link(host, name)? else {
+        return Ok(0);
+    };
+    match answer(known.modified()?.elapsed(host))? {
+        Some(age) => Ok(age.as_secs()),
+        None => Ok(0),
+    }
+}
+
+/// Why there is no lock of this name and this age, if the system refuses to make it with this error.
+fn refusal(lock: Vec<u8>, age: u64, error: io::Error) -> LockError
+    ensures held { error_kind error ≡ AlreadyExists → result ≡ Held lock age }
     ensures other { error_kind error ≢ AlreadyExists → result ≡ Lock error }
 {
     match error.kind() {
-        ErrorKind::AlreadyExists => LockError::Held(lock),
+        ErrorKind::AlreadyExists => LockError::Held(lock, age),
         _ => LockError::Lock(error),
     }
 }
@@ -87,10 +99,11 @@ fn refusal(lock: Vec<u8>, error: io::Error) -> LockError
 fn target_of<'t>(disk: &Disk<'t>, name: &[u8]) -> io::Result<Option<&'t [u8]>> {
     match fs::read_link(disk.host, text_of(name)?) {
         Ok(target) => Ok(Some(disk.kept(target.as_path().as_str().as_bytes())?)),
-        Err(error) if matches!(error.kind(), ErrorKind::InvalidInput | ErrorKind::NotFound) => Ok(
-            None,
-        ),
-        Err(error) => Err(error),
+        Err(error) => match error.kind() {
+            // below a regular file there is none
+            ErrorKind::InvalidInput | ErrorKind::NotFound | ErrorKind::NotADirectory => Ok(None),
+            _ => Err(error),
+        },
     }
 }
 
@@ -145,7 +158,7 @@ fn lock_beside<'t>(disk: &Disk<'t>, name: &[u8]) -> Result<LockFile<'t>, LockErr
             file,
             is_held: true,
         }),
-        Err(error) => Err(refusal(name.to_vec(host.alloc())?, error)),
+        Err(error) => Err(refusal(name.to_vec(host.alloc())?, age_of(host, name)?, error)),
     }
 }
 
@@ -176,8 +189,8 @@ fn old_of<'t>(disk: &Disk<'t>, name: &str) -> Result<(&'t [u8], Option<u32>), Re
 }
 
 /// A file whose text is replaced, and whose lock is held until then. If this value is let go, the lock is
-/// removed, and the file keeps its text. A program that is killed leaves the lock, which its user then has to
-/// remove, as with Git.
+/// removed, and the file keeps its text. A program that a signal ends leaves the lock, which its user then has to
+/// remove: nothing here catches a signal.
 ///
 /// ```rust
 /// use bumpalo::Bump;

@@ -4,6 +4,7 @@
 use crate::disk::Disk;
 use crate::environment::{kept_variable, variable};
 use crate::error::HereError;
+use crate::format::stop;
 use crate::lines::is_on;
 use crate::names::{inside, joined, known_of, known_of_link, real_name};
 use crate::reading::settings_at;
@@ -165,26 +166,28 @@ fn is_in_work_tree(folder: &[u8]) -> bool {
         || folder.contains_str(b"/.git/modules/")
 }
 
-/// Whether these settings let Git find bare repositories.
-fn allow_bare(host: &HostRuntime, settings: &Settings<'_>) -> Result<bool, AllocError> {
+/// Whether a setting lets Git find bare repositories, which needs one of two words.
+fn allows_bare<'t>(disk: &Disk<'t>, setting: &Setting<'_>) -> Result<bool, HereError<'t>> {
+    match str::from_utf8(setting.value.as_deref().unwrap_or_default()) {
+        Ok("explicit") => Ok(false),
+        Ok("all") => Ok(true),
+        _ => Err(stop(disk, setting, "neither 'all' nor 'explicit'")?),
+    }
+}
+
+/// Whether settings let Git find bare repositories.
+fn allow_bare<'t>(disk: &Disk<'t>) -> Result<bool, HereError<'t>> {
     let mut may_be = true;
-    for setting in &settings.entries {
-        if has_key(host, setting, b"safe.barerepository")? {
-            let value = setting.value.as_deref().unwrap_or_default();
-            may_be = match str::from_utf8(value) {
-                Ok("explicit") => false,
-                Ok("all") => true,
-                _ => may_be,
-            };
+    for setting in &protected(disk)?.entries {
+        if has_key(disk.host, setting, b"safe.barerepository")? {
+            may_be = allows_bare(disk, setting)?;
         }
     }
     Ok(may_be)
 }
 
-/// Whether `safe.bareRepository` lets Git find the bare repository in this folder.
+/// Whether `safe.bareRepository` lets Git find the bare repository in this folder. A word that Git does not know stops
+/// it also in the git directory of a work tree.
 pub fn may_be_bare<'t>(disk: &Disk<'t>, folder: &[u8]) -> Result<bool, HereError<'t>> {
-    if is_in_work_tree(folder) {
-        return Ok(true);
-    }
-    Ok(allow_bare(disk.host, &protected(disk)?)?)
+    Ok(allow_bare(disk)? || is_in_work_tree(folder))
 }

@@ -37,8 +37,6 @@ pub struct Taken<'t> {
     pub place: FilePlace<'t>,
     /// The entry.
     pub entry: Entry<'t>,
-    /// How many files the walk was in, each included by the one before.
-    pub depth: usize,
     /// The text of the file that it includes, in which the walk goes on.
     pub entered: Option<&'t [u8]>,
     /// Why Git stops after it, if it does.
@@ -90,7 +88,6 @@ pub fn next_entry<'t>(
         Step::Ends => return Ok(None),
     };
     let (file, line) = (place.name, entry.line);
-    let depth = walk.frames().len();
     let (entered, stop) = match include {
         Include::NotFollowed => (None, None),
         include => match enter(disk, walk, include)? {
@@ -101,7 +98,6 @@ pub fn next_entry<'t>(
     Ok(Some(Taken {
         place,
         entry,
-        depth,
         entered,
         stop,
     }))
@@ -190,87 +186,37 @@ fn ask_for_urls<'t>(
     Ok(false)
 }
 
-/// A search for the URLs of remotes.
-#[derive(Drop)]
-struct Search<'t> {
-    urls: Vec<&'t [u8]>,
-    /// A walk that is in more files than these is in one that is included on a condition.
-    conditional_below: usize,
+/// Adds the URL of a remote, if the entry has one. A key alone has none.
+fn push_url<'t>(
+    disk: &Disk<'t>,
+    entry: &Entry<'t>,
+    urls: &mut Vec<&'t [u8]>,
+) -> Result<(), AllocError> {
+    let Some(value) = &entry.value else {
+        return Ok(());
+    };
+    if !is_remote_url(entry) {
+        return Ok(());
+    }
+    let text = value.to_vec(disk.host.alloc())?;
+    Ok(urls.push(disk.kept(&text)?)?)
 }
 
-impl<'t> Search<'t> {
-    /// Takes the URL that an entry may have. A file that is included on a condition must have none.
-    fn take(&mut self, disk: &Disk<'t>, taken: &Taken<'t>) -> Result<(), HereError<'t>> {
-        if taken.depth <= self.conditional_below {
-            self.conditional_below = usize::MAX;
-        }
-        if is_remote_url(&taken.entry) {
-            if self.conditional_below != usize::MAX {
-                return Err(HereError::RemoteUrl {
-                    file: taken.place.name,
-                    line: taken.entry.line,
-                });
-            }
-            self.push(disk, &taken.entry)?;
-        }
-        if taken.entered.is_some() && self.conditional_below == usize::MAX {
-            self.enter(taken);
-        }
-        Ok(())
+/// Takes the next entry of a walk, and adds its URL. Returns false at the end.
+fn take_url<'t>(
+    disk: &Disk<'t>,
+    known: &Known<'_>,
+    walk: &mut Walk<'t>,
+    urls: &mut Vec<&'t [u8]>,
+) -> Result<bool, HereError<'t>> {
+    let Some(taken) = next_entry(disk, known, walk)? else {
+        return Ok(false);
+    };
+    if let Some(stop) = taken.stop {
+        return Err(HereError::Stops(stop));
     }
-
-    /// Takes the next entry of a walk. Returns false at the end.
-    fn take_next(
-        &mut self,
-        disk: &Disk<'t>,
-        known: &Known<'_>,
-        walk: &mut Walk<'t>,
-    ) -> Result<bool, HereError<'t>> {
-        let Some(taken) = next_entry(disk, known, walk)? else {
-            return Ok(false);
-        };
-        self.take(disk, &taken)?;
-        match taken.stop {
-            Some(stop) => Err(HereError::Stops(stop)),
-            None => Ok(true),
-        }
-    }
-
-    /// Takes the entries of this text and of what it includes.
-    fn take_all(
-        &mut self,
-        disk: &Disk<'t>,
-        known: &Known<'_>,
-        source: &Source<'t>,
-    ) -> Result<(), HereError<'t>> {
-        let files = files_of(disk, source)?;
-        let mut walk = Walk::new(source.place, source.text);
-        for _ in 0..u64::MAX {
-            if !self.take_next(&files, known, &mut walk)? {
-                break;
-            }
-        }
-        self.conditional_below = usize::MAX;
-        Ok(())
-    }
-
-    /// Notes that the file that this entry includes is included on a condition, if it is.
-    fn enter(&mut self, taken: &Taken<'t>) {
-        if let Some(section) = &taken.entry.section {
-            if section.subsection.is_some() {
-                self.conditional_below = taken.depth;
-            }
-        }
-    }
-
-    /// Adds the value of an entry. A key alone has no URL.
-    fn push(&mut self, disk: &Disk<'t>, entry: &Entry<'t>) -> Result<(), AllocError> {
-        let Some(value) = &entry.value else {
-            return Ok(());
-        };
-        let text = value.to_vec(disk.host.alloc())?;
-        Ok(self.urls.push(disk.kept(&text)?)?)
-    }
+    push_url(disk, &taken.entry, urls)?;
+    Ok(true)
 }
 
 /// The URLs of all remotes in these texts and in what they include.
@@ -279,14 +225,17 @@ fn urls_of<'t>(
     known: &Known<'_>,
     sources: &[Source<'t>],
 ) -> Result<Vec<&'t [u8]>, HereError<'t>> {
-    let mut search = Search {
-        urls: Vec::new(disk.host.alloc()),
-        conditional_below: usize::MAX,
-    };
+    let mut urls = Vec::new(disk.host.alloc());
     for source in sources {
-        search.take_all(disk, known, source)?;
+        let files = files_of(disk, source)?;
+        let mut walk = Walk::new(source.place, source.text);
+        for _ in 0..u64::MAX {
+            if !take_url(&files, known, &mut walk, &mut urls)? {
+                break;
+            }
+        }
     }
-    Ok(search.urls)
+    Ok(urls)
 }
 
 /// Finds the URLs of remotes if walks over these texts come to a condition on them.

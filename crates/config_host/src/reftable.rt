@@ -1,8 +1,6 @@
-//! HEAD of a git directory whose references are in a reftable, which is a stack of tables in the folder `reftable`.
-//! Git's technical/reftable has the format of a table: the names of its first block come in order, HEAD among the
-//! first of them.
+//! References that are in a reftable, which is a stack of tables in the folder `reftable`. Git's technical/reftable
+//! has the format of a table: the names of its first block come in order, HEAD among the first of them.
 
-use crate::disk::Disk;
 use crate::lines::{bytes_of, line_in};
 use crate::names::path_inside;
 use std::alloc::{AllocError, Global};
@@ -95,8 +93,12 @@ fn records_of(table: &[u8], header: usize) -> Option<&[u8]> {
     Some(records)
 }
 
-/// The record of HEAD in a table, if it has one.
-fn head_of(alloc: Global, table: &[u8]) -> Result<Option<Record<'_>>, AllocError> {
+/// The record of the reference of this name in the first block of a table, if that has one.
+fn record_of<'a>(
+    alloc: Global,
+    table: &'a [u8],
+    wanted: &[u8],
+) -> Result<Option<Record<'a>>, AllocError> {
     let Some((header, id)) = sizes_of(table) else {
         return Ok(None);
     };
@@ -108,17 +110,12 @@ fn head_of(alloc: Global, table: &[u8]) -> Result<Option<Record<'_>>, AllocError
         };
         name.truncate(record.kept);
         name.extend_from_slice(record.more)?;
-        if name.as_slice() == b"HEAD".as_slice() {
+        if name.as_slice() == wanted {
             return Ok(Some(record));
         }
         rest = after;
     }
     Ok(None)
-}
-
-/// The branch that this record of HEAD names, without `refs/heads/`, or `None` if it names no branch.
-fn branch_of<'t>(head: Record<'t>) -> Option<&'t [u8]> {
-    head.target?.strip_prefix(b"refs/heads/")
 }
 
 /// The first block of a table, or less if no more than `left` bytes may be read. `None` if there is no such file.
@@ -132,39 +129,44 @@ fn first_block(host: &HostRuntime, file: &[u8], left: u64) -> io::Result<Option<
     }
 }
 
-/// The branch that HEAD names in a table, or `Some(None)` if it names no branch. `None` if the table has no HEAD.
-/// Takes what is read from what may be read.
-fn branch_in_table<'t>(
-    disk: &Disk<'t>,
+/// The record of a reference in a table, as the reference that it names, or `Some(None)` if it names none. `None` if
+/// the table has no such record. Takes what is read from what may be read.
+fn target_in_table(
+    host: &HostRuntime,
     file: &[u8],
+    name: &[u8],
     left: &mut u64,
-) -> io::Result<Option<Option<&'t [u8]>>> {
-    let Some(table) = first_block(disk.host, file, *left)? else {
+) -> io::Result<Option<Option<Vec<u8>>>> {
+    let Some(table) = first_block(host, file, *left)? else {
         return Ok(None);
     };
     *left = left.saturating_sub(table.len() as u64);
-    let Some(head) = head_of(disk.host.alloc(), &table)? else {
+    let Some(record) = record_of(host.alloc(), &table, name)? else {
         return Ok(None);
     };
-    match branch_of(head) {
-        Some(branch) => Ok(Some(Some(disk.kept(branch)?))),
+    match record.target {
+        Some(target) => Ok(Some(Some(target.to_vec(host.alloc())?))),
         None => Ok(Some(None)),
     }
 }
 
-/// The branch that HEAD names in the tables of a git directory, without `refs/heads/`, or `None` if it names no
-/// branch. A later table decides over those before it.
-pub(crate) fn branch_in<'t>(disk: &Disk<'t>, git_dir: &[u8]) -> io::Result<Option<&'t [u8]>> {
-    let alloc = disk.host.alloc();
-    let folder = path_inside(alloc, git_dir, b"reftable")?;
-    let Some(names) = line_in(disk.host, &folder, b"tables.list")? else {
+/// The reference that this one names in the tables of a folder, or `None` if it names none. A later table decides over
+/// those before it.
+pub(crate) fn target_in(
+    host: &HostRuntime,
+    folder: &[u8],
+    name: &[u8],
+) -> io::Result<Option<Vec<u8>>> {
+    let alloc = host.alloc();
+    let folder = path_inside(alloc, folder, b"reftable")?;
+    let Some(tables) = line_in(host, &folder, b"tables.list")? else {
         return Ok(None);
     };
     let mut left = MOST;
-    for name in names.rsplit(|byte| *byte == b'\n') {
-        let found = branch_in_table(disk, &path_inside(alloc, &folder, name)?, &mut left)?;
-        if let Some(branch) = found {
-            return Ok(branch);
+    for table in tables.rsplit(|byte| *byte == b'\n') {
+        let file = path_inside(alloc, &folder, table)?;
+        if let Some(target) = target_in_table(host, &file, name, &mut left)? {
+            return Ok(target);
         }
     }
     Ok(None)

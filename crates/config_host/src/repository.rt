@@ -3,7 +3,7 @@
 use crate::disk::{Disk, ReadError};
 use crate::environment::{kept_variable, variable};
 use crate::error::{HereError, Refusal};
-use crate::format::{Format, format_in};
+use crate::format::{Format, Store, format_in, given_store};
 use crate::head::branch_of;
 use crate::names::{inside, resolved};
 use crate::search::{Folder, Form, Found, GitDir, opened_folder, search, shared_folder};
@@ -181,27 +181,30 @@ fn repository_in<'t>(
     site: Site<'t>,
     path: &[u8],
     named_dir: &'t [u8],
-    has_worktree_files: bool,
-) -> io::Result<FoundRepository<'t>> {
+    format: &Format<'t>,
+) -> Result<FoundRepository<'t>, HereError<'t>> {
     let path = inside(disk, path, named_dir)?;
     Ok(FoundRepository {
         real_git_dir: resolved(disk, site.git_dir.name, path)?,
-        branch: branch_of(disk, site.git_dir.name)?,
+        branch: branch_of(disk, site.git_dir.name, format.store)?,
         common_dir: shown_shared(disk, site.shared, named_dir)?,
         git_dir: path,
         named_dir,
-        has_worktree_files,
+        has_worktree_files: format.has_worktree_files,
     })
 }
 
 /// Where Git works with this git directory, if it may have this format.
-fn located<'t>(disk: &Disk<'t>, site: Site<'t>, format: &Format<'t>) -> io::Result<Location<'t>> {
+fn located<'t>(
+    disk: &Disk<'t>,
+    site: Site<'t>,
+    format: &Format<'t>,
+) -> Result<Location<'t>, HereError<'t>> {
     if let Some(refusal) = format.refusal() {
         return Ok(Location::without(site.folder.name, Some(refusal)));
     }
     let (place, named_dir) = workplace(disk, site, format)?;
-    let has_files = format.has_worktree_files;
-    let repository = repository_in(disk, site, place.path, named_dir, has_files)?;
+    let repository = repository_in(disk, site, place.path, named_dir, format)?;
     Ok(Location {
         folder: place.name,
         repository: Some(repository),
@@ -210,10 +213,17 @@ fn located<'t>(disk: &Disk<'t>, site: Site<'t>, format: &Format<'t>) -> io::Resu
     })
 }
 
-/// Where Git works, if it uses this git directory.
-fn locate<'t>(disk: &Disk<'t>, site: Site<'t>) -> Result<Location<'t>, HereError<'t>> {
+/// Where Git works, if it uses this git directory, in which references are stored as it is given.
+fn locate<'t>(
+    disk: &Disk<'t>,
+    site: Site<'t>,
+    given: Option<Store<'t>>,
+) -> Result<Location<'t>, HereError<'t>> {
     match format_of(disk, site) {
-        Ok(format) => Ok(located(disk, site, &format)?),
+        Ok(mut format) => {
+            format.store = given.unwrap_or(format.store);
+            located(disk, site, &format)
+        }
         Err(HereError::Host(error)) => Err(HereError::Host(error)),
         Err(error) => Ok(Location::stopped(site.folder.name, error)),
     }
@@ -230,12 +240,11 @@ fn asked_folder<'t>(disk: &Disk<'t>, name: &[u8]) -> Result<Folder<'t>, HereErro
     }
 }
 
-/// Where Git works if it is started in the folder of this name: an empty one, or `.`, is the current folder.
-/// Names of the disk begin in the current folder.
-pub fn find<'t>(disk: &Disk<'t>, name: &[u8]) -> Result<Location<'t>, HereError<'t>> {
-    let asked = asked_folder(disk, name)?;
-    let inner = disk.within(asked.name)?;
-    match search(&inner, asked)? {
+/// Where Git works if it is started in this folder.
+fn find_from<'t>(disk: &Disk<'t>, asked: Folder<'t>) -> Result<Location<'t>, HereError<'t>> {
+    let found = search(&disk.within(asked.name)?, asked)?;
+    let given = given_store(disk)?;
+    match found {
         Found::GitDir(folder, git_dir) => {
             let shared = shared_folder(disk, git_dir.name)?;
             let site = Site {
@@ -244,10 +253,20 @@ pub fn find<'t>(disk: &Disk<'t>, name: &[u8]) -> Result<Location<'t>, HereError<
                 git_dir,
                 shared,
             };
-            locate(disk, site)
+            locate(disk, site, given)
         }
         Found::Nothing => Ok(Location::without(asked.name, None)),
         Found::Refused(refusal) => Ok(Location::without(asked.name, Some(refusal))),
-        Found::Stops(error) => Ok(Location::stopped(asked.name, error)),
+    }
+}
+
+/// Where Git works if it is started in the folder of this name: an empty one, or `.`, is the current folder.
+/// Names of the disk begin in the current folder.
+pub fn find<'t>(disk: &Disk<'t>, name: &[u8]) -> Result<Location<'t>, HereError<'t>> {
+    let asked = asked_folder(disk, name)?;
+    match find_from(disk, asked) {
+        Err(HereError::Host(error)) => Err(HereError::Host(error)),
+        Err(error) => Ok(Location::stopped(asked.name, error)),
+        found => found,
     }
 }

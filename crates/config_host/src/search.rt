@@ -4,12 +4,13 @@ use crate::disk::Disk;
 use crate::environment::{current_folder, kept_variable, text_variable};
 use crate::error::{HereError, Refusal};
 use crate::head::has_head;
-use crate::lines::{is_on, line_in, line_of};
+use crate::lines::{LONGEST, bytes_of, is_on, line, line_of};
 use crate::names::{
-    folder_of, inside, is_folder, joined, known_of, parent, path_inside, real_name, resolved,
+    folder_of, inside, is_folder, joined, known_of, known_of_link, parent, path_inside, real_name,
+    resolved,
 };
 use crate::owner::{are_owned, is_safe, may_be_bare};
-use bstr::ByteSlice;
+use bstr::{BStr, ByteSlice};
 use std::alloc::AllocError;
 use std::io;
 use std::os::unix::fs::MetadataExt;
@@ -52,8 +53,37 @@ pub(crate) enum Found<'t> {
     GitDir(Folder<'t>, GitDir<'t>),
     /// There is one that Git does not use.
     Refused(Refusal<'t>),
-    /// There is one that may not be used, since Git stops as it asks whether it is safe.
-    Stops(HereError<'t>),
+}
+
+/// The folder that the text of a file commondir names, or `None` if Git stops there: at an empty text, and at a folder
+/// that is below a missing one.
+fn folder_in<'t>(disk: &Disk<'t>, git_dir: &[u8], text: &[u8]) -> io::Result<Option<&'t [u8]>> {
+    let folder = inside(disk, git_dir, line(text))?;
+    let may_be = is_folder(disk.host, folder)? || is_folder(disk.host, folder_of(folder))?;
+    Ok(if may_be && !text.is_empty() {
+        Some(folder)
+    } else {
+        None
+    })
+}
+
+/// The folder that the file commondir of a git directory names, or `None` if there is no such file. A git directory
+/// has it that shares a folder with others.
+pub(crate) fn linked_folder<'t>(
+    disk: &Disk<'t>,
+    git_dir: &[u8],
+) -> Result<Option<&'t [u8]>, HereError<'t>> {
+    let file = path_inside(disk.host.alloc(), git_dir, b"commondir")?;
+    if known_of_link(disk.host, &file)?.is_none() {
+        return Ok(None);
+    }
+    let text = bytes_of(disk.host, &file, LONGEST)?.unwrap_or(Vec::new(disk.host.alloc()));
+    if let Some(folder) = folder_in(disk, git_dir, &text)? {
+        return Ok(Some(folder));
+    }
+    let file = BStr::new(&file);
+    let text = format!(in disk.host.alloc(); "{file}: no name of a folder")?;
+    Err(HereError::format(disk, &text)?)
 }
 
 /// The folder that the work trees of a git directory share: GIT_COMMON_DIR, that of its file commondir, or
@@ -62,12 +92,9 @@ pub(crate) fn shared_folder<'t>(
     disk: &Disk<'t>,
     git_dir: &[u8],
 ) -> Result<Option<&'t [u8]>, HereError<'t>> {
-    if let Some(folder) = text_variable(disk, "GIT_COMMON_DIR")? {
-        return Ok(Some(folder));
-    }
-    match line_in(disk.host, git_dir, b"commondir")? {
-        Some(folder) => Ok(Some(inside(disk, git_dir, &folder)?)),
-        None => Ok(None),
+    match text_variable(disk, "GIT_COMMON_DIR")? {
+        Some(folder) => Ok(Some(folder)),
+        None => linked_folder(disk, git_dir),
     }
 }
 
@@ -76,18 +103,24 @@ fn has_folder(host: &HostRuntime, folder: &[u8], name: &[u8]) -> io::Result<bool
     is_folder(host, &path_inside(host.alloc(), folder, name)?)
 }
 
-/// Whether a common folder has objects and refs.
-fn has_folders(host: &HostRuntime, common: &[u8]) -> io::Result<bool> {
-    Ok(has_folder(host, common, b"objects")? && has_folder(host, common, b"refs")?)
+/// Whether there is a folder of objects: that of GIT_OBJECT_DIRECTORY, or in a common folder.
+fn has_objects(disk: &Disk<'_>, common: &[u8]) -> io::Result<bool> {
+    let Some(given) = kept_variable(disk, "GIT_OBJECT_DIRECTORY")? else {
+        return has_folder(disk.host, common, b"objects");
+    };
+    match disk.opened_name(given) {
+        Ok(opened) => is_folder(disk.host, &opened),
+        Err(_) => Err(io::Error::from(AllocError)),
+    }
 }
 
-/// Whether this is a git directory: its HEAD is Git's, and its common folder has objects and refs.
+/// Whether this is a git directory: its HEAD is Git's, there are objects, and its common folder has refs.
 fn is_git_dir<'t>(disk: &Disk<'t>, name: &'t [u8]) -> Result<bool, HereError<'t>> {
     if str::from_utf8(name).is_err() || !has_head(disk.host, name)? {
         return Ok(false);
     }
     let common = shared_folder(disk, name)?.unwrap_or(name);
-    Ok(has_folders(disk.host, common)?)
+    Ok(has_objects(disk, common)? && has_folder(disk.host, common, b"refs")?)
 }
 
 /// The git directory that the file of this name links to by a line `gitdir: ..`, or `None` if it links to
@@ -118,12 +151,10 @@ fn if_safe<'t>(
     let Some(real) = real_name(disk.host, opened_folder(folder.name))? else {
         return Ok(Found::Refused(Refusal::Owner(folder.path)));
     };
-    match is_safe(disk, asked.name, &real) {
-        Ok(true) => Ok(Found::GitDir(folder, git_dir)),
-        Ok(false) => Ok(Found::Refused(Refusal::Owner(disk.kept(&real)?))),
-        Err(HereError::Host(error)) => Err(HereError::Host(error)),
-        Err(error) => Ok(Found::Stops(error)),
+    if is_safe(disk, asked.name, &real)? {
+        return Ok(Found::GitDir(folder, git_dir));
     }
+    Ok(Found::Refused(Refusal::Owner(disk.kept(&real)?)))
 }
 
 /// The git directory of this folder, which has to be safe if it is not owned.
@@ -203,12 +234,10 @@ fn find_bare<'t>(
     if !is_git_dir(disk, folder.name)? {
         return Ok(Found::Nothing);
     }
-    match takes_bare(disk, folder) {
-        Ok(true) => bare(disk, asked, folder),
-        Ok(false) => Ok(Found::Refused(Refusal::Bare(folder.path))),
-        Err(HereError::Host(error)) => Err(HereError::Host(error)),
-        Err(error) => Ok(Found::Stops(error)),
+    if takes_bare(disk, folder)? {
+        return bare(disk, asked, folder);
     }
+    Ok(Found::Refused(Refusal::Bare(folder.path)))
 }
 
 /// The git directory of a folder, if it has one or is one.

@@ -5,11 +5,12 @@ use crate::disk::Disk;
 use crate::environment::kept_variable;
 use crate::error::HereError;
 use crate::lines::is_on;
-use crate::names::{below, exists};
+use crate::names::{answer, below, exists, known_of, path_inside, text_of};
 use crate::surroundings::FoundRepository;
 use bstr::ByteSlice;
 use config_file::{FilePlace, Scope};
 use std::alloc::AllocError;
+use std::fs;
 use std::io;
 
 /// A file that Git reads if it is there.
@@ -81,13 +82,17 @@ fn push<'t>(names: &mut Vec<Named<'t>>, scope: Scope, name: &'t [u8]) -> Result<
     Ok(names.push(Named { scope, name })?)
 }
 
+/// The name of the file of the system, which may be empty.
+pub fn system_name<'t>(disk: &Disk<'t>) -> Result<&'t [u8], AllocError> {
+    Ok(kept_variable(disk, "GIT_CONFIG_SYSTEM")?.unwrap_or(b"/etc/gitconfig"))
+}
+
 /// Adds the file of the system, unless GIT_CONFIG_NOSYSTEM says that it is not read.
 fn push_system<'t>(disk: &Disk<'t>, names: &mut Vec<Named<'t>>) -> Result<(), AllocError> {
     if is_on(disk.host, "GIT_CONFIG_NOSYSTEM")? {
         return Ok(());
     }
-    let name = kept_variable(disk, "GIT_CONFIG_SYSTEM")?.unwrap_or(b"/etc/gitconfig");
-    push(names, Scope::System, name)
+    push(names, Scope::System, system_name(disk)?)
 }
 
 /// The folder XDG_CONFIG_HOME, or `None` if it is not set, or empty.
@@ -169,6 +174,34 @@ pub fn names<'t>(
         push_repository(disk, &mut names, repository)?;
     }
     Ok(names)
+}
+
+/// Whether a folder of the work trees of a repository has one: it has the name of the file `.git` of that tree.
+fn is_worktree(host: &HostRuntime, folder: &str) -> io::Result<bool> {
+    let name = path_inside(host.alloc(), folder.as_bytes(), b"gitdir")?;
+    Ok(match known_of(host, &name)? {
+        Some(known) => known.len() > 0,
+        None => false,
+    })
+}
+
+/// Whether a repository has a work tree beside its own one, as `git worktree add` makes it.
+pub fn has_worktrees(disk: &Disk<'_>, repository: FoundRepository<'_>) -> io::Result<bool> {
+    let name = below(disk, repository.common_dir, b"worktrees")?;
+    let Ok(opened) = disk.opened_name(name) else {
+        return Ok(false);
+    };
+    let Some(entries) = answer(fs::read_dir(disk.host, text_of(&opened)?))? else {
+        return Ok(false);
+    };
+    for entry in entries {
+        if let Some(entry) = answer(entry)? {
+            if is_worktree(disk.host, entry.path().as_str())? {
+                return Ok(true);
+            }
+        }
+    }
+    Ok(false)
 }
 
 /// Whether the system has a file of this name, or opens no file of such a name.

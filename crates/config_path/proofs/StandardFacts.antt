@@ -1,9 +1,10 @@
--- What git-config(1) says about path names, with its own examples. A definition with a wrong mark or form
--- fails here.
-use Rattle.std.proofs.Common.{◌≡◌, ◌≢◌, ℕ, List, [], ◌∷◌, codes, Some, None, true, refl, ap, arith, get_or}
+-- What git-config(1) says about path names, with its own examples, and what passwd(5) says about home
+-- directories. A definition with a wrong mark, form or field fails here.
+use Rattle.std.proofs.Common.{◌≡◌, ◌≢◌, ℕ, List, [], ◌∷◌, map, codes, Some, None, true, refl, ap, arith, get_or}
 use Rattle.std.specs.List.{AllByRecursion}
 use Rattle.config_path.specs.Interpolation.{Form, HasForm, IsOneName, join}
 use Rattle.config_path.specs.Interpolation.Form.{below_prefix, below_home, below_user, other}
+use Rattle.config_path.specs.Passwd.{home_in}
 use Rattle.config_path.specs.Path.{Marked}
 
 -- each value has the form in its row
@@ -50,3 +51,16 @@ optional_path = refl
 pub joined : (join (codes "/home/user") (codes "x") ≡ codes "/home/user/x")
     × (join (codes "/home/user/") (codes "x") ≡ codes "/home/user/x")
 joined = (refl, refl)
+
+-- "one entry per line, and each line has the format: name:password:UID:GID:GECOS:directory:shell"; a line that
+-- lacks a field has no home, and one with a field more neither
+pub homes_are_found : map (λ name. home_in (codes
+    "root:x:0:0:root:/root:/bin/bash\nsix:x:1:1::/six\neight:x:2:2::/eight::\nuser:x:3:3:A User,,,:/home/user:\n")
+    (codes name)) ("root" ∷ "user" ∷ "six" ∷ "eight" ∷ "us" ∷ [])
+    ≡ Some (codes "/root") ∷ Some (codes "/home/user") ∷ None ∷ None ∷ None ∷ []
+homes_are_found = refl
+
+-- in C a name ends before NUL, and at no other byte, so that no user has a name with a NUL
+pub names_have_no_nul : (home_in (codes "\0:x:0:0::/nul:") (codes "\0") ≡ None)
+    × (home_in (codes "\u{1}:x:0:0::/one:") (codes "\u{1}") ≡ Some (codes "/one"))
+names_have_no_nul = (refl, refl)

@@ -5,3 +5,4 @@ mod UrlHosts
 mod UrlPaths
 mod UrlMatches
 mod UrlFits
+mod StandardFacts

@@ -182,7 +182,8 @@ impl Attribute {
     /// Returns the word that the set is shown as if it is one of the constants, and otherwise `None`.
     #[inline(always)]
     pub fn word(self) -> Option<&'static str>
-        ensures { MatchOption result ⊤ (λ word. word.now ≡ attribute_shown self.0) }
+        ensures { MatchOption result (¬ (HasText AttributeText self))
+            (λ word. word.now ≡ attribute_shown self.0) }
     {
         for shown in shown_words() {
             if shown.attribute == self {

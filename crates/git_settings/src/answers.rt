@@ -194,7 +194,9 @@ impl<'t> Reading<'_, 't> {
             }
         }
         if let Some(color) = color {
-            self.output.put(color.escape().as_str().as_bytes());
+            self.writer
+                .output
+                .extend_from_slice(color.escape().as_str().as_bytes())?;
         }
         Ok(Ending::Done)
     }
@@ -265,11 +267,11 @@ impl<'t> Reading<'_, 't> {
             Use::OnTerminal => has_terminal,
         };
         if said.is_some() {
-            self.output.put(if is_colored {
+            self.writer.output.extend_from_slice(if is_colored {
                 b"true\n"
             } else {
                 b"false\n".as_slice()
-            });
+            })?;
         } else if !is_colored {
             return Ok(Ending::Absent);
         }

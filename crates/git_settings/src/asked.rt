@@ -4,7 +4,7 @@ use crate::options::{Action, Counted, OLDER_ACTIONS, TYPE_FLAGS, Word};
 use crate::output::{Ending, tell};
 use crate::request::{Change, Chosen, Edit, Request, Subject, Texts};
 use crate::shown::Shown;
-use config_file::Scope;
+use config_file::{Key, Scope};
 use config_host::options::Options;
 
 /// What a command line asks for.
@@ -18,7 +18,7 @@ pub enum Asked<'a> {
 
 /// Why words and options are refused, in Git's words: how the run ends, and the parts of the message.
 #[derive(Clone, Copy)]
-pub struct Misuse<'a>(Ending, [&'a [u8]; 5]);
+pub struct Misuse<'a>(Ending, [&'a [u8]; 7]);
 
 impl Misuse<'_> {
     /// Tells it. Returns how the run ends.
@@ -30,13 +30,37 @@ impl Misuse<'_> {
 
 /// A misuse that ends with the status of a wrong usage.
 fn error<'a>(why: &'a str) -> Misuse<'a> {
-    Misuse(Ending::Misused, [b"error: ", why.as_bytes(), b"", b"", b""])
+    Misuse(Ending::Misused, [b"error: ", why.as_bytes(), b"", b"", b"", b"", b""])
 }
 
 /// A misuse of a word, for which Git has a status of its own.
 fn fatal<'a>(why: &'a str, text: &'a str, end: &'a str) -> Misuse<'a> {
     let (why, text, end) = (why.as_bytes(), text.as_bytes(), end.as_bytes());
-    Misuse(Ending::Refused, [b"fatal: ", why, text, end, b""])
+    Misuse(Ending::Refused, [b"fatal: ", why, text, end, b"", b"", b""])
+}
+
+/// A key and a value that `=` joins behind the last dot, if there is one.
+fn joined(text: &str) -> Option<(&str, &str)> {
+    let (_, end) = text.rsplit_once('.')?;
+    let (name, value) = end.split_once('=')?;
+    let length = text.len().saturating_sub(end.len()).saturating_add(name.len());
+    Some((text.get(..length)?, value))
+}
+
+/// The misuse of a word that should be a key and a value. If `=` joins them, Git says how they are written.
+fn no_value<'a>(text: &'a str) -> Misuse<'a> {
+    let front = b"error: missing value to set to the variable '";
+    let unknown = b"error: missing value to set to a variable with an invalid name '";
+    let bytes = text.as_bytes();
+    let parts: [&'a [u8]; 7] = match joined(text) {
+        Some((key, value)) if Key::parse(key.as_bytes()).is_ok() => {
+            let hint = b"'\nhint: did you mean \"git config set ";
+            [front, bytes, hint, key.as_bytes(), b" ", value.as_bytes(), b"\"?"]
+        }
+        _ if Key::parse(bytes).is_ok() => [front, bytes, b"'", b"", b"", b"", b""],
+        _ => [unknown, bytes, b"'", b"", b"", b"", b""],
+    };
+    Misuse(Ending::Misused, parts)
 }
 
 /// The flags that name a scope.
@@ -47,12 +71,12 @@ const SCOPES: &[(&str, Scope)] = &[
     ("worktree", Scope::Worktree),
 ];
 
-/// Which texts are read or changed.
-fn texts_of<'a>(options: &Options<'a>) -> Result<Texts<'a>, Misuse<'a>> {
+/// Which texts are read or changed. If no option names a file, GIT_CONFIG may have named one.
+fn texts_of<'a>(options: &Options<'a>, named: Option<&'a str>) -> Result<Texts<'a>, Misuse<'a>> {
     if options.has("blob") {
         return Err(error("--blob is not offered: ask git config"));
     }
-    let mut texts = match options.last("file") {
+    let mut texts = match options.last("file").or(named) {
         Some(file) => Texts::Named(file),
         None => Texts::Here,
     };
@@ -105,9 +129,10 @@ fn shown_of<'a>(options: &Options<'a>) -> Result<Shown, Misuse<'a>> {
     ))
 }
 
-/// Whether includes are followed: if this is not said, in all that Git reads here, and not in one file.
+/// Whether includes are followed: if this is not said, in all that Git reads here and in standard input, and not in
+/// one file.
 fn follows(options: &Options<'_>, texts: Texts<'_>) -> bool {
-    let mut follows = matches!(texts, Texts::Here);
+    let mut follows = matches!(texts, Texts::Here | Texts::Named("-"));
     for given in &options.given {
         if given.name == "includes" {
             follows = !given.is_undone;
@@ -154,7 +179,7 @@ fn action_of(name: &str) -> Option<Counted> {
 }
 
 /// The action of the one older flag, or that of this number of words without a flag.
-fn older_action(options: &Options<'_>) -> Result<Counted, Misuse<'static>> {
+fn older_action<'a>(options: &Options<'a>) -> Result<Counted, Misuse<'a>> {
     let mut found: Option<(&'static str, Counted)> = None;
     for given in &options.given {
         let Some(counted) = action_of(given.name) else {
@@ -164,15 +189,17 @@ fn older_action(options: &Options<'_>) -> Result<Counted, Misuse<'static>> {
             Some((other, _)) if other != given.name => {
                 let (front, end) = (b"error: options '--", b"' cannot be used together");
                 let (one, other) = (given.name.as_bytes(), other.as_bytes());
-                return Err(Misuse(Ending::Misused, [front, one, b"' and '--", other, end]));
+                let parts = [front, one, b"' and '--", other, end, b"", b""];
+                return Err(Misuse(Ending::Misused, parts));
             }
             _ => found = Some((given.name, counted)),
         }
     }
-    match (found, options.words.len()) {
+    match (found, options.words.as_slice()) {
         (Some((_, counted)), _) => Ok(counted),
-        (None, 1) => Ok((Action::Get, 1, 1)),
-        (None, 2 | 3) => Ok((Action::Set, 2, 3)),
+        (None, [word]) if joined(*word).is_some() => Err(no_value(*word)),
+        (None, [_]) => Ok((Action::Get, 1, 1)),
+        (None, [_, _] | [_, _, _]) => Ok((Action::Set, 2, 3)),
         _ => Err(error("no action specified")),
     }
 }
@@ -211,10 +238,7 @@ fn word_action(action: Action, options: &Options<'_>) -> Action {
 /// What a word says.
 fn worded<'a>(word: &Word, options: &Options<'a>) -> Result<Plain<'a>, Misuse<'a>> {
     match (word.action, options.words.as_slice()) {
-        (Action::Set, [key]) => {
-            let front = b"error: missing value to set to the variable '";
-            return Err(Misuse(Ending::Misused, [front, key.as_bytes(), b"'", b"", b""]));
-        }
+        (Action::Set, [word]) => return Err(no_value(*word)),
         (_, words) => check_count(words.len(), word.count, word.count)?,
     }
     Ok(Plain {
@@ -389,7 +413,12 @@ fn edit_of<'a>(
 }
 
 /// What a word, or a command line without one, asks with these options.
-pub fn asked_of<'a>(word: &Word, options: &Options<'a>) -> Result<Asked<'a>, Misuse<'a>> {
+/// GIT_CONFIG may have named a file.
+pub fn asked_of<'a>(
+    word: &Word,
+    options: &Options<'a>,
+    named: Option<&'a str>,
+) -> Result<Asked<'a>, Misuse<'a>> {
     let shown = shown_of(options)?;
     let plain = if word.name.is_empty() {
         older(options)?
@@ -405,7 +434,7 @@ pub fn asked_of<'a>(word: &Word, options: &Options<'a>) -> Result<Asked<'a>, Mis
     } else {
         check_older(&plain, options)?;
     }
-    let texts = texts_of(options)?;
+    let texts = texts_of(options, named)?;
     match change_of(&plain) {
         Some(change) => Ok(Asked::Change(edit_of(&plain, change, options, texts, shown)?)),
         None => Ok(Asked::Read(request_of(&plain, options, texts, shown))),

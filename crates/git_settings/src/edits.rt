@@ -3,16 +3,19 @@
 ghost use Rattle.std.specs.Prelude.{◌≡◌, ◌⊎◌};
 ghost use Rattle.git_settings.specs.declared.edits.Refusal.TheVariants.{Edit as OfEdit, Pattern};
 
-use crate::output::{Ending, tell, tell_error, tell_here};
+use crate::output::{Ending, tell, tell_error};
 use crate::request::{Change, Chosen, Edit, Subject, Texts};
 use crate::shown::{Outcome, Wrong, put_typed, tell_wrong};
-use crate::sources::{located, named_by_variable, of_scope, tell_no_file};
+use crate::sources::{file_of, located, tell_stop};
 use crate::wanted::{Patterns, Unclear, Wanted, tell_key};
+use bstr::ByteSlice;
 use bumpalo::Bump;
 use config_edit::{self as edit, EditError};
+use config_file::bytes::{self, Class};
+use config_file::entry::push_lower;
 use config_file::errors::FileError;
-use config_file::{Entries, Entry, Key, KeyError, Scope};
-use config_host::sources::names;
+use config_file::header::read_header;
+use config_file::{AddError, Entries, Entry, Key, KeyError, Scope};
 use config_host::text::Text;
 use config_host::{Disk, HereError, HostError, LockError, Locked};
 use itoa::Buffer;
@@ -67,7 +70,7 @@ fn is_wanted(
     match &entry.value {
         Some(value) => {
             let text = value.text(alloc)?;
-            Ok(wanted.has_value(Some(text.as_slice())))
+            Ok(wanted.has_value(&text))
         }
         None => Ok(wanted.fits_alone()),
     }
@@ -194,12 +197,88 @@ fn changed(alloc: Global, text: &[u8], edit: &Edit<'_>, value: &[u8]) -> Result<
     changed_at(alloc, text, edit, value, &places)
 }
 
-/// Tells that a file is no configuration file.
-fn tell_file(rt: &HostRuntime, name: &[u8], error: &FileError) {
+/// What follows the last entry that Git reads.
+fn behind_entries(text: &[u8]) -> &[u8] {
+    let mut entries = Entries::new(text);
+    let (_, _, mut rest) = entries.parts();
+    for _ in 0..text.len() {
+        match entries.next() {
+            Some(Ok(_)) => rest = entries.parts().2,
+            _ => break,
+        }
+    }
+    rest
+}
+
+/// The first header that is none, behind its `[`, in a text in which no entry comes before it.
+fn broken_header(text: &[u8]) -> Option<&[u8]> {
+    let mut rest = text;
+    for _ in 0..text.len() {
+        let (_, after) = bytes::run(rest, Class::Blank);
+        rest = match after {
+            [b'\n', after @ ..] => after,
+            [b'#' | b';', ..] => bytes::run(after, Class::Comment).1,
+            [b'[', after @ ..] => match read_header(after) {
+                Ok((_, after)) => after,
+                Err(_) => return Some(after),
+            },
+            _ => return None,
+        };
+    }
+    None
+}
+
+/// Whether the text of a subsection, up to where Git stops reading it, ends in a dot. An empty one does, as Git has
+/// written the dot before it.
+fn ends_in_dot(subsection: &[u8]) -> bool {
+    let line = match subsection.split_once_str(b"\n") {
+        Some((line, _)) => line.strip_suffix(b"\r").unwrap_or(line),
+        None => subsection,
+    };
+    let (mut last, mut is_escaped) = (b'.', false);
+    for byte in line {
+        match (*byte, is_escaped) {
+            (b'"', false) => break,
+            (b'\\', false) => is_escaped = true,
+            (byte, _) => (last, is_escaped) = (byte, false),
+        }
+    }
+    last == b'.'
+}
+
+/// Whether Git stops within a header, and not behind a dot of its name: only then it says that the file is none.
+fn is_no_file(text: &[u8]) -> bool {
+    let Some(header) = broken_header(behind_entries(text)) else {
+        return false;
+    };
+    let (name, after) = bytes::run(header, Class::Name);
+    let (blanks, after) = bytes::run(after, Class::Blank);
+    match after {
+        _ if name.is_empty() => true,
+        [b'"', subsection @ ..] if !blanks.is_empty() => !ends_in_dot(subsection),
+        _ => name.len() == 1 || !name.ends_with(b"."),
+    }
+}
+
+/// Tells that a file of this text is no configuration file. Returns how the run ends.
+fn tell_file(
+    rt: &HostRuntime,
+    file: &[u8],
+    text: &[u8],
+    edit: &Edit<'_>,
+    error: &FileError,
+) -> Ending {
+    let is_of_sections = matches!(edit.change, Change::Rename(_) | Change::Remove);
+    if is_of_sections || !is_no_file(text) {
+        let error = *error;
+        tell_stop(rt, &[], Scope::Local, HereError::Stops(AddError::Line { file, error }));
+        return Ending::Refused;
+    }
     let mut buffer = Buffer::new();
     let line = buffer.format(error.line).as_bytes();
-    tell(rt, &[b"error: bad config line ", line, b" in file ", name]);
-    tell(rt, &[b"error: invalid config file ", name]);
+    tell(rt, &[b"error: bad config line ", line, b" in file ", file]);
+    tell(rt, &[b"error: invalid config file ", file]);
+    Ending::NoFile
 }
 
 /// Tells that several entries have the key.
@@ -215,18 +294,32 @@ fn tell_several(rt: &HostRuntime, edit: &Edit<'_>) {
     }
 }
 
-/// Tells that no entry is to be changed, if that is said. Returns how the run ends.
-fn tell_absent(rt: &HostRuntime, edit: &Edit<'_>) -> Ending {
+/// Tells that no entry or no section is to be changed, if that is said, and under which name a section is listed whose
+/// header may have this name. Returns how the run ends.
+fn tell_absent(rt: &HostRuntime, text: &[u8], edit: &Edit<'_>) -> Result<Ending, AllocError> {
     if !matches!(edit.change, Change::Rename(_) | Change::Remove) {
-        return Ending::NotOne;
+        return Ok(Ending::NotOne);
     }
-    tell(rt, &[b"fatal: no such section: ", edit.name.as_bytes()]);
-    Ending::Refused
+    let alloc = rt.alloc();
+    let name = edit.name.as_bytes();
+    tell(rt, &[b"fatal: no such section: ", name]);
+    let mut listed = Vec::new(alloc);
+    push_lower(&mut listed, name)?;
+    if edit::remove_section(alloc, text, &listed).is_ok() {
+        tell(rt, &[b"hint: a section is listed as ", &listed]);
+    }
+    Ok(Ending::Refused)
 }
 
 /// Tells why the text of a file is not changed. Returns how the run ends.
-fn tell_refusal(rt: &HostRuntime, file: &[u8], edit: &Edit<'_>, error: &EditError) -> Ending {
-    match error {
+fn tell_refusal(
+    rt: &HostRuntime,
+    file: &[u8],
+    text: &[u8],
+    edit: &Edit<'_>,
+    error: &EditError,
+) -> Result<Ending, AllocError> {
+    Ok(match error {
         EditError::Key(error) => {
             tell_key(rt, edit.name, *error);
             match error {
@@ -242,30 +335,24 @@ fn tell_refusal(rt: &HostRuntime, file: &[u8], edit: &Edit<'_>, error: &EditErro
             tell(rt, &[b"error: invalid section name: ", name.as_bytes()]);
             Ending::Failed
         }
-        EditError::File(error) => {
-            tell_file(rt, file, error);
-            Ending::NoFile
-        }
+        EditError::File(error) => tell_file(rt, file, text, edit, error),
         EditError::Several => {
             tell_several(rt, edit);
             Ending::NotOne
         }
-        EditError::Absent => tell_absent(rt, edit),
-        EditError::Memory(_) => {
-            tell(rt, &[b"fatal: out of memory"]);
-            Ending::Refused
-        }
+        EditError::Absent => tell_absent(rt, text, edit)?,
+        EditError::Memory(_) => return Err(AllocError),
         _ => {
             tell(rt, &[b"fatal: nothing spells the value or the comment"]);
             Ending::Refused
         }
-    }
+    })
 }
 
 /// Tells why a file is not replaced. Returns how the run ends.
 fn tell_lock(rt: &HostRuntime, name: &[u8], error: LockError) -> Ending {
     let (front, ending): (&[u8], Ending) = match &error {
-        LockError::Held(_) | LockError::Lock(_) => {
+        LockError::Held(..) | LockError::Lock(_) => {
             (b"error: could not lock config file ", Ending::Failed)
         }
         LockError::Read(_) => (b"error: invalid config file ", Ending::NoFile),
@@ -287,12 +374,13 @@ fn change_file<'t>(
         Ok(locked) => locked,
         Err(error) => return Ok(tell_lock(rt, name, error)),
     };
-    let new = match changed(rt.alloc(), locked.text(), edit, value) {
+    let text = locked.text();
+    let new = match changed(rt.alloc(), text, edit, value) {
         Ok(new) => new,
-        Err(Refusal::Edit(error)) => return Ok(tell_refusal(rt, name, edit, &error)),
+        Err(Refusal::Edit(error)) => return Ok(tell_refusal(rt, name, text, edit, &error)?),
         Err(Refusal::Pattern) => return Ok(Unclear::Values.tell(rt, &chosen_of(edit))),
     };
-    if new.as_slice() == locked.text() {
+    if new.as_slice() == text {
         return Ok(Ending::Done);
     }
     match locked.commit(new.as_slice()) {
@@ -310,17 +398,16 @@ fn change_here<'t>(
     value: &[u8],
 ) -> Result<Ending, HereError<'t>> {
     let disk = Disk::new(rt, texts);
-    let (folder, repository) = located(rt, &disk)?;
+    let (folder, repository) = located(rt, &disk, scope)?;
     let disk = disk.within(folder)?;
-    let files = names(&disk, repository)?;
-    if let Some(named) = of_scope(&disk, &files, scope.unwrap_or(Scope::Local))? {
-        return Ok(change_file(rt, &disk, named.name, edit, value)?);
+    if scope.is_none() && repository.is_none() {
+        tell(rt, &[b"fatal: not in a git directory"]);
+        return Ok(Ending::Refused);
     }
-    match scope {
-        Some(scope) => tell_no_file(rt, scope),
-        None => tell(rt, &[b"fatal: not in a git directory"]),
+    match file_of(rt, &disk, repository, scope.unwrap_or(Scope::Local))? {
+        Some(name) => Ok(change_file(rt, &disk, name, edit, value)?),
+        None => Ok(Ending::Refused),
     }
-    Ok(Ending::Refused)
 }
 
 /// Changes a file that is named.
@@ -350,7 +437,7 @@ fn change_found(
         Ok(ending) => Ok(ending),
         Err(HereError::Host(error)) => Err(error),
         Err(error) => {
-            tell_here(rt, error);
+            tell_stop(rt, &[], Scope::Local, error);
             Ok(Ending::Refused)
         }
     }
@@ -361,10 +448,7 @@ fn change_texts(rt: &HostRuntime, edit: &Edit<'_>, value: &[u8]) -> Result<Endin
     match edit.texts {
         Texts::Named(file) => change_named(rt, file, edit, value),
         Texts::OfScope(scope) => change_found(rt, Some(scope), edit, value),
-        Texts::Here => match named_by_variable(rt)? {
-            Some(file) => change_named(rt, &file, edit, value),
-            None => change_found(rt, None, edit, value),
-        },
+        Texts::Here => change_found(rt, None, edit, value),
     }
 }
 
@@ -373,8 +457,8 @@ pub fn run(rt: &HostRuntime, edit: &Edit<'_>) -> Result<Ending, HostError> {
     let (Change::Set(value) | Change::Add(value) | Change::Replace(value)) = edit.change else {
         return change_texts(rt, edit, b"");
     };
-    let mut text = Text::new(rt.alloc());
-    match put_typed(&mut text, edit.shown, value.as_bytes()) {
+    let mut text = Vec::new(rt.alloc());
+    match put_typed(&mut text, edit.shown, value.as_bytes())? {
         Outcome::AsWritten => change_texts(rt, edit, value.as_bytes()),
         Outcome::Refused => {
             let wrong = Wrong {
@@ -382,9 +466,9 @@ pub fn run(rt: &HostRuntime, edit: &Edit<'_>) -> Result<Ending, HostError> {
                 value: Some(value.as_bytes()),
                 place: None,
             };
-            tell_wrong(rt, edit.shown, &wrong, b"fatal: cannot parse the color ");
+            tell_wrong(rt, edit.shown, &wrong, b"fatal: cannot parse color ");
             Ok(Ending::Refused)
         }
-        _ => change_texts(rt, edit, text.so_far()?),
+        _ => change_texts(rt, edit, &text),
     }
 }

@@ -1,17 +1,16 @@
 //! Lists the entries of texts, or prints values of them.
 
-use crate::output::{Ending, Name, Origin, Place, put_entry, tell_here, tell_line};
+use crate::output::{Ending, Name, Origin, Place, form_of};
 use crate::request::{Request, Subject};
-use crate::shown::{Homes, Outcome, Shown, Wrong, put_value, tell_wrong};
-use crate::sources::{COMMAND, Opened, open_texts};
-use crate::wanted::{Patterns, Wanted};
+use crate::shown::{Homes, Outcome, Shown, Values, Wrong, tell_wrong};
+use crate::sources::{COMMAND, Opened, open_texts, origin_of, tell_stop};
+use crate::wanted::{Patterns, Unclear, Wanted};
 use bumpalo::Bump;
-use config_file::errors::FileFault;
-use config_file::{AddError, Entries, Entry, Known, Scope, Setting, Walk, push_setting};
+use config_answers::answer::{Answer, Writer};
+use config_file::{Entries, Entry, Key, Known, Scope, Setting, Walk, push_setting};
 use config_host::here::prepare;
 use config_host::reading::next_entry;
 use config_host::sources::Source;
-use config_host::text::Text;
 use config_host::{Disk, HereError, HostError, Surroundings};
 use std::alloc::AllocError;
 use std::io::{self, Write};
@@ -34,36 +33,26 @@ pub struct Reading<'r, 't> {
     wanted: Wanted<'r, 'r>,
     /// The settings that are asked for, unless all entries are listed.
     found: Vec<Setting<'t>>,
-    /// A value as it is shown.
-    text: Text,
     /// What is still to be written.
-    pub output: Text,
+    pub writer: Writer,
 }
 
-/// What an entry of a file of this scope and name is in. A file has the name of no other text: those of a
-/// command include files by whole paths.
-fn origin_of(sources: &[Source<'_>], scope: Scope, file: &[u8]) -> Origin {
-    if scope != Scope::Command {
-        return Origin::File;
-    }
-    for source in sources {
-        if !source.is_file && source.place.name == file {
-            return if file == COMMAND {
-                Origin::Command
-            } else {
-                Origin::Input
-            };
-        }
-    }
-    Origin::File
-}
-
-/// The value of a setting as it is shown, or `None` for a key alone: its own text, or this one.
-fn shown_value<'v>(outcome: Outcome, setting: &'v Setting<'_>, text: &'v [u8]) -> Option<&'v [u8]> {
-    match outcome {
-        Outcome::AsWritten => Some(setting.text()),
-        Outcome::Text => Some(text),
-        _ => None,
+/// Where settings are, and how the values of a request are shown.
+fn values_of<'v, 't>(
+    rt: &'v HostRuntime,
+    homes: &'v Homes<'t>,
+    sources: &'v [Source<'t>],
+    request: &Request<'_>,
+) -> Values<'v, 't> {
+    Values {
+        rt,
+        homes,
+        sources,
+        shown: if request.shows_values {
+            request.shown
+        } else {
+            Shown::Text
+        },
     }
 }
 
@@ -96,63 +85,36 @@ impl<'t> Reading<'_, 't> {
         place: &Place<'_>,
         name: Name<'_, '_>,
     ) -> io::Result<Outcome> {
-        self.text.clear();
-        let shown = if self.request.shows_values {
-            self.request.shown
-        } else {
-            Shown::Text
-        };
-        let outcome = put_value(self.rt, &self.homes, shown, setting, &mut self.text)?;
-        if matches!(outcome, Outcome::Missing | Outcome::Refused) {
-            return Ok(outcome);
-        }
-        if !self.request.all {
-            self.output.clear();
-        }
-        let value = shown_value(outcome, setting, self.text.so_far()?);
-        put_entry(&mut self.output, self.request, place, name, value);
-        Ok(outcome)
+        let values = values_of(self.rt, &self.homes, &self.sources, self.request);
+        self.writer.put(&values, setting, place, name)
     }
 
     /// Lists a setting, or keeps it if it is asked for. As in Git, a list leaves out what is none of its
     /// type.
     fn take_setting(&mut self, setting: Setting<'t>) -> io::Result<()> {
-        if self.request.lists() {
-            let place = self.place(&setting);
-            self.show(&setting, &place, Name::Of(&setting.entry))?;
-            return Ok(());
+        if !self.request.lists() {
+            return Ok(self.found.push(setting)?);
         }
-        Ok(self.found.push(setting)?)
-    }
-
-    /// Takes an entry, if it is wanted.
-    fn take(&mut self, scope: Scope, file: &'t [u8], entry: &Entry<'t>) -> io::Result<()> {
-        if !self.wanted.has_key(entry)? {
-            return Ok(());
-        }
-        let value = match &entry.value {
-            Some(value) => Some(value.text(self.rt.alloc())?),
-            None => None,
-        };
-        if !self.wanted.has_value(value.as_deref()) {
-            return Ok(());
-        }
-        self.take_setting(Setting {
-            scope,
-            file,
-            entry: *entry,
-            value,
-        })?;
-        if self.output.len() >= ROOM {
+        let values = values_of(self.rt, &self.homes, &self.sources, self.request);
+        self.writer.put_setting(&values, &setting)?;
+        if self.writer.output.len() >= ROOM {
             self.write()?;
         }
         Ok(())
     }
 
+    /// Takes an entry, if it is wanted.
+    fn take(&mut self, scope: Scope, file: &'t [u8], entry: &Entry<'t>) -> io::Result<()> {
+        match self.wanted.take(self.rt.alloc(), scope, file, entry)? {
+            Some(setting) => self.take_setting(setting),
+            None => Ok(()),
+        }
+    }
+
     /// Writes the output so far.
     fn write(&mut self) -> io::Result<()> {
-        self.rt.stdout().write_all(self.output.so_far()?)?;
-        self.output.clear();
+        self.rt.stdout().write_all(&self.writer.output)?;
+        self.writer.output.clear();
         Ok(())
     }
 
@@ -204,26 +166,6 @@ impl<'t> Reading<'_, 't> {
         Ok(())
     }
 
-    /// Tells why Git stops in a text of this scope.
-    fn tell_stop(&self, scope: Scope, stop: HereError<'t>) {
-        match stop {
-            HereError::Stops(AddError::Line { file, error }) => {
-                let why: &[u8] = match error.fault {
-                    FileFault::BadLine => b"",
-                    FileFault::Nul => b": a NUL byte outside a comment",
-                };
-                let place = Place {
-                    origin: origin_of(&self.sources, scope, file),
-                    scope,
-                    file,
-                    line: error.line,
-                };
-                tell_line(self.rt, &place, why);
-            }
-            stop => tell_here(self.rt, stop),
-        }
-    }
-
     /// Takes the entries of all texts, up to where Git stops, which is told.
     fn walk_all(&mut self, surroundings: &mut Surroundings<'t>) -> Result<Ending, HostError> {
         for index in 0..self.sources.len() {
@@ -235,7 +177,7 @@ impl<'t> Reading<'_, 't> {
                 Ok(()) => {}
                 Err(HereError::Host(error)) => return Err(error),
                 Err(stop) => {
-                    self.tell_stop(source.scope, stop);
+                    tell_stop(self.rt, &self.sources, source.scope, stop);
                     return Ok(Ending::Refused);
                 }
             }
@@ -289,25 +231,19 @@ impl<'t> Reading<'_, 't> {
 
     /// Appends the values of the key, or of the keys of a pattern. If one is refused, there is no output.
     fn answer_key(&mut self, key: &str) -> Result<Ending, HostError> {
-        let mut is_absent = true;
         let found = self.taken();
-        for setting in &found {
-            let place = self.place(setting);
-            match self.show(setting, &place, Name::Of(&setting.entry))? {
-                Outcome::Missing => {}
-                Outcome::Refused => {
-                    let key = setting.entry.key_text(self.rt.alloc())?;
-                    self.tell_setting(self.request.shown, setting, &key);
-                    self.output.clear();
-                    return Ok(Ending::Refused);
-                }
-                _ => is_absent = false,
+        self.writer.output.clear();
+        let values = values_of(self.rt, &self.homes, &self.sources, self.request);
+        let answer = self.writer.answer(&values, &found)?;
+        match answer {
+            Answer::Written => {}
+            Answer::Absent => return self.answer_default(key),
+            Answer::Refused(setting) => {
+                let key = setting.entry.key_text(self.rt.alloc())?;
+                self.tell_setting(self.request.shown, setting, &key);
             }
         }
-        if is_absent {
-            return self.answer_default(key);
-        }
-        Ok(Ending::Done)
+        Ok(answer.ending())
     }
 
     /// Appends what is asked about.
@@ -357,8 +293,7 @@ fn answer_in<'r, 't>(
         request,
         wanted,
         found: Vec::new(rt.alloc()),
-        text: Text::new(rt.alloc()),
-        output: Text::new(rt.alloc()),
+        writer: Writer::new(rt.alloc(), form_of(request)),
     };
     Ok(reading.run(&mut surroundings)?)
 }
@@ -369,6 +304,11 @@ pub fn run<'a>(
     request: &Request<'a>,
     commands: &[u8],
 ) -> Result<Ending, HostError> {
+    if let Subject::Key(key) = request.chosen.subject {
+        if let Err(error) = Key::parse(key.as_bytes()) {
+            return Ok(Unclear::Key(error).tell(rt, &request.chosen));
+        }
+    }
     let patterns = match Patterns::new(rt.alloc(), &request.chosen) {
         Ok(patterns) => patterns,
         Err(why) => return Ok(why.tell(rt, &request.chosen)),
@@ -382,7 +322,7 @@ pub fn run<'a>(
         Ok(ending) => Ok(ending),
         Err(HereError::Host(error)) => Err(error),
         Err(stop) => {
-            tell_here(rt, stop);
+            tell_stop(rt, &[], Scope::Local, stop);
             Ok(Ending::Refused)
         }
     }

@@ -9,6 +9,7 @@ mod files;
 mod options;
 mod output;
 mod overrides;
+mod posix;
 mod request;
 mod shown;
 mod sources;
@@ -18,9 +19,9 @@ use crate::asked::{Asked, asked_of};
 use crate::options::{Word, word_of};
 use crate::output::{Ending, tell, tell_error, tell_fatal};
 use config_host::HostError;
-use config_host::environment::{arguments as arguments_of, words_of};
-use config_host::options::{Ends, Misuse, help, read};
-use std::io::Write;
+use config_host::environment::{arguments as arguments_of, variable, words_of};
+use config_host::options::{Ends, Misuse, Options, help, read};
+use std::io::{ErrorKind, Write};
 use std::process::ExitCode;
 
 /// What `--version` prints.
@@ -30,13 +31,40 @@ const VERSION: &[u8] = b"git-settings 0.2.0\n";
 fn refuse(rt: &HostRuntime, word: &Word, misuse: &Misuse<'_>) -> Result<Ending, HostError> {
     tell_error(rt, [b"error: ", b"", b""], misuse);
     if misuse.shows_usage() {
-        tell(rt, &[&help(rt.alloc(), &word.about, word.tables)?]);
+        tell(rt, &[&help(rt.alloc(), &word.about(), word.tables)?]);
     }
     Ok(Ending::Misused)
 }
 
-/// Does what these words ask.
-fn run(rt: &HostRuntime, words: &[&str]) -> Result<Ending, HostError> {
+/// Does what a word and its options ask, after these settings of the command line. If no option names a file, Git looks
+/// for that of GIT_CONFIG, which has this name.
+fn run_word<'a>(
+    rt: &HostRuntime,
+    word: &Word,
+    options: &Options<'a>,
+    named: Option<&'a [u8]>,
+    commands: &[u8],
+) -> Result<Ending, HostError> {
+    let named = match named {
+        Some(name) if !options.has("file") => match str::from_utf8(name) {
+            Ok(name) => Some(name),
+            Err(_) => return Err(HostError::Variable("GIT_CONFIG")),
+        },
+        _ => None,
+    };
+    match asked_of(word, options, named) {
+        Ok(Asked::Read(request)) => files::run(rt, &request, commands),
+        Ok(Asked::Change(edit)) => edits::run(rt, &edit),
+        Err(misuse) => Ok(misuse.tell(rt)),
+    }
+}
+
+/// Does what these words ask. GIT_CONFIG may have named a file.
+fn run<'a>(
+    rt: &HostRuntime,
+    words: &[&'a str],
+    named: Option<&'a [u8]>,
+) -> Result<Ending, HostError> {
     let alloc = rt.alloc();
     let mut commands = Vec::new(alloc);
     let Some(words) = overrides::take(rt, words, &mut commands)? else {
@@ -48,7 +76,7 @@ fn run(rt: &HostRuntime, words: &[&str]) -> Result<Ending, HostError> {
         Err(misuse) => return refuse(rt, word, &misuse),
     };
     if options.has("help") {
-        let text = help(alloc, &word.about, word.tables)?;
+        let text = help(alloc, &word.about(), word.tables)?;
         rt.stdout().write_all(&text)?;
         return Ok(Ending::Done);
     }
@@ -56,37 +84,47 @@ fn run(rt: &HostRuntime, words: &[&str]) -> Result<Ending, HostError> {
         rt.stdout().write_all(VERSION)?;
         return Ok(Ending::Done);
     }
-    match asked_of(word, &options) {
-        Ok(Asked::Read(request)) => files::run(rt, &request, &commands),
-        Ok(Asked::Change(edit)) => edits::run(rt, &edit),
-        Err(misuse) => Ok(misuse.tell(rt)),
-    }
+    run_word(rt, word, &options, named, &commands)
 }
 
-/// Does what the arguments ask.
-fn run_arguments(rt: &HostRuntime, arguments: &[String]) -> Result<Ending, HostError> {
+/// Does what the arguments ask. GIT_CONFIG may have named a file.
+fn run_arguments<'a>(
+    rt: &HostRuntime,
+    arguments: &'a [String],
+    named: Option<&'a [u8]>,
+) -> Result<Ending, HostError> {
     let words = words_of(rt.alloc(), arguments)?;
-    run(rt, &words)
+    run(rt, &words, named)
 }
 
-/// How the run ends, whose error is told.
-fn ended(rt: &HostRuntime, outcome: Result<Ending, HostError>) -> Ending {
+/// Does what the arguments of the program ask.
+fn run_program(rt: &HostRuntime, arguments: &[String]) -> Result<Ending, HostError> {
+    let named = variable(rt, "GIT_CONFIG")?;
+    run_arguments(rt, arguments, named.as_deref())
+}
+
+/// The status of a program whose output nobody reads any longer, which a signal ends without a word in Git.
+const UNREAD: u8 = 141;
+
+/// The status of a run, whose error is told.
+fn status_of(rt: &HostRuntime, outcome: Result<Ending, HostError>) -> u8 {
     match outcome {
-        Ok(ending) => ending,
+        Ok(ending) => ending.status(),
+        Err(HostError::System(error)) if error.kind() == ErrorKind::BrokenPipe => UNREAD,
         Err(error) => {
             tell_fatal(rt, error);
-            Ending::Refused
+            Ending::Refused.status()
         }
     }
 }
 
 fn main(rt: HostRuntime) -> ExitCode {
-    let ending = match arguments_of(&rt) {
-        Ok(arguments) => ended(&rt, run_arguments(&rt, &arguments)),
+    let status = match arguments_of(&rt) {
+        Ok(arguments) => status_of(&rt, run_program(&rt, &arguments)),
         Err(error) => {
             tell_fatal(&rt, error);
-            Ending::Refused
+            Ending::Refused.status()
         }
     };
-    ExitCode::from(ending as u8)
+    ExitCode::from(status)
 }

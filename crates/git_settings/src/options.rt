@@ -52,8 +52,25 @@ pub struct Word {
     pub count: usize,
     /// Its options.
     pub tables: Tables,
-    /// What its help says around them.
-    pub about: About,
+    /// What it does.
+    pub summary: &'static str,
+    /// How it is called.
+    pub usage: &'static str,
+}
+
+impl Word {
+    /// What its help says around its options.
+    pub fn about(&self) -> About {
+        About {
+            summary: self.summary,
+            usage: self.usage,
+            after: match (self.name, self.action) {
+                ("", _) => ALONE,
+                (_, Action::List | Action::Get) => READING,
+                _ => CHANGING,
+            },
+        }
+    }
 }
 
 /// Which file is read or changed. There is no `--blob`, and it is told so.
@@ -172,10 +189,10 @@ const OLDER: &[Row] = &[
 
 /// What the help of the words that read ends with.
 const READING: &str = "\
-Each option has an opposite, such as --no-type. Statuses: 0 if all is printed, 1 if no entry has the
-key or it is no key, 6 for an invalid pattern, 128 if a file, a line, a value or a URL is refused, or
-after an error of the output or of memory, 129 for a wrong usage, and 255 for a default that is no
-color.
+Each option but the flags of types has an opposite, such as --no-type. Statuses: 0 if all is printed,
+1 if no entry has the key or it is no key, 6 for an invalid pattern, 128 if a file, a line, a value or
+a URL is refused, or after an error of the output or of memory, 129 for a wrong usage, 141 if nobody
+reads the output to its end, and 255 for a default that is no color.
 
 An expiry date is never, false, all or now; or the seconds since 1970, from 100000000 to 4102444799;
 or an age: a number, a space or a dot, and a unit from second to week, perhaps with ago, as in
@@ -184,12 +201,30 @@ or an age: a number, a space or a dot, and a unit from second to week, perhaps w
 /// What the help of the words that change a file ends with.
 const CHANGING: &str = "\
 Without a file or a scope the file of the repository changes. All bytes but those of the change stay.
+If a signal ends a change, its lock FILE.lock may stay. The next change then says how old the lock is:
+remove it if no program is changing the file.
 
-Each option has an opposite, such as --no-type. Statuses: 0 if the file is as asked, 1 for a key with
-a wrong byte, 2 for a key without a section or a name, 3 for a file that is no configuration file, 4
-if the new file is not written, 5 if several entries have the key or none, 6 for an invalid pattern,
-128 if the value is none of its type, the comment has a line end, no section has the name or the file
-is -, 129 for a wrong usage, and 255 if the file cannot be locked or no section can have the name.";
+Each option but the flags of types has an opposite, such as --no-type. Statuses: 0 if the file is as
+asked, 1 for a key with a wrong byte, 2 for a key without a section or a name, 3 for a file that is
+not read or has a broken header, 4 if the new file is not written, 5 if several entries have the key
+or none, 6 for an invalid pattern, 128 if another line is invalid, the value is none of its type, the
+comment has a line end, no section has the name or the file is -, 129 for a wrong usage, and 255 if
+the file cannot be locked or no section can have the name.";
+
+/// What the help without a word ends with.
+const ALONE: &str = "\
+Words: list, get, set, unset, rename-section and remove-section, each of which has a --help of its
+own. Git's word edit and its option --blob are missing. Without a word and without one of the flags
+from --get to --get-colorbool a key alone is read, and a key and a value are set. Before them each
+`-c KEY=VALUE` and each `--config-env=KEY=VARIABLE` adds a setting of the command. Statuses are those
+of the words.
+
+Examples:
+  git-settings get --type=bool --default=false core.bare
+  git-settings get --url=https://example.com/a.git http
+  git-settings list --file .gitmodules --null
+  git-settings set core.editor 'vim -n'
+  git-settings unset --global alias.st";
 
 /// The words.
 const WORDS: &[Word] = &[
@@ -198,11 +233,8 @@ const WORDS: &[Word] = &[
         action: Action::List,
         count: 0,
         tables: &[LOCATION, DISPLAY, TYPE, TYPE_FLAGS, INCLUDES, GENERAL],
-        about: About {
-            summary: "Lists all entries, as `git config list` does",
-            usage: "git-settings [-c KEY=VALUE]... list [OPTIONS]",
-            after: READING,
-        },
+        summary: "Lists all entries, as `git config list` does",
+        usage: "git-settings [-c KEY=VALUE]... list [OPTIONS]",
     },
     Word {
         name: "get",
@@ -211,11 +243,8 @@ const WORDS: &[Word] = &[
         tables: &[
             LOCATION, FILTER, FIXED, KEYS, DISPLAY, TYPE, TYPE_FLAGS, INCLUDES, DEFAULT, GENERAL,
         ],
-        about: About {
-            summary: "Prints the last value of a key, or all of them, as `git config get` does",
-            usage: "git-settings [-c KEY=VALUE]... get [OPTIONS] KEY",
-            after: READING,
-        },
+        summary: "Prints the last value of a key, or all of them, as `git config get` does",
+        usage: "git-settings [-c KEY=VALUE]... get [OPTIONS] KEY",
     },
     Word {
         name: "set",
@@ -224,44 +253,32 @@ const WORDS: &[Word] = &[
         tables: &[
             LOCATION, TYPE, TYPE_FLAGS, FILTER, FIXED, COMMENT, APPEND, GENERAL,
         ],
-        about: About {
-            summary: "Gives a key a value in a file, as `git config set` does",
-            usage: "git-settings set [OPTIONS] KEY VALUE",
-            after: CHANGING,
-        },
+        summary: "Gives a key a value in a file, as `git config set` does",
+        usage: "git-settings set [OPTIONS] KEY VALUE",
     },
     Word {
         name: "unset",
         action: Action::Unset,
         count: 1,
         tables: &[LOCATION, FILTER, FIXED, GENERAL],
-        about: About {
-            summary: "Removes the entry of a key from a file, as `git config unset` does",
-            usage: "git-settings unset [OPTIONS] KEY",
-            after: CHANGING,
-        },
+        summary: "Removes the entry of a key from a file, as `git config unset` does",
+        usage: "git-settings unset [OPTIONS] KEY",
     },
     Word {
         name: "rename-section",
         action: Action::RenameSection,
         count: 2,
         tables: &[LOCATION, GENERAL],
-        about: About {
-            summary: "Gives sections of a file another name, as `git config rename-section` does",
-            usage: "git-settings rename-section [OPTIONS] OLD NEW",
-            after: CHANGING,
-        },
+        summary: "Gives sections of a file another name, as `git config rename-section` does",
+        usage: "git-settings rename-section [OPTIONS] OLD NEW",
     },
     Word {
         name: "remove-section",
         action: Action::RemoveSection,
         count: 1,
         tables: &[LOCATION, GENERAL],
-        about: About {
-            summary: "Removes sections from a file, as `git config remove-section` does",
-            usage: "git-settings remove-section [OPTIONS] NAME",
-            after: CHANGING,
-        },
+        summary: "Removes sections from a file, as `git config remove-section` does",
+        usage: "git-settings remove-section [OPTIONS] NAME",
     },
 ];
 
@@ -273,25 +290,19 @@ const WITHOUT: &Word = &Word {
     tables: &[
         LOCATION, OLDER, DISPLAY, TYPE, TYPE_FLAGS, DEFAULT, COMMENT, FIXED, INCLUDES, GENERAL,
     ],
-    about: About {
-        summary: "Reads and changes Git's settings, as `git config` does",
-        usage: "git-settings [-c KEY=VALUE]... [OPTIONS] [KEY [VALUE [PATTERN]]]",
-        after: "\
-Words: list, get, set, unset, rename-section and remove-section, each of which has a --help of its
-own. Without a word and without one of the flags from --get to --get-colorbool a key alone is read,
-and a key and a value are set. Before them each `-c KEY=VALUE` and each `--config-env=KEY=VARIABLE`
-adds a setting of the command. Statuses are those of the words.
-
-Examples:
-  git-settings get --type=bool --default=false core.bare
-  git-settings get --url=https://example.com/a.git http
-  git-settings list --file .gitmodules --null
-  git-settings set core.editor 'vim -n'
-  git-settings unset --global alias.st",
-    },
+    summary: "Reads and changes Git's settings, as `git config` does",
+    usage: "git-settings [-c KEY=VALUE]... [OPTIONS] [KEY [VALUE [PATTERN]]]",
 };
 
-/// The word with which arguments begin, and what follows it. Without a word all of them follow.
+/// The arguments without a first `--`.
+fn behind_dashes<'w, 'a>(arguments: &'w [&'a str]) -> &'w [&'a str] {
+    match arguments {
+        [first, rest @ ..] if *first == "--" => rest,
+        _ => arguments,
+    }
+}
+
+/// The word with which arguments begin, and what follows it. Without a word all of them follow, but for a first `--`.
 pub fn word_of<'w, 'a>(arguments: &'w [&'a str]) -> (&'static Word, &'w [&'a str]) {
     if let [first, rest @ ..] = arguments {
         for word in WORDS {
@@ -300,5 +311,5 @@ pub fn word_of<'w, 'a>(arguments: &'w [&'a str]) -> (&'static Word, &'w [&'a str
             }
         }
     }
-    (WITHOUT, arguments)
+    (WITHOUT, behind_dashes(arguments))
 }

@@ -1,17 +1,22 @@
 //! Values as they are shown.
+ghost use Rattle.std.specs.Prelude.{⊤};
 
 use crate::dates;
 use crate::output::{Origin, Place, tell, tell_line};
+use crate::sources::origin_of;
 use bstr::BStr;
+use config_answers::answer::Host;
+pub use config_answers::answer::Outcome;
 use config_file::Setting;
 use config_host::names::exists;
-use config_host::text::Text;
+use config_host::sources::Source;
 use config_host::{Disk, HostError, Users};
 use gix_config_value::canonical::{Kind, TryRead, normalize};
 use gix_config_value::integer::Amount;
 use gix_config_value::path::interpolate::{Context, home_for_user};
 use gix_config_value::{Boolean, Color, Fault};
 use itoa::Buffer;
+use std::alloc::AllocError;
 use std::io;
 use std::str::FromStr;
 
@@ -63,21 +68,6 @@ impl Shown {
     }
 }
 
-/// What becomes of a value.
-#[derive(Clone, Copy)]
-pub enum Outcome {
-    /// The text of the value as it is written.
-    AsWritten,
-    /// A text of its own.
-    Text,
-    /// The key stands alone, and has no text.
-    Alone,
-    /// It counts as not set, as the path of an optional file that is not there.
-    Missing,
-    /// It is none of its type.
-    Refused,
-}
-
 /// The directories that paths begin with. They are found only if paths are shown.
 #[derive(Clone, Copy)]
 pub struct Homes<'t> {
@@ -111,36 +101,36 @@ impl<'t> Homes<'t> {
 }
 
 /// Appends the canonical text of this kind.
-fn put_canonical(text: &mut Text, kind: Kind, value: &[u8]) -> Outcome {
+fn put_canonical(text: &mut Vec<u8>, kind: Kind, value: &[u8]) -> Result<Outcome, AllocError> {
     match normalize(kind, BStr::new(value)) {
         Some(canonical) => {
-            text.put(canonical.as_str().as_bytes());
-            Outcome::Text
+            text.extend_from_slice(canonical.as_str().as_bytes())?;
+            Ok(Outcome::Typed)
         }
-        None => Outcome::Refused,
+        None => Ok(Outcome::Refused),
     }
 }
 
 /// Appends the escape sequence of a color.
-fn put_escape(text: &mut Text, value: &[u8]) -> Outcome {
+fn put_escape(text: &mut Vec<u8>, value: &[u8]) -> Result<Outcome, AllocError> {
     match Color::try_read(value) {
         Ok(color) => {
-            text.put(color.escape().as_str().as_bytes());
-            Outcome::Text
+            text.extend_from_slice(color.escape().as_str().as_bytes())?;
+            Ok(Outcome::Typed)
         }
-        Err(_) => Outcome::Refused,
+        Err(_) => Ok(Outcome::Refused),
     }
 }
 
 /// Appends the second of the epoch of a date.
-fn put_date(rt: &HostRuntime, text: &mut Text, value: &[u8]) -> io::Result<Outcome> {
+fn put_date(rt: &HostRuntime, text: &mut Vec<u8>, value: &[u8]) -> io::Result<Outcome> {
     let Ok(value) = str::from_utf8(value) else {
         return Ok(Outcome::Refused);
     };
     match dates::read(rt, value)? {
         Some(second) => {
-            text.put(Buffer::new().format(second).as_bytes());
-            Ok(Outcome::Text)
+            text.extend_from_slice(Buffer::new().format(second).as_bytes())?;
+            Ok(Outcome::Typed)
         }
         None => Ok(Outcome::Refused),
     }
@@ -150,7 +140,7 @@ fn put_date(rt: &HostRuntime, text: &mut Text, value: &[u8]) -> io::Result<Outco
 fn put_path(
     rt: &HostRuntime,
     homes: &Homes<'_>,
-    text: &mut Text,
+    text: &mut Vec<u8>,
     setting: &Setting<'_>,
 ) -> io::Result<Outcome> {
     let passwd = homes.passwd.unwrap_or("");
@@ -166,39 +156,55 @@ fn put_path(
     if is_optional && !exists(rt, path.as_bytes())? {
         return Ok(Outcome::Missing);
     }
-    text.put(path.as_bytes());
-    Ok(Outcome::Text)
+    text.extend_from_slice(path.as_bytes())?;
+    Ok(Outcome::Typed)
 }
 
 /// Appends a value of one of the types whose text is the same wherever it is, unless that is its own text.
 /// Returns what became of it. A color stays as it is written.
-pub fn put_typed(text: &mut Text, shown: Shown, value: &[u8]) -> Outcome {
+pub fn put_typed(text: &mut Vec<u8>, shown: Shown, value: &[u8]) -> Result<Outcome, AllocError> {
     match shown {
         Shown::Canonical(kind) => put_canonical(text, kind, value),
         Shown::BooleanOrAmount if Amount::try_read(value).is_ok() => {
             put_canonical(text, Kind::Amount, value)
         }
-        Shown::BooleanOrText if Boolean::try_read(value).is_err() => Outcome::AsWritten,
+        Shown::BooleanOrText if Boolean::try_read(value).is_err() => Ok(Outcome::AsWritten),
         Shown::BooleanOrAmount | Shown::BooleanOrText => put_canonical(text, Kind::Boolean, value),
-        Shown::Escape if Color::try_read(value).is_err() => Outcome::Refused,
-        _ => Outcome::AsWritten,
+        Shown::Escape if Color::try_read(value).is_err() => Ok(Outcome::Refused),
+        _ => Ok(Outcome::AsWritten),
     }
 }
 
-/// Appends the value of a setting as it is shown, unless that is its own text. Returns what became of it.
-pub fn put_value(
-    rt: &HostRuntime,
-    homes: &Homes<'_>,
-    shown: Shown,
-    setting: &Setting<'_>,
-    text: &mut Text,
-) -> io::Result<Outcome> {
-    match shown {
-        Shown::Text if setting.value.is_none() => Ok(Outcome::Alone),
-        Shown::Path => put_path(rt, homes, text, setting),
-        Shown::Date => put_date(rt, text, setting.text()),
-        Shown::Escape => Ok(put_escape(text, setting.text())),
-        shown => Ok(put_typed(text, shown, setting.text())),
+/// Where settings are, and how their values are shown.
+#[derive(Clone, Copy)]
+pub struct Values<'v, 't> {
+    /// The system.
+    pub rt: &'v HostRuntime,
+    /// The directories that paths begin with.
+    pub homes: &'v Homes<'t>,
+    /// The texts of the settings.
+    pub sources: &'v [Source<'t>],
+    /// As what a value is read.
+    pub shown: Shown,
+}
+
+impl Host for Values<'_, '_> {
+    ghost shows = { λ _ _ _ _. ⊤ };
+
+    ghost lies = { λ _ _ _. ⊤ };
+
+    fn origin(&self, setting: &Setting<'_>) -> Origin {
+        origin_of(self.sources, setting.scope, setting.file)
+    }
+
+    fn show(&self, setting: &Setting<'_>, text: &mut Vec<u8>) -> io::Result<Outcome> {
+        match self.shown {
+            Shown::Text if setting.value.is_none() => Ok(Outcome::Alone),
+            Shown::Path => put_path(self.rt, self.homes, text, setting),
+            Shown::Date => put_date(self.rt, text, setting.text()),
+            Shown::Escape => Ok(put_escape(text, setting.text())?),
+            shown => Ok(put_typed(text, shown, setting.text())?),
+        }
     }
 }
 

@@ -1,16 +1,16 @@
 //! The texts that a request reads.
 
-use crate::output::{tell, tell_error};
+use crate::output::{Origin, Place, tell, tell_error, tell_here, tell_line};
 use crate::request::{Request, Texts};
 use bumpalo::Bump;
-use config_file::{FilePlace, Scope};
+use config_file::errors::FileFault;
+use config_file::{AddError, FilePlace, Scope};
 use config_host::disk::ReadError;
-use config_host::environment::variable;
 use config_host::reading::seek_urls;
 use config_host::repository::find;
-use config_host::sources::{Named, Source, is_there, names, sources};
+use config_host::sources::{Named, Source, has_worktrees, is_there, names, sources, system_name};
 use config_host::surroundings::{Followed, FoundRepository, has_includes};
-use config_host::{Disk, HereError, HostError, Surroundings};
+use config_host::{Disk, HereError, Surroundings};
 use std::alloc::AllocError;
 use std::io;
 
@@ -38,6 +38,44 @@ pub const COMMAND: &[u8] = b"command line";
 
 /// The name of the text of standard input.
 const INPUT: &[u8] = b"standard input";
+
+/// What an entry of a file of this scope and name is in. A file has the name of no other text: those of a
+/// command include files by whole paths.
+pub fn origin_of(sources: &[Source<'_>], scope: Scope, file: &[u8]) -> Origin {
+    if scope != Scope::Command {
+        return Origin::File;
+    }
+    for source in sources {
+        if !source.is_file && source.place.name == file {
+            return if file == COMMAND {
+                Origin::Command
+            } else {
+                Origin::Input
+            };
+        }
+    }
+    Origin::File
+}
+
+/// Tells why Git stops in a text of this scope, among these texts.
+pub fn tell_stop(rt: &HostRuntime, sources: &[Source<'_>], scope: Scope, stop: HereError<'_>) {
+    match stop {
+        HereError::Stops(AddError::Line { file, error }) => {
+            let why: &[u8] = match error.fault {
+                FileFault::BadLine => b"",
+                FileFault::Nul => b": a NUL byte outside a comment",
+            };
+            let place = Place {
+                origin: origin_of(sources, scope, file),
+                scope,
+                file,
+                line: error.line,
+            };
+            tell_line(rt, &place, why);
+        }
+        stop => tell_here(rt, stop),
+    }
+}
 
 /// Adds a text.
 fn add<'t>(sources: &mut Vec<Source<'t>>, source: Source<'t>) -> Result<(), AllocError> {
@@ -124,7 +162,7 @@ fn open_named<'t>(
 }
 
 /// The file of this scope among those that Git reads here: the last one, unless only one before it is there.
-pub fn of_scope<'t>(
+fn of_scope<'t>(
     disk: &Disk<'t>,
     files: &[Named<'t>],
     scope: Scope,
@@ -146,51 +184,61 @@ pub fn of_scope<'t>(
 }
 
 /// Tells that there is no file of a scope here.
-pub fn tell_no_file(rt: &HostRuntime, scope: Scope) {
-    let name = scope.name().as_bytes();
+fn tell_no_file(rt: &HostRuntime, scope: Scope) {
     match scope {
         Scope::Local | Scope::Worktree => {
             let end = b" can only be used inside a git repository";
-            tell(rt, &[b"fatal: --", name, end]);
+            tell(rt, &[b"fatal: --", scope.name().as_bytes(), end]);
         }
-        Scope::Global => tell(rt, &[b"fatal: $HOME not set"]),
-        _ => {
-            let front = b"fatal: there is no file of the scope ";
-            tell(rt, &[front, name, b" here"]);
-        }
+        _ => tell(rt, &[b"fatal: $HOME not set"]),
     }
 }
 
-/// Whether one of these files is that of a work tree.
-fn has_worktree(files: &[Named<'_>]) -> bool {
-    for named in files {
-        if named.scope == Scope::Worktree {
-            return true;
-        }
+/// What Git says of a file of one work tree of several that have none of their own.
+const SHARED: &[u8] = b"\
+fatal: --worktree cannot be used with multiple working trees unless the config
+extension worktreeConfig is enabled. Please read \"CONFIGURATION FILE\"
+section in \"git help worktree\" for details";
+
+/// The scope of the file that `--worktree` names. Without files of its own a work tree has that of the repository, but
+/// if another one shares it, it has none, which is told.
+fn scope_of_worktree(
+    rt: &HostRuntime,
+    disk: &Disk<'_>,
+    repository: FoundRepository<'_>,
+) -> io::Result<Option<Scope>> {
+    if repository.has_worktree_files {
+        return Ok(Some(Scope::Worktree));
     }
-    false
+    if has_worktrees(disk, repository)? {
+        tell(rt, &[SHARED]);
+        return Ok(None);
+    }
+    Ok(Some(Scope::Local))
 }
 
-/// Adds the file of a scope. Tells that there is none outside a repository, and then returns false.
-fn open_scope<'t>(
-    rt: &'t HostRuntime,
-    request: &Request<'_>,
-    opened: &mut Opened<'t>,
-    files: &[Named<'t>],
+/// The name of the file of a scope here, or `None` if there is none, which is told.
+pub fn file_of<'t>(
+    rt: &HostRuntime,
+    disk: &Disk<'t>,
+    repository: Option<FoundRepository<'t>>,
     scope: Scope,
-) -> Result<bool, HereError<'t>> {
-    let read = match scope {
-        Scope::Worktree if !has_worktree(files) => Scope::Local,
-        scope => scope,
+) -> Result<Option<&'t [u8]>, HereError<'t>> {
+    let wanted = match (scope, repository) {
+        (Scope::System, _) => return Ok(Some(system_name(disk)?)),
+        (Scope::Worktree, Some(repository)) => scope_of_worktree(rt, disk, repository)?,
+        _ => Some(scope),
     };
-    match of_scope(&opened.disk, files, read)? {
-        Some(named) => open(rt, request, opened, read, named.name)?,
+    let Some(wanted) = wanted else {
+        return Ok(None);
+    };
+    match of_scope(disk, &names(disk, repository)?, wanted)? {
+        Some(named) => Ok(Some(named.name)),
         None => {
             tell_no_file(rt, scope);
-            return Ok(false);
+            Ok(None)
         }
     }
-    Ok(true)
 }
 
 /// Adds what Git reads here, and then the text with the settings of the command line.
@@ -212,15 +260,19 @@ fn open_all<'t>(
     Ok(add(&mut opened.sources, source)?)
 }
 
-/// The folder in which Git works, and the repository that it uses. Tells why it uses none although one is
-/// there.
+/// The folder in which Git works, and the repository that it uses. If no scope is asked for, or that of a repository,
+/// it tells why Git uses none although one is there.
 pub fn located<'t>(
     rt: &HostRuntime,
     disk: &Disk<'t>,
+    scope: Option<Scope>,
 ) -> Result<(&'t [u8], Option<FoundRepository<'t>>), HereError<'t>> {
     let location = find(disk, b"")?;
-    if let Some(refusal) = location.refusal {
-        tell_error(rt, [b"warning: ", b"", b""], refusal);
+    match location.refusal {
+        Some(refusal) if !matches!(scope, Some(Scope::System | Scope::Global)) => {
+            tell_error(rt, [b"warning: ", b"", b""], refusal);
+        }
+        _ => {}
     }
     let folder = location.folder;
     Ok((folder, location.used()?))
@@ -239,6 +291,14 @@ fn may_include(opened: &Opened<'_>, request: &Request<'_>) -> bool {
     false
 }
 
+/// The scope that entries of the file of a scope have. In Git a work tree is not told from the repository here.
+fn shown_scope(scope: Scope) -> Scope {
+    match scope {
+        Scope::Worktree => Scope::Local,
+        scope => scope,
+    }
+}
+
 /// The texts that Git reads here, or the one of a scope, or `None` if there is none, which is told.
 fn open_here<'t>(
     rt: &'t HostRuntime,
@@ -248,17 +308,18 @@ fn open_here<'t>(
     commands: &[u8],
 ) -> Result<Option<Opened<'t>>, HereError<'t>> {
     let disk = Disk::new(rt, texts);
-    let (folder, repository) = located(rt, &disk)?;
-    let files = names(&disk, repository)?;
+    let (folder, repository) = located(rt, &disk, scope)?;
     let mut opened = closed(rt, disk.within(folder)?, request)?;
     opened.surroundings.set_repository(&disk, repository)?;
     match scope {
-        Some(scope) => {
-            if !open_scope(rt, request, &mut opened, &files, scope)? {
-                return Ok(None);
-            }
+        Some(scope) => match file_of(rt, &opened.disk, repository, scope)? {
+            Some(name) => open(rt, request, &mut opened, shown_scope(scope), name)?,
+            None => return Ok(None),
+        },
+        None => {
+            let files = names(&disk, repository)?;
+            open_all(&mut opened, &files, commands)?;
         }
-        None => open_all(&mut opened, &files, commands)?,
     }
     if may_include(&opened, request) {
         seek(&mut opened)?;
@@ -282,20 +343,6 @@ pub fn open_texts<'t>(
     match request.texts {
         Texts::Named(file) => open_named(rt, texts, request, file),
         Texts::OfScope(scope) => open_here(rt, texts, request, Some(scope), commands),
-        Texts::Here => match named_by_variable(rt)? {
-            Some(file) => open_named(rt, texts, request, &file),
-            None => open_here(rt, texts, request, None, commands),
-        },
-    }
-}
-
-/// The file that GIT_CONFIG names, for which `git config` alone looks.
-pub fn named_by_variable(rt: &HostRuntime) -> Result<Option<String>, HostError> {
-    match variable(rt, "GIT_CONFIG")? {
-        Some(name) => match String::from_utf8(name) {
-            Ok(name) => Ok(Some(name)),
-            Err(_) => Err(HostError::Variable("GIT_CONFIG")),
-        },
-        None => Ok(None),
+        Texts::Here => open_here(rt, texts, request, None, commands),
     }
 }

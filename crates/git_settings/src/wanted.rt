@@ -1,8 +1,10 @@
 //! The entries that are asked for: of a key, or of a pattern of keys, and with a value that fits.
 
 use crate::output::{Ending, tell};
+use crate::posix::translated;
 use crate::request::{Chosen, Subject};
-use config_file::{Entry, Key, KeyError};
+use config_answers::choice::Choice;
+use config_file::{Entry, Key, KeyError, Scope, Setting};
 use regex::bytes::{Matcher, Regex};
 use regex::{Error, RegexBuilder};
 use std::alloc::{AllocError, Global};
@@ -75,7 +77,12 @@ impl Unclear {
 
 /// The pattern of this text, in which a point stands for a line end too, or this reason why there is none.
 fn pattern_of(alloc: Global, text: &str, unclear: Unclear) -> Result<Regex, Unclear> {
-    let built = RegexBuilder::new(text)
+    let text = match translated(alloc, text) {
+        Ok(Some(text)) => text,
+        Ok(None) => return Err(unclear),
+        Err(_) => return Err(Unclear::Memory),
+    };
+    let built = RegexBuilder::new(&text)
         .dot_matches_new_line(true)
         .build_bytes(alloc);
     match built {
@@ -133,16 +140,10 @@ impl Patterns {
 /// Which entries are asked for.
 #[derive(Drop)]
 pub struct Wanted<'k, 'p> {
-    subject: Subject<'k>,
-    /// The key, if it is one that is asked about.
-    key: Option<Key<'k>>,
-    /// The pattern of the keys, if they have to match one.
-    pattern: Option<Matcher<'p>>,
-    values: Option<Matcher<'p>>,
-    is_negated: bool,
-    /// The value that an entry has to have, byte for byte.
-    fixed: Option<&'k [u8]>,
-    /// The key of the last entry, as it is listed.
+    /// What they are about, if it is no key and no pattern of keys.
+    about: Option<Subject<'k>>,
+    choice: Choice<'k, 'p>,
+    /// The key of the last entry that may be asked about, as it is listed.
     listed: Vec<u8>,
 }
 
@@ -207,20 +208,24 @@ impl<'k, 'p> Wanted<'k, 'p> {
             Some(value) if chosen.is_fixed => Some(value.as_bytes()),
             _ => None,
         };
-        let key = match chosen.subject {
+        let (key, about) = match chosen.subject {
             Subject::Key(key) => match Key::parse(key.as_bytes()) {
-                Ok(key) => Some(key),
+                Ok(key) => (Some(key), None),
                 Err(error) => return Err(Unclear::Key(error)),
             },
-            _ => None,
+            Subject::Entries | Subject::Pattern(_) => (None, None),
+            subject => (None, Some(subject)),
         };
         Ok(Wanted {
-            subject: chosen.subject,
-            key,
-            pattern: search(alloc, &patterns.key)?,
-            values: search(alloc, &patterns.value)?,
-            is_negated: patterns.is_negated,
-            fixed,
+            about,
+            choice: Choice {
+                key,
+                keys: search(alloc, &patterns.key)?,
+                fixed,
+                values: search(alloc, &patterns.value)?,
+                is_negated: patterns.is_negated,
+                listed: Vec::new(alloc),
+            },
             listed: Vec::new(alloc),
         })
     }
@@ -228,38 +233,39 @@ impl<'k, 'p> Wanted<'k, 'p> {
     /// Whether an entry has a wanted key.
     #[inline]
     pub fn has_key(&mut self, entry: &Entry<'_>) -> Result<bool, AllocError> {
-        match (&self.key, self.subject) {
-            (_, Subject::Entries) => Ok(true),
-            (Some(key), _) => Ok(key.is_of(entry)),
-            _ => self.has_listed_key(entry),
+        match self.about {
+            Some(subject) => {
+                self.listed.clear();
+                entry.push_key(&mut self.listed)?;
+                Ok(is_about(subject, &self.listed))
+            }
+            None => self.choice.has_key(entry),
         }
     }
 
-    /// Whether an entry has a key that is asked about as it is listed.
-    fn has_listed_key(&mut self, entry: &Entry<'_>) -> Result<bool, AllocError> {
-        self.listed.clear();
-        entry.push_key(&mut self.listed)?;
-        if let Some(pattern) = &mut self.pattern {
-            return Ok(pattern.is_match(&self.listed));
-        }
-        Ok(is_about(self.subject, &self.listed))
+    /// Whether an entry with this value is wanted.
+    pub fn has_value(&mut self, value: &[u8]) -> bool {
+        self.choice.has_value(value)
     }
 
-    /// Whether an entry with this value is wanted. That of a key alone is the empty text.
+    /// The setting of an entry, if it is wanted.
     #[inline]
-    pub fn has_value(&mut self, value: Option<&[u8]>) -> bool {
-        let value = value.unwrap_or(b"");
-        if let Some(fixed) = self.fixed {
-            return value == fixed;
+    pub fn take<'t>(
+        &mut self,
+        alloc: Global,
+        scope: Scope,
+        file: &'t [u8],
+        entry: &Entry<'t>,
+    ) -> Result<Option<Setting<'t>>, AllocError> {
+        if self.about.is_some() && !self.has_key(entry)? {
+            return Ok(None);
         }
-        match &mut self.values {
-            Some(values) => values.is_match(value) != self.is_negated,
-            None => true,
-        }
+        self.choice.take(alloc, scope, file, entry)
     }
 
-    /// Whether a change is also of an entry that is a key alone: to such a one Git applies no pattern.
+    /// Whether a change is also of an entry that is a key alone: as in Git, it meets each fixed value, and no
+    /// pattern.
     pub fn fits_alone(&self) -> bool {
-        self.fixed.is_none() && (self.values.is_none() || self.is_negated)
+        self.choice.values.is_none() || self.choice.is_negated
     }
 }

@@ -7,7 +7,8 @@ They are in rows.tsv, a row a line, whose fields are between tabs and have Pytho
   the arguments, as a shell splits them; the exit status; the standard output, or * for any; what standard error has to
   say, in pieces between bars; and what is in the folder in which the program runs:
 
-    NAME=TEXT      a file                        NAME>TEXT     a file after the run
+    NAME=TEXT      a file; of the name `-` standard input
+    NAME>TEXT      a file after the run
     $NAME=TEXT     a variable                    @folder NAME  a folder
     @link NAME TO  a link                        @git NAME REF  a git directory whose HEAD has this text
     @in NAME       the program runs there        @NAME          all that the line `= NAME` of rows.tsv has
@@ -53,7 +54,7 @@ class Place:
 
     def __init__(self, folder):
         self.folder = os.fsencode(os.path.realpath(folder))
-        self.inside, self.after = self.folder, {}
+        self.inside, self.after, self.input = self.folder, {}, b""
         self.known = {b"PATH": os.environb[b"PATH"], b"LC_ALL": b"C", b"GIT_CONFIG_NOSYSTEM": b"1",
                       b"GIT_CEILING_DIRECTORIES": os.path.dirname(self.folder)}
 
@@ -92,6 +93,8 @@ class Place:
         elif b">" in name:
             name, _, text = thing.partition(b">")
             self.after[name] = text
+        elif name == b"-":
+            self.input = text
         else:
             self.write(name, text)
 
@@ -107,7 +110,7 @@ def faults(program, row):
         for thing in things:
             place.make(thing)
         asked = shlex.split(os.fsdecode(place.bytes(words.lstrip("! "))))
-        run = subprocess.run([*program, *asked], cwd=place.inside, env=place.known, stdin=subprocess.DEVNULL,
+        run = subprocess.run([*program, *asked], cwd=place.inside, env=place.known, input=place.input,
                              capture_output=True, timeout=LONGEST_RUN, check=False)
         pairs = [("status", status, run.returncode), ("locks", [], place.locks())]
         pairs += [("output", place.bytes(output), run.stdout)] if output != "*" else []

@@ -17,6 +17,7 @@ import shutil
 import subprocess
 import sys
 import tempfile
+import time
 
 LONGEST_RUN = 60
 NOT_UTF8, NO_FOLDER = b"n\xff", b"d\xff"
@@ -120,6 +121,13 @@ def endless(tests):
                  b"fatal: unable to read config file 'long': it is longer than 1 GiB")
     shell = ["sh", "-c", 'printf "#\\0\\n[a]b=2" | "$0" --file /dev/stdin a.b', tests.program]
     tests.expect("a pipe with a NUL in a comment", b"2\n", tests.run(*shell).stdout)
+    pipe = subprocess.PIPE
+    with subprocess.Popen([tests.program, "list", "--file", "-"], stdin=pipe, stdout=pipe, stderr=pipe) as run:
+        run.stdin.write(b"[a]\n\tb = 1\\\n2\n[c\n")
+        run.stdin.flush()
+        said = run.wait(LONGEST_RUN), run.stdout.read(), run.stderr.read()
+        wanted = 128, b"a.b=12\n", b"fatal: bad config line 4 in standard input\n"
+        tests.expect("a pipe that stays open", wanted, said)
 
 
 def names(tests):
@@ -369,7 +377,7 @@ def changes(tests):
         tests.expect(words, (status, told), (run.returncode, run.stderr))
         file = pathlib.Path(os.fsdecode(tests.path(name)))
         tests.expect(f"{words}, afterwards", after, file.read_bytes() if file.exists() else None)
-        tests.expect(f"{words}, its lock", name == b"held", os.path.exists(tests.path(name + b".lock")))
+        tests.expect(f"{words}, its lock", False, os.path.exists(tests.path(name + b".lock")))
 
     for line in CHANGES.read_text("utf-8").splitlines():
         if not line.startswith("#"):
@@ -398,9 +406,14 @@ def changes(tests):
         change(words, status, b"[a]\n\tk = v\n", told + b"\n")
     change(["unset", "--value=zz", "-f", "edit", "a.k"], 5, b"[a]\n\tk = v\n")
     tests.write(b"held", b"[a]\n\tk = v\n")
-    tests.write(b"held.lock", b"")
-    told = b"error: could not lock config file held: held.lock: the lock is held\n"
-    change(["set", "-f", "held", "a.k", "w"], 255, b"[a]\n\tk = v\n", told, name=b"held")
+    os.utime(tests.path(tests.write(b"held.lock", b"")), (0, time.time() - 3600))
+    run = tests.run(tests.program, "set", "-f", "held", "a.k", "w")
+    told = re.fullmatch(rb"error: could not lock config file held: held.lock: the lock is held, and (\d+) seconds old: "
+                        rb"remove it if no program is changing the file\n", run.stderr)
+    tests.expect("a lock that is held", (255, True), (run.returncode, told and 0 <= int(told[1]) - 3600 < LONGEST_RUN))
+    held = pathlib.Path(os.fsdecode(tests.path(b"held")))
+    tests.expect("a file whose lock is held", b"[a]\n\tk = v\n", held.read_bytes())
+    tests.expect("a lock that stays", True, os.path.exists(tests.path(b"held.lock")))
     tests.write(b"kept/real", b"[a]\n\tk = v # c\n")
     os.chmod(tests.path(b"kept/real"), 0o640)
     os.symlink(b"kept/real", tests.path(b"link"))
@@ -428,6 +441,17 @@ def changes(tests):
     change(["set", "a.k", "v"], 0, b"[core]\n\trepositoryformatversion = 0\n[a]\n\tk = v\n", name=config, folder=b"changed")
     more = {b"HOME": tests.path(b"changed")}
     change(["set", "--global", "a.k", "v"], 0, b"[a]\n\tk = v\n", name=b"changed/.gitconfig", folder=b"changed", more=more)
+    more[b"GIT_TEST_ASSUME_DIFFERENT_OWNER"] = b"1"
+    change(["set", "--global", "a.k", "w"], 0, b"[a]\n\tk = w\n", name=b"changed/.gitconfig", folder=b"changed", more=more)
+
+
+def unread(tests):
+    """An output that nobody reads to its end ends the run without a word, as a signal ends Git."""
+    file = tests.path(tests.write(b"unread", b"[a]\n" + b"\tk = of a list that no pipe holds\n" * 20000))
+    for program in ([tests.program], [tests.git, "config"]):
+        shell = ["bash", "-c", '"$@" --list --file "$0" | head -n 1; echo "${PIPESTATUS[0]}"', file, *program]
+        run = tests.run(*shell)
+        tests.expect(f"{program} | head", (b"a.k=of a list that no pipe holds\n141\n", b""), (run.stdout, run.stderr))
 
 
 def together(tests):
@@ -467,8 +491,8 @@ def main():
     arguments = arguments.parse_args()
     with tempfile.TemporaryDirectory() as folder:
         tests = Tests(arguments.program, arguments.git, os.path.realpath(folder))
-        for part in (words, flags, types, endless, names, folders, shown, statuses, repositories, here, changes, together,
-                     killed, memory):
+        for part in (words, flags, types, endless, names, folders, shown, statuses, repositories, here, changes, unread,
+                     together, killed, memory):
             part(tests)
     print(f"{tests.passed} passed, {tests.failed} failed")
     return 1 if tests.failed else 0

@@ -4,3 +4,4 @@ pub mod StepLemmas
 pub mod RunLemmas
 pub mod OnLiterals
 pub mod OneAnswer
+mod StandardFacts

@@ -78,7 +78,8 @@ typedef GCV_ENUM(gcv_status) {
     /* a key has no section, ends with a dot, has a byte that is not allowed there, or has a line feed */
     GCV_NO_SECTION = 29, GCV_NO_KEY_NAME = 30, GCV_BAD_KEY = 31, GCV_KEY_LINE_FEED = 32,
     /* the value has a NUL, which no file can hold; no header can have the section; several entries have the key */
-    GCV_BAD_VALUE = 33, GCV_BAD_SECTION = 34, GCV_SEVERAL = 35
+    GCV_BAD_VALUE = 33, GCV_BAD_SECTION = 34, GCV_SEVERAL = 35,
+    GCV_FORBIDDEN_URL = 36  /* the URL of a remote is in a file that is included on a condition */
 } gcv_status;
 
 /* The kinds of values: k, m and g; a number with at most one suffix; the product of both; a truth value; the name of a
@@ -298,15 +299,16 @@ GCV_NONNULL((1)) void gcv_free_settings(gcv_settings *settings);
 /* A walk over files, one entry at a time: what gcv_read_files does, but nothing is kept. gcv_enter begins it, and
  * gcv_next returns one entry after the other, in Git's order. If an entry includes a file, open it and call gcv_enter:
  * its entries come next. If there is no such file, just go on, as Git does. Git stops at an entry whose `include` is
- * GCV_NO_VALUE or GCV_NO_DIRECTORY, at GCV_BAD_LINE, GCV_NUL and GCV_TOO_DEEP, and at a file that it cannot read. A
- * caller may go on all the same.
+ * GCV_NO_VALUE, GCV_NO_DIRECTORY or GCV_FORBIDDEN_URL, at GCV_BAD_LINE, GCV_NUL and GCV_TOO_DEEP, and at a file that it
+ * cannot read. A caller may go on all the same.
  *
  * `count` is how many files a walk is in. Start with 0: the frames, which are for the library alone, are read only
  * after gcv_enter has written them. A copy of a walk goes on from the same place. */
 typedef struct gcv_frame {
     const char *name; size_t name_length; const char *real_dir; size_t real_dir_length;
     const char *section; size_t section_length; const char *subsection; size_t subsection_length;
-    const char *rest; size_t rest_length; size_t line; uint32_t parts;
+    const char *rest; size_t rest_length; size_t line;
+    uint32_t parts; uint32_t forbids_urls;
 } gcv_frame;
 typedef struct gcv_walk { size_t count; gcv_frame frames[GCV_MOST_FRAMES]; } gcv_walk;
 

@@ -8,6 +8,7 @@ use Rattle.config_file.specs.declared.section.Section.{Section}
 use Rattle.config_file.specs.declared.section.Subsection.{Subsection}
 use Rattle.config_file.specs.declared.walk.Frame.{Frame}
 use Rattle.gix_config_value_c.specs.declared.walk.GcvFrame.{GcvFrame}
+use Rattle.gix_config_value_c.specs.Numbers.{flag_number}
 use Rattle.gix_config_value_c.specs.Walks.{HoldsFrame, HoldsSection}
 use Rattle.gix_config_value_c.specs.Walks.HoldsSection.{plain, within}
 
@@ -65,14 +66,16 @@ within_of frame s sub section is has name raw parts =
 -- the frame holds one of a walk, whose lines can be counted
 pub holds_frame : {frame : GcvFrame} {held : Frame} → HoldsSection frame held.entries.section
     → frame.line ≡ held.entries.line → frame.rest ≡ held.entries.rest → held.place.name ≡ frame.name
-    → held.place.real_dir ≡ frame.real_dir → HoldsFrame frame held
-holds_frame {held = held} section line rest name dir = record {
+    → held.place.real_dir ≡ frame.real_dir → frame.forbids_urls ≡ flag_number held.forbids_urls
+    → HoldsFrame frame held
+holds_frame {held = held} section line rest name dir forbids = record {
   name = name;
   real_dir = dir;
   section = section;
   line = sym line;
   rest = sym rest;
   fits = rw (line, rest) held.entries.line_fits;
+  forbids = forbids;
 }
 
 -- the texts of a step are at the front of the buffer

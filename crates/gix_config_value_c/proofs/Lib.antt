@@ -13,3 +13,4 @@ pub mod OnePart
 pub mod OnePath
 pub mod OneText
 pub mod StructsApart
+mod StandardFacts

@@ -20,6 +20,7 @@ use Rattle.config_file.specs.declared.section.Section.{Section}
 use Rattle.config_file.specs.declared.walk.Frame.{Frame}
 use Rattle.config_file.specs.declared.walk.Include.{Include}
 use Rattle.config_file.specs.declared.walk.Include.TheVariants.{NotFollowed, MissingValue, UnknownDirectory, Named}
+use Rattle.config_file.specs.declared.walk.Include.TheVariants as what
 use Rattle.config_file.specs.declared.walk.Known.{Known}
 use Rattle.config_file.specs.declared.walk.FilePlace.{FilePlace}
 use Rattle.config_file.specs.declared.walk.Step.{Step}
@@ -33,7 +34,7 @@ use Rattle.gix_config_value_c.specs.declared.walk.GcvKnown.{GcvKnown}
 use Rattle.gix_config_value_c.specs.declared.walk.GcvStep.{GcvStep}
 use Rattle.gix_config_value_c.specs.declared.walk.Texts.{Texts}
 use Rattle.gix_config_value_c.specs.Files.{ended, setting_bytes, value_of, IsSettingOf, fault_status}
-use Rattle.gix_config_value_c.specs.Numbers.{status_number, role_number}
+use Rattle.gix_config_value_c.specs.Numbers.{status_number, role_number, flag_number}
 use Rattle.gix_config_value_c.specs.Paths.{IsGiven, HasBadFlag}
 use Rattle.gix_config_value_c.specs.Roles.{HasRole}
 
@@ -54,6 +55,7 @@ pub record HoldsFrame (frame : GcvFrame) (held : Frame) : Type 0 where
   pub line : held.entries.line ≡ frame.line
   pub rest : held.entries.rest ≡ frame.rest
   pub fits : frame.line + length frame.rest.now < 2 ^ 63 + 2
+  pub forbids : frame.forbids_urls ≡ flag_number held.forbids_urls
 
 -- a frame is written behind the others, which holds the whole text of the file with this name, in this
 -- directory; or there are eleven frames already
@@ -111,6 +113,7 @@ abbrev pub include_status : Include → Status
 include_status NotFollowed = statuses.NoInclude
 include_status MissingValue = statuses.NoValue
 include_status UnknownDirectory = statuses.NoDirectory
+include_status what.ForbiddenUrl = statuses.ForbiddenUrl
 include_status (Named name) = statuses.Ok
 
 -- the texts of an entry: those of its setting, and the name of the file that it includes; and its role

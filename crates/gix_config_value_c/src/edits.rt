@@ -1,8 +1,8 @@
 //! Edits of the text of a configuration file.
 ghost use Rattle.std.specs.Prelude.{◌≡◌, None, Some, MatchResult};
-ghost use Rattle.config_edit.specs.Edit.{AddsOne, HasNone, HasSeveral, Never, RefusesEdit, RefusesRemoval};
-ghost use Rattle.config_edit.specs.Edit.{RefusesRenaming, RemovesSection, RenamesSection, ReplacesAll, Sets};
-ghost use Rattle.config_edit.specs.Edit.{Unsets, UnsetsAll};
+ghost use Rattle.config_edit.specs.Edit.{AddsOne, HasNone, HasSeveral, Never, RefusesEdit, ReplacesAll, Sets};
+ghost use Rattle.config_edit.specs.Sections.{RefusesRemoval, RefusesRenaming, RemovesSection, RenamesSection};
+ghost use Rattle.config_edit.specs.Unset.{Unsets, UnsetsAll};
 ghost use Rattle.gix_config_value_c.specs.Buffers.{PutsText};
 ghost use Rattle.gix_config_value_c.specs.Edits.{EditsInto, told_line, edit_status as status_of};
 ghost use Rattle.gix_config_value_c.specs.Numbers.{status_number};

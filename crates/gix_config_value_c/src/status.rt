@@ -73,4 +73,6 @@ pub enum Status {
     BadSection = 34,
     /// Several entries have the key.
     Several = 35,
+    /// The entry is the URL of a remote, in a file that is included on a condition, where Git allows none.
+    ForbiddenUrl = 36,
 }

@@ -14,7 +14,7 @@ ghost use Rattle.gix_config_value_c.specs.Walks.{step_struct, line_struct};
 ghost use Rattle.gix_config_value_c.specs.Values.{IsNoValue};
 
 use crate::files::{Setting, fault_status, push_text, push_value};
-use crate::numbers::{flag_of, role_number};
+use crate::numbers::{flag_number, flag_of, role_number};
 use crate::paths::given;
 use crate::roles::{Role, role_of};
 use crate::status::Status;
@@ -47,6 +47,8 @@ pub struct GcvFrame<'t> {
     pub line: usize,
     /// 0 if no section has begun, 1 if the section has no subsection, and 2 if it has one.
     pub parts: u32,
+    /// 1 if Git allows no URL of a remote in the file that the last entry includes, and otherwise 0.
+    pub forbids_urls: u32,
 }
 
 /// What a walk knows. A directory counts if its flag is 1, and is not known if it is 0.
@@ -149,7 +151,12 @@ fn frame_of<'t>(frame: &GcvFrame<'t>) -> Option<Frame<'t>>
         name: frame.name,
         real_dir: frame.real_dir,
     };
-    Some(Frame { place, entries })
+    let forbids_urls = flag_of(frame.forbids_urls)?;
+    Some(Frame {
+        place,
+        entries,
+        forbids_urls,
+    })
 }
 
 /// Returns the frame that holds this one of a walk.
@@ -166,6 +173,7 @@ fn held<'t>(frame: &Frame<'t>) -> GcvFrame<'t>
         rest,
         line,
         parts: 0,
+        forbids_urls: flag_number(frame.forbids_urls),
     };
     let Some(section) = section else {
         return bare;
@@ -279,7 +287,7 @@ fn push_included(bytes: &mut Vec<u8>, include: &Include) -> Result<(), AllocErro
 {
     match include {
         Include::Named(name) => push_text(bytes, name),
-        Include::NotFollowed | Include::MissingValue | Include::UnknownDirectory => Ok(()),
+        _ => Ok(()),
     }
 }
 
@@ -314,6 +322,7 @@ fn include_status(include: &Include) -> u32
         Include::NotFollowed => Status::NoInclude as u32,
         Include::MissingValue => Status::NoValue as u32,
         Include::UnknownDirectory => Status::NoDirectory as u32,
+        Include::ForbiddenUrl => Status::ForbiddenUrl as u32,
         Include::Named(_) => Status::Ok as u32,
     }
 }
@@ -374,7 +383,11 @@ pub extern "C" fn gcv_raw_enter<'t>(
     }
     let place = FilePlace { name, real_dir };
     let entries = Entries::new(text);
-    *frame = held(&Frame { place, entries });
+    *frame = held(&Frame {
+        place,
+        entries,
+        forbids_urls: false,
+    });
     *count += 1;
     Status::Ok as u32
 }

@@ -375,10 +375,10 @@ static void status_texts(void)
 {
     const char *unknown = gcv_status_text((gcv_status)11);
     count(strcmp(unknown, "unknown status") == 0 && gcv_status_text((gcv_status)UINT32_MAX) == unknown, unknown);
-    for (uint32_t status = GCV_OK; status <= GCV_SEVERAL; status++) {
+    for (uint32_t status = GCV_OK; status <= GCV_FORBIDDEN_URL; status++) {
         const char *text = gcv_status_text((gcv_status)status);
         int differs = strlen(text) > 0;
-        for (uint32_t other = status + 1; other <= GCV_SEVERAL + 1; other++) {
+        for (uint32_t other = status + 1; other <= GCV_FORBIDDEN_URL + 1; other++) {
             differs = differs && (status == 11 || other == 11 || strcmp(text, gcv_status_text((gcv_status)other)) != 0);
         }
         count(differs, text);
@@ -721,12 +721,12 @@ typedef struct walked {
     gcv_walk *after;
 } walked;
 
-/* Whether both walks are at the same place. A frame has padding after `parts`. */
+/* Whether both walks are at the same place. */
 static int is_same(const gcv_walk *first, const gcv_walk *second)
 {
     HOLDS(first->count == second->count);
     for (size_t at = 0; at < first->count && at < GCV_MOST_FRAMES; at++) {
-        HOLDS(memcmp(&first->frames[at], &second->frames[at], offsetof(gcv_frame, parts) + sizeof(uint32_t)) == 0);
+        HOLDS(memcmp(&first->frames[at], &second->frames[at], sizeof(gcv_frame)) == 0);
     }
     return 1;
 }

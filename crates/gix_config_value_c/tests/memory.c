@@ -224,7 +224,7 @@ int main(void)
     ASKS(read_and_show, "red bold", 0);
     ASKS(normalize, "16k", 0);
     ASKS(list_key, "a.B.c", 0);
-    ASKS(read_files, "a.b", 34);
+    ASKS(read_files, "a.b", 36);
     int made = mkstemp(file_name);
     count(made >= 0 && write(made, "[a]\n", 4) == 4, "a file");
     ASKS(open_file, "[a]\n", 1);
@@ -241,6 +241,6 @@ int main(void)
     ASKS(unset_all, "[a]\n\tc = 2\n", 3);
     ASKS(rename_section, "[c \"D\"]\n\tb = 1\n", 7);
     ASKS(remove_section, "[c]\n\td\n", 3);
-    ASKS(next, "includeif.onbranch:ma*.path\0~/x\t\0/home/u/x\t\0", 10);
+    ASKS(next, "includeif.onbranch:ma*.path\0~/x\t\0/home/u/x\t\0", 11);
     return finish();
 }

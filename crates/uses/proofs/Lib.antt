@@ -1,2 +1,3 @@
 mod HeadlineLemmas
+mod OneAnswer
 mod SettingLemmas

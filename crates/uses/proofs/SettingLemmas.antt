@@ -61,17 +61,18 @@ items_append [] more read rest = rest
 items_append ((file, Found entry) ∷ items) more read rest = (read.0, items_append items more read.1 rest)
 items_append ((file, Stops stop) ∷ items) more read rest = items_append items more read rest
 
-items_of_walk : {contents : List ℕ → Content → Type 0} {known : Known} {depth : ℕ} {place : FilePlace}
-    {entries : List Entry} {error : Option FileError} {items : List (List ℕ × Item)} {flag : Bool}
-    → EachIsRead → Walks contents known depth place entries error items flag → AllByRecursion IsRead entries
+items_of_walk : {contents : List ℕ → Content → Type 0} {known : Known} {depth : ℕ} {here : Bool}
+    {place : FilePlace} {entries : List Entry} {error : Option FileError} {items : List (List ℕ × Item)} {flag : Bool}
+    → EachIsRead → Walks contents known depth here place entries error items flag → AllByRecursion IsRead entries
     → AreItemsRead items
-items_of_walk each (walk.plain is rest) read = (read.0, items_of_walk each rest read.1)
+items_of_walk each (walk.plain is free rest) read = (read.0, items_of_walk each rest read.1)
+items_of_walk each (walk.forbidden_url is forbidden rest) read = (read.0, items_of_walk each rest read.1)
 items_of_walk each (walk.missing name is none rest) read = (read.0, items_of_walk each rest read.1)
-items_of_walk each (walk.included {items = items} less at text inner end within is has file deep inside rest) read = (
+items_of_walk each (walk.included {items = items} less at text forbids inner end within is has says file deep inside rest) read = (
   read.0,
   items_append within items (items_of_walk each inside (each text inner end file)) (items_of_walk each rest read.1),
 )
-items_of_walk each (walk.cut_within less at text inner end within is has file deep inside) read =
+items_of_walk each (walk.cut_within less at text forbids inner end within is has says file deep inside) read =
     (read.0, items_of_walk each inside (each text inner end file))
 items_of_walk each (walk.no_value is rest) read = (read.0, items_of_walk each rest read.1)
 items_of_walk each (walk.unknown is rest) read = (read.0, items_of_walk each rest read.1)
@@ -270,18 +271,3 @@ decided contents known first key all setting text each (found, walks, (added, is
       at.is_setting.file,
       ap (λ entry. entry.line) at.is_setting.entry,
     )
-
--- ---- files without their includes
-
-of_file_are_read : (file : List ℕ) (entries : List Entry) → AllByRecursion IsRead entries
-    → AreFoundRead (map (λ entry. (file, entry)) entries)
-of_file_are_read file [] read = tt
-of_file_are_read file (entry ∷ entries) read = (read.0, of_file_are_read file entries read.1)
-
-pub listed_more : (file text : List ℕ) (old new : List Setting)
-    → EachIsRead → AreListed old → AddsFile file text old new (Ok tt) → AreListed new
-listed_more file text old new each listed (entries, is_file, (added, is, zip)) =
-    rw is (All-append (λ setting. (key : List ℕ) × IsListed (entry_of setting.entry).section (entry_of setting.entry).key key)
-    old added listed
-    (are_listed (map (λ entry. (file, entry)) entries) added
-    (of_file_are_read file entries (each text entries None is_file)) zip))

@@ -5,7 +5,7 @@ use Rattle.config_text.specs.Value.{IsRefused}
 use Rattle.config_text.specs.declared.errors.Fault.{Fault}
 use Rattle.config_file.specs.File.{Entry}
 use Rattle.config_file.specs.Key.{Key, HasKey, IsKey, RefusesKey}
-use Rattle.config_file.specs.Settings.{TellsStop, found_item}
+use Rattle.config_file.specs.Settings.{IsSameEnd, TellsStop, found_item}
 use Rattle.config_file.specs.Value.{Ending, SpellsValue}
 use Rattle.config_file.specs.Walk.{Content, Stop, Stops, WalksText}
 use Rattle.config_file.specs.declared.settings.AddError.{AddError}
@@ -82,3 +82,18 @@ abbrev pub SettingHeadline : {V : Type 0} → (List ℕ → Content → Type 0) 
 SettingHeadline contents known first text grammar refusal (Err (no_value.Key error)) = RefusesKey text error
 SettingHeadline contents known first text grammar refusal result =
     (key : Key) × IsKey text key × Gives contents known first key grammar refusal result
+
+-- memory is not refused
+abbrev pub HasMemory : {V : Type 0} → Result (Option V) NoValue → Type 0
+HasMemory (Err (no_value.Stops (Memory _))) = ⊥
+HasMemory result = ⊤
+
+-- two results with the same value, or with none; the same refusal of the key, or of the text of one entry; or two
+-- that tell the same stop in the same file
+abbrev pub IsSameFound : {V : Type 0} → Result (Option V) NoValue → Result (Option V) NoValue → Type 0
+IsSameFound (Ok a) (Ok b) = a ≡ b
+IsSameFound (Err (no_value.Key a)) (Err (no_value.Key b)) = a ≡ b
+IsSameFound (Err (no_value.Refused file line text fault)) (Err (no_value.Refused f l t e)) =
+    (file.now ≡ f.now) × (line ≡ l) × (text.items ≡ t.items) × (fault ≡ e)
+IsSameFound (Err (no_value.Stops a)) (Err (no_value.Stops b)) = IsSameEnd (Err a) (Err b)
+IsSameFound _ _ = ⊥

@@ -4,7 +4,7 @@ ghost use Rattle.config_boolean.specs.declared.boolean.Boolean as value;
 ghost use Rattle.config_file.specs.Settings.{AreListed};
 ghost use Rattle.uses.specs.Repository.{or_false, GetsBare};
 
-use config_file::laws::each_is_listed;
+use config_file::laws::settings::added_are_listed;
 use config_file::settings::GetError;
 use config_file::{AddError, Settings};
 use gix_config_value::Boolean;
@@ -65,7 +65,7 @@ pub struct File<'a> {
 pub fn read<'a>(alloc: Global, files: &[File<'a>]) -> Result<Settings<'a>, AddError<'a>>
     ensures { IfOk result (λ settings. AreListed settings.entries.items) }
 {
-    each_is_listed();
+    added_are_listed();
     let mut settings = Settings::new(alloc);
     for file in files {
         settings.add_file(alloc, file.name.as_bytes(), file.bytes)?;

@@ -1,5 +1,5 @@
 //! Laws about colors and about the words of their texts.
-ghost use Rattle.std.specs.Prelude.{◌≡◌, ◌↔◌, ◌⊎◌, ◌++◌, ℕ, List, Option, None};
+ghost use Rattle.std.specs.Prelude.{◌≡◌, ◌↔◌, ◌⊎◌, ◌++◌, ℕ, List, length, Option, None};
 ghost use Rattle.config_color.specs.declared.color.Color.{Color};
 ghost use Rattle.config_color.specs.Color.{ColorText, CanonicalColor, PartFits, AreKnown};
 ghost use Rattle.config_color.specs.Composition.{Composes, IsOver, Joined, HaveTooManyNames};
@@ -70,6 +70,13 @@ pub fn moved_words()
 pub fn one_sequence()
     ensures { (c d : Color) (text : List ℕ) → IsTextOf ColorText CanonicalColor c text
         → IsTextOf ColorText CanonicalColor d text → escape_sequence c ≡ escape_sequence d }
+{}
+
+/// A color has an escape sequence of 69 bytes, and no color has a longer one: [`Color::escape`].
+///
+/// [`Color::escape`]: crate::color::Color::escape
+pub fn longest_sequence()
+    ensures { (c : Color) × (length (escape_sequence c) ≡ 69) }
 {}
 
 /// `over` has one result for two colors.

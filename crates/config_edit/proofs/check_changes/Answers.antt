@@ -1,10 +1,22 @@
 use Rattle.std.proofs.Common.{◌+◌, sym, take, drop}
 use Rattle.std.proofs.lemmas.List.{take-append-drop}
+use Rattle.config_edit.proofs.EditedKeys.{all_written, writable_more, take_more, take_all}
 use Rattle.config_edit.proofs.check_changes.Goals as goal
+
+pub changes-preserved : goal.changes-preserved
+changes-preserved c =
+    let changes = c.args.changes.now in
+    let index = c.changes.index in
+    rw (take_more index changes c.in-Some.change.now c.in-Some.ensures.0)
+    (writable_more (take index changes) c.in-Some.change.now c.changes.invariant c.in_default-check_change.ensures)
 
 pub returns-in-Err : goal.returns-in-Err
 returns-in-Err c =
     let changes = c.args.changes.now in
     let index = c.changes.index in
     let split = rw c.in-Some.ensures.0 at (sym (take-append-drop index changes)) in
-    (c.in-Some.change.now, (take index changes, drop (index + 1) changes, split), c.in-Err.ensures)
+    let before = all_written (take index changes) c.changes.invariant in
+    (take index changes, drop (index + 1) changes, c.in-Some.change.now, split, before, c.in-Err.ensures)
+
+pub returns : goal.returns
+returns c = rw (take_all c.changes.index c.args.changes.now c.in_default.ensures) at c.changes.invariant

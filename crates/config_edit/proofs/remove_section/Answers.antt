@@ -2,7 +2,7 @@ use Rattle.std.proofs.Common.{◌∙◌, map}
 use Rattle.config_file.specs.KeyView.{key_of}
 use Rattle.config_edit.specs.Edit.{content}
 use Rattle.config_edit.proofs.Edits.{body_ends}
-use Rattle.config_edit.proofs.EditedKeys.{section_removed, lacks, lacks_any}
+use Rattle.config_edit.proofs.SectionEdits.{section_removed, lacks, lacks_any}
 use Rattle.config_edit.proofs.remove_section.Goals as goal
 
 pub returns-in_default : goal.returns-in_default
@@ -16,14 +16,13 @@ returns-in-Some c =
     let split = c.split_mark.ensures in
     let (entries, is_file) = c.in_ok-check_file.ensures in
     let names = rw (c.as_slice.ensures.value ∙ c.in_ok-key_text.ensures) at c.in-Ok.ensures in
-    let r = rw c.in-Some.is at (c.in_ok-new.ensures (map content entries) (body_ends is_file split)) in
-    section_removed c.args.name.now entries
-    (key_of c.in-Ok.key) is_file split names r c.in_ok-marked-in-Some.ensures
+    let (parts, cuts, (found, clears)) = rw c.in-Some.is at (c.in_ok-new.ensures (map content entries) (body_ends is_file split)) in
+    section_removed c.args.name.now (key_of c.in-Ok.key) split names cuts found clears c.in_ok-marked-in-Some.ensures
 
 pub returns : goal.returns
 returns c =
+    let split = c.split_mark.ensures in
     let (entries, is_file) = c.in_ok-check_file.ensures in
     let names = rw (c.as_slice.ensures.value ∙ c.in_ok-key_text.ensures) at c.in-Ok.ensures in
-    let ends = body_ends is_file c.split_mark.ensures in
-    lacks c.args.name.now entries (key_of c.in-Ok.key) is_file names
-    (rw c.in-None.is at (c.in_ok-new.ensures (map content entries) ends))
+    let (parts, cuts, none) = rw c.in-None.is at (c.in_ok-new.ensures (map content entries) (body_ends is_file split)) in
+    lacks c.args.name.now (key_of c.in-Ok.key) split names cuts none

@@ -1,5 +1,5 @@
 use Rattle.std.proofs.Common.{sym}
-use Rattle.config_edit.specs.Reading.{marked, unmarked}
+use Rattle.config_edit.specs.Cut.{marked, unmarked}
 use Rattle.config_edit.proofs.split_mark.Goals as goal
 
 pub returns-in-Some : goal.returns-in-Some

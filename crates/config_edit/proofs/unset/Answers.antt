@@ -1,9 +1,12 @@
-use Rattle.config_edit.proofs.EditedKeys.{edit_file, made}
+use Rattle.std.proofs.Common.{None}
+use Rattle.config_edit.proofs.EditedKeys.{edit_file, refuses_file}
+use Rattle.config_edit.proofs.Removed.{taken_made}
 use Rattle.config_edit.proofs.unset.Goals as goal
 
 pub returns-in-None : goal.returns-in-None
 returns-in-None c =
-    edit_file c.in_ok-key.ensures.0 c.split_mark.ensures c.in_ok-check_file.ensures
+    let key = c.in_ok-key.ensures in
+    refuses_file None (key.0, key.2, λ lacks. lacks) c.split_mark.ensures c.in_ok-check_file.ensures
     (λ contents ends. (rw c.in-None.is at (c.in_ok-taken.ensures contents ends).counted).0)
 
 pub returns-in_ok-marked-in-One : goal.returns-in_ok-marked-in-One
@@ -12,9 +15,10 @@ returns-in_ok-marked-in-One c =
     edit_file c.in_ok-key.ensures.0 split c.in_ok-check_file.ensures
     (λ contents ends.
     let r = c.in_ok-taken.ensures contents ends in
-    made split ends r.ends (rw c.in-One.is at r.counted) r.changes c.in_ok-marked-in-One.ensures)
+    taken_made split ends r (rw c.in-One.is at r.counted) c.in_ok-marked-in-One.ensures)
 
 pub returns-in-Several : goal.returns-in-Several
 returns-in-Several c =
-    edit_file c.in_ok-key.ensures.0 c.split_mark.ensures c.in_ok-check_file.ensures
+    let key = c.in_ok-key.ensures in
+    refuses_file None (key.0, key.2, λ lacks. lacks) c.split_mark.ensures c.in_ok-check_file.ensures
     (λ contents ends. rw c.in-Several.is at (c.in_ok-taken.ensures contents ends).counted)

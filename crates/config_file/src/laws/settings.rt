@@ -1,9 +1,9 @@
 //! Laws of settings: what is added to them, and what is got from them.
-ghost use Rattle.std.specs.Prelude.{ℕ, List, Option, Result, Err};
+ghost use Rattle.std.specs.Prelude.{ℕ, List, [], Option, Result, Err};
 ghost use Rattle.std.specs.List.{AllZip};
 ghost use Rattle.config_file.specs.Walk.{HasOneContent};
 ghost use Rattle.config_file.specs.Settings.{AddsWalk, HasMemory, IsSameSetting, HasSameFront, IsSameEnd};
-ghost use Rattle.config_file.specs.Settings.{Gets, HasOneReading, IsSameAnswer};
+ghost use Rattle.config_file.specs.Settings.{AddsFile, AreListed, Gets, HasOneReading, IsSameAnswer};
 ghost use Rattle.config_file.specs.declared.settings.AddError.{AddError};
 ghost use Rattle.config_file.specs.declared.settings.AddError.TheVariants as error;
 ghost use Rattle.std.specs.declared.alloc.AllocError.{AllocError};
@@ -27,6 +27,21 @@ pub fn one_addition<'t, S: Files<'t>>()
         (e : AllocError) (s : Result (Unit {0}) AddError) → HasOneContent (S.contents files) → HasMemory s
         → AddsWalk (S.contents files) known place text old a (Err (error.Memory e))
         → AddsWalk (S.contents files) known place text old b s → HasSameFront a b }
+{}
+
+/// Git lists each setting of a file under a key, so that settings that are listed stay so as those of a file are added,
+/// all or some of them. New settings have none that is not listed.
+pub fn added_are_listed()
+    ensures none { AreListed [] }
+    ensures file { (file text : List ℕ) (old new : List Setting) (r : Result (Unit {0}) AddError)
+        → AddsFile file text old new r → AreListed old → AreListed new }
+{}
+
+/// So they do as the settings of a file are added with those of the files that it includes.
+pub fn walked_are_listed<'t, S: Files<'t>>()
+    ensures { (files : S) (known : Known) (place : FilePlace) (text : List ℕ) (old new : List Setting)
+        (r : Result (Unit {0}) AddError) → AddsWalk (S.contents files) known place text old new r
+        → AreListed old → AreListed new }
 {}
 
 /// If each text has at most one value, and is refused with at most one fault, then settings have one answer

@@ -5,18 +5,19 @@ use Rattle.config_edit.proofs.piece.entry_piece.Goals as goal
 
 pub before-requires : goal.before-requires
 before-requires c =
-    let (tail, cut, is, plain) = c.in-Some.ensures.tail in
+    let (tail, cut, is, plain, some) = c.in-Some.ensures.tail in
     let (bytes, joined, made) = entry_cut c.args.blanks.now c.requires.joined c.requires.letter c.in-Ok.ensures cut is in
     (bytes, joined)
 
 pub returns-in-Some-clause-piece : goal.returns-in-Some-clause-piece
 returns-in-Some-clause-piece c =
-    let (tail, cut, is, plain) = c.in-Some.ensures.tail in
+    let (tail, cut, is, plain, some) = c.in-Some.ensures.tail in
     let (bytes, joined, made) = entry_cut c.args.blanks.now c.requires.joined c.requires.letter c.in-Ok.ensures cut is in
     record {
       joined = c.before-in-Some.ensures;
       blank = c.requires.blank;
       made = rw (same_bytes c.in-Some.tail.rest.now joined c.before-in-Some.ensures) at made;
+      unended = tt;
     }
 
 pub returns-in-Some-clause-shorter : goal.returns-in-Some-clause-shorter

@@ -1,4 +1,4 @@
-use Rattle.std.proofs.Common.{arith, ◌∷◌}
+use Rattle.std.proofs.Common.{arith, ◌∷◌, refl}
 use Rattle.config_edit.proofs.Pieces.{header_cut, header_stops, refused, same_bytes}
 use Rattle.config_file.proofs.Bounds.{header_shortens, length_joined}
 use Rattle.config_edit.proofs.piece.header_piece.Goals as goal
@@ -14,6 +14,7 @@ returns-in-Ok-clause-piece c =
       joined = c.before-in-Ok.ensures;
       blank = c.requires.blank;
       made = rw (same_bytes c.in-Ok.rest.now joined c.before-in-Ok.ensures) at at;
+      unended = refl;
     }
 
 pub returns-in-Ok-clause-shorter : goal.returns-in-Ok-clause-shorter

@@ -1,10 +1,8 @@
 use Rattle.std.proofs.Common.{rules, ◌≡◌, ◌++◌, ◌∙◌, sym, true≢false}
 use Rattle.config_file.specs.KeyView.{key_of}
-use Rattle.config_file.specs.Spelling.{IsHeader}
 use Rattle.config_edit.specs.Reading.{IsHeaderHeld}
-use Rattle.config_file.proofs.SpelledHeaders.{header_spelled}
-use Rattle.config_edit.proofs.Edits.{renaming_begins, renaming_keeps, renaming_changes, renaming_ends}
-use Rattle.config_edit.proofs.Edits.{none_renamed}
+use Rattle.config_edit.proofs.PartsRead.{behind_all}
+use Rattle.config_edit.proofs.Renamed.{renaming_begins, renaming_keeps, renaming_changes}
 use Rattle.config_edit.proofs.sections.renamed.Goals as goal
 use Rattle.config_edit.proofs.sections.renamed.Goals.{then-is_header_of+in_ok-extend_from_slice+in_ok-extend_from_slice-2}
 use Rattle.config_edit.proofs.sections.renamed.Goals.{else-is_header_of+in_ok-extend_from_slice-3}
@@ -12,8 +10,7 @@ use Rattle.config_edit.proofs.sections.renamed.Goals.{then-is_found, else-is_fou
 
 pub pieces-init : goal.pieces-init
 pieces-init c =
-    let begins = renaming_begins (key_of c.args.from.now) (key_of c.args.to.now) c.args.text.now
-    (λ none. none) in
+    let begins = renaming_begins (key_of c.args.from.now) (key_of c.args.to.now) c.args.text.now in
     (rw c.in_ok-new.ensures.items begins, search rules)
 
 pub pieces-preserved : goal.pieces-preserved
@@ -22,30 +19,26 @@ pieces-preserved c =
     let to = key_of c.args.to.now in
     let piece = c.in-Some.piece in
     let (renaming, header_is) = c.pieces.invariant in
-    let text = c.args.text.now in
+    let is = c.in-Some.ensures.piece in
+    let shorter = c.in-Some.ensures.shorter in
     elim c.if-is_header_of.branch [
       | then-is_header_of+in_ok-extend_from_slice+in_ok-extend_from_slice-2 w ↦
-          let held = (c.is_header_of.ensures c.pieces.rest.now c.in-Some.ensures.piece).0 (search rules) in
-          let put : IsHeader c.push_header.new.spelling.items to.section to.subsection =
-          rw header_is (header_spelled to.section to.subsection c.requires) in
-          let step =
-          renaming_changes renaming piece c.push_header.new.spelling.items c.in-Some.ensures.piece c.in-Some.ensures.shorter held put header_is in
+          let held = (c.is_header_of.ensures c.pieces.rest.now is).0 (search rules) in
           let new_is : c.if-is_header_of.new.items ≡
           (c.pieces.new.items ++ piece.blanks.now) ++ c.push_header.new.spelling.items = search rules in
-          (rw (w.is_found-is, new_is) step, header_is)
+          (rw (w.is_found-is, new_is, header_is) (renaming_changes renaming piece is shorter held), header_is)
       | else-is_header_of+in_ok-extend_from_slice-3 w ↦
           let other : ¬ (IsHeaderHeld from piece.held) =
-          λ held. true≢false (sym ((c.is_header_of.ensures c.pieces.rest.now c.in-Some.ensures.piece).1 held)
-          ∙ w.if-is_header_of.false) in
-          let step = renaming_keeps renaming piece c.in-Some.ensures.piece c.in-Some.ensures.shorter other in
+          λ held. true≢false (sym ((c.is_header_of.ensures c.pieces.rest.now is).1 held) ∙ w.if-is_header_of.false) in
           let new_is : c.if-is_header_of.new.items ≡ c.pieces.new.items ++ piece.bytes.now = search rules in
-          (rw (w.is_found-is, new_is) step, header_is)
+          (rw (w.is_found-is, new_is) (renaming_keeps renaming piece is shorter other), header_is)
     ]
 
 pub returns : goal.returns
 returns c = λ contents ends.
-    let (renaming, header_is) = c.pieces.invariant in
+    let (r, header_is) = c.pieces.invariant in
+    let cuts = behind_all r.behind ends (search rules) in
     elim c.if-is_found.branch [
-      | then-is_found w ↦ rw w.result-is (renaming_ends renaming ends (search rules))
-      | else-is_found w ↦ rw w.result-is (none_renamed renaming w.if-is_found.false ends (search rules))
+      | then-is_found w ↦ rw w.result-is (r.done, cuts, (rw w.if-is_found.true at r.found, r.renames))
+      | else-is_found w ↦ rw w.result-is (r.done, cuts, rw w.if-is_found.false at r.found)
     ]

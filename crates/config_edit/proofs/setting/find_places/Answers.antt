@@ -1,13 +1,10 @@
-use Rattle.std.proofs.Common.{◌≡◌, ◌⊎◌, ◌∙◌, inl, inr, sym, false, IsTrue, ◌&&◌, true, ◌↔◌}
+use Rattle.std.proofs.Common.{◌≡◌, ◌⊎◌, ◌∙◌, inl, inr, sym, false, IsTrue, ap, ◌↔◌}
 use Rattle.config_edit.specs.declared.setting.Places.{Places}
 use Rattle.config_file.specs.KeyView.{key_of}
-use Rattle.config_file.specs.declared.section.Section as code
-use Rattle.config_edit.specs.declared.piece.Held.TheVariants as held
-use Rattle.config_edit.specs.Edit.{IsIn, NoCommentNext}
-use Rattle.std.proofs.lemmas.Bool.{and_parts}
-use Rattle.config_edit.specs.Reading.{section_after, is_item}
-use Rattle.config_edit.proofs.Added.{placing_begins, placing_here, placing_kept, placing_ends, place_within}
-use Rattle.config_edit.proofs.Added.{inside_after_header, inside_after_other, header_next}
+use Rattle.config_edit.specs.Edit.{IsIn}
+use Rattle.config_edit.specs.Reading.{section_after, holds_header, is_item}
+use Rattle.config_edit.proofs.Added.{ends_no_line, placing_begins, placing_here, placing_kept, placing_ends, place_within}
+use Rattle.config_edit.proofs.Added.{inside_after_header, inside_after_other, header_after}
 use Rattle.config_edit.proofs.setting.find_places.Goals as goal
 use Rattle.config_edit.proofs.setting.find_places.Goals.{in-Header, in_default-held}
 use Rattle.config_edit.proofs.setting.find_places.Goals.{else-is_inside-via-then-is_inside+else-is_item}
@@ -31,12 +28,16 @@ pieces-preserved-then-is_item c =
       | in_default-held w ↦ rw w.is_inside-is
           (inside_after_other key p.section c.pieces.is_inside piece.held w.in_default-held.not-Header p.inside_is)
     ] in
-    let header : (new : code.Section) → piece.held ≡ held.Header new → m.is_header ≡ true =
-    λ new e. elim c.match-piece.branch [
-      | in-Header w ↦ w.is_header-is
-      | in_default-held w ↦ absurd (w.in_default-held.not-Header new e)
+    let header : m.is_header ≡ holds_header piece.held =
+    elim c.match-piece.branch [
+      | in-Header w ↦ w.is_header-is ∙ sym (ap (λ h. holds_header h) w.in-Header.is)
+      | in_default-held w ↦ header_after piece.held m.is_header w.in_default-held.not-Header w.is_header-is
     ] in
-    placing_here p is c.in-Some.ensures.shorter c.of-end.ensures m.is_inside m.is_header inside c.if-is_inside.true header
+    placing_here p is c.in-Some.ensures.shorter c.of-end.ensures (ends_no_line piece.held is.unended) m.is_inside m.is_header inside header
+    c.if-is_inside.true (elim c.if-after_header.branch [
+      | then-after_header v ↦ inl v.if-after_header.true
+      | else-after_header v ↦ inr (sym v.is_item.ensures ∙ sym v.value-is ∙ c.if-is_item.true)
+    ])
 
 pub pieces-preserved : goal.pieces-preserved
 pieces-preserved c =
@@ -52,26 +53,21 @@ pieces-preserved c =
       | in_default-held w ↦ rw w.is_inside-is
           (inside_after_other key p.section c.pieces.is_inside piece.held w.in_default-held.not-Header p.inside_is)
     ] in
-    let (either, no_comment) : ((m.is_inside ≡ false) ⊎ (is_item piece.held ≡ false))
-    × ((c.pieces.is_inside && c.pieces.after_header) ≡ true → NoCommentNext c.pieces.rest.now) =
+    let header : m.is_header ≡ holds_header piece.held =
+    elim c.match-piece.branch [
+      | in-Header w ↦ w.is_header-is ∙ sym (ap (λ h. holds_header h) w.in-Header.is)
+      | in_default-held w ↦ header_after piece.held m.is_header w.in_default-held.not-Header w.is_header-is
+    ] in
+    let either : (m.is_inside ≡ false) ⊎ ((is_item piece.held ≡ false) × (c.pieces.after_header ≡ false)) =
     elim c.else-is_inside.branch [
       | else-is_inside-via-then-is_inside+else-is_item w ↦ elim w.if-after_header.branch [
         | then-after_header v ↦ cc
-        | else-after_header v ↦ (
-          inr (sym v.is_item.ensures ∙ sym v.value-is ∙ w.if-is_item.false),
-          λ pending. let was = and_parts c.pieces.is_inside c.pieces.after_header pending in cc,
-        )
+        | else-after_header v ↦
+            inr (sym v.is_item.ensures ∙ sym v.value-is ∙ w.if-is_item.false, v.if-after_header.false)
       ]
-      | else-is_inside-via-else-is_inside w ↦ (
-        inl w.if-is_inside.false,
-        λ pending. elim c.match-piece.branch [
-          | in-Header v ↦ header_next piece.held piece.blanks.now piece.bytes.now piece.rest.now
-              piece.is_line v.in-Header.section v.in-Header.is is.blank is.made is.joined
-          | in_default-held v ↦ let was = and_parts c.pieces.is_inside c.pieces.after_header pending in cc
-        ],
-      )
+      | else-is_inside-via-else-is_inside w ↦ inl w.if-is_inside.false
     ] in
-    placing_kept p is c.in-Some.ensures.shorter c.of-end.ensures m.is_inside m.is_header inside no_comment either
+    placing_kept p is c.in-Some.ensures.shorter c.of-end.ensures (ends_no_line piece.held is.unended) m.is_inside m.is_header inside header either
 
 pub returns-clause-places : goal.returns-clause-places
 returns-clause-places c = λ contents ends.

@@ -2,7 +2,7 @@ use Rattle.std.proofs.Common.{◌≡◌, ◌++◌, ◌∷◌, ◌∙◌, [], Lis
 use Rattle.std.proofs.Common.{inl, inr, ◌⊎◌, true≢false}
 use Rattle.std.proofs.lemmas.List.{append_cancel_right}
 use Rattle.config_edit.specs.Edit.{HasValue}
-use Rattle.config_edit.specs.Reading.{IsOpen}
+use Rattle.config_edit.specs.Reading.{IsOpenEntry}
 use Rattle.config_file.specs.Views.{value_of}
 use Rattle.config_edit.proofs.Changed.{has_of, how_spelled, not_spelled}
 use Rattle.config_edit.proofs.write.push_commented.Goals as goal
@@ -34,7 +34,7 @@ returns c =
     let end = c.line_end.result.now in
     let first = c.in_ok-extend_from_slice.ensures.items in
     let (feed, fed, feed_is) : (feed : List ℕ) × (c.if-is_open.text.items ≡ text ++ (core ++ feed))
-    × ((IsOpen parts × HasValue was value × (feed ≡ 10 ∷ [])) ⊎ (¬ (IsOpen parts × HasValue was value) × (feed ≡ []))) =
+    × ((IsOpenEntry parts × HasValue was value × (feed ≡ 10 ∷ [])) ⊎ (¬ (IsOpenEntry parts × HasValue was value) × (feed ≡ []))) =
     elim c.if-is_open.branch [
       | then-is_open+in_ok-has_value+then-branch+in_ok-push w ↦
           let known = w.in_ok-has_value.ensures in
@@ -44,7 +44,7 @@ returns c =
             inl (c.is_open.ensures.0 w.if-is_open.true, has, refl),
           )
       | else-is_open w ↦
-          let closed : ¬ (IsOpen parts × HasValue was value) = λ (opened, has).
+          let closed : ¬ (IsOpenEntry parts × HasValue was value) = λ (opened, has).
           elim w.else-is_open.branch [
             | else-is_open-via-then-is_open+in_ok-has_value+else-branch w' ↦
                 not_spelled was w'.in_ok-has_value.ensures.spelled w'.if-branch.false has

@@ -4,8 +4,11 @@ use Rattle.config_file.specs.Spelling.{git_spelled}
 use Rattle.config_edit.proofs.Changed.{put_between}
 use Rattle.config_edit.proofs.write.push_in_place.Goals as goal
 
+pub returns-then-is_empty : goal.returns-then-is_empty
+returns-then-is_empty c = c.push_in_blanks.ensures
+
 pub returns : goal.returns
-returns c =
+returns c = λ between is_spaced.
     let lead = c.run.result.0.now in
     let rest = c.run.result.1.now in
     let core = c.trimmed.result.0.now in

@@ -1,5 +1,5 @@
 use Rattle.std.proofs.Common.{◌≡◌, ◌++◌, List, ℕ, length}
-use Rattle.config_edit.specs.Edit.{AreBlank}
+use Rattle.config_edit.specs.Cut.{AreBlank}
 use Rattle.config_edit.proofs.write.trimmed.Given as goal
 
 abbrev pub invariant-blanks : goal.invariant-blanks

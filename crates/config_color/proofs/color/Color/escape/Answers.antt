@@ -1,4 +1,4 @@
-use Rattle.std.proofs.Common.{length, ap, arith}
+use Rattle.std.proofs.Common.{length, ap, arith, codes, length-append}
 use Rattle.config_color.specs.Escape.{attribute_codes}
 use Rattle.config_color.proofs.EscapeLemmas.{opened_short, size_all}
 use Rattle.config_color.proofs.color.Color.escape.Goals as goal
@@ -22,3 +22,11 @@ push_str-requires c =
     (omega (arith, short, size_all, ap length c.push_set.ensures)) in
     let back = c.push_part-2.ensures.short 51 (omega arith) (omega (arith, front)) in
     (omega arith, omega (arith, back))
+
+pub returns-clause-short : goal.returns-clause-short
+returns-clause-short c =
+    let short = opened_short c.args.self.now.attributes.0 attribute_codes in
+    let front = c.push_part.ensures.short 34 (omega arith)
+    (omega (arith, short, size_all, ap length c.push_set.ensures)) in
+    let back = c.push_part-2.ensures.short 51 (omega arith) (omega (arith, front)) in
+    omega (arith, back, ap length c.push_str.ensures.bytes, length-append c.push_part-2.new.text.bytes (codes "m"))

@@ -1,4 +1,4 @@
-use Rattle.std.proofs.Common.{◌≡◌, ◌++◌, ap, inl, inr, append_assoc}
+use Rattle.std.proofs.Common.{◌≡◌, ◌++◌, ◌∙◌, ap, inl, inr, append_assoc}
 use Rattle.config_edit.specs.Reading as edit
 use Rattle.config_edit.proofs.removal.Group.finish.Goals as goal
 
@@ -11,9 +11,8 @@ returns c =
     let whole : c.extend_from_slice-2.new.self.items ≡ new ++ (left ++ g.body.items) =
     simp (c.in_ok-extend_from_slice-2.ensures.items, c.as_slice.ensures.value, first, append_assoc) in
     elim c.head_left.ensures [
-      | inl same ↦
-          let all = ap (λ l. new ++ (l ++ g.body.items)) same in
-          (g.head.items ++ g.body.items, rw whole all, edit.whole)
-      | inr (not_kept, has_lost, is_end) ↦
-          (left ++ g.body.items, whole, edit.without_head not_kept has_lost is_end)
+      | inl (same, stays) ↦
+          (g.head.items ++ g.body.items, whole ∙ ap (λ l. new ++ (l ++ g.body.items)) same, edit.whole stays)
+      | inr (same, not_kept, lost) ↦
+          (g.line_end.now ++ g.body.items, whole ∙ ap (λ l. new ++ (l ++ g.body.items)) same, edit.without_head not_kept lost)
     ]

@@ -18,8 +18,13 @@ returns-in-Some-Err-clause-takes c = λ answers items whole rest.
 
 pub returns-in-Some-clause-takes : goal.returns-in-Some-clause-takes
 returns-in-Some-clause-takes c = λ answers.
-    let next : Frame = record { place = c.in-Some.frame.place; entries = c.next.new.self } in
+    let next : Frame = record {
+      place = c.in-Some.frame.place;
+      entries = c.next.new.self;
+      forbids_urls = c.in_ok-forbids_urls.forbids_urls;
+    } in
     takes answers c.args.known.now c.args.self.now.frames.items c.frames.self.frames.items _ c.pop.new.self.items
     c.in-Some.frame next c.in-Some-Ok.entry (c.frames.invariant.0 answers) (search rules) (search rules) refl
     (rw (c.in-Some-Ok.is, c.in-Some-Ok.field-0-is) at c.next.ensures.steps) c.in_ok-include.include
-    c.in_ok-include.ensures
+    (rw c.none_allowed-none_allowed.ensures at c.in_ok-include.ensures)
+    (rw c.none_allowed-none_allowed.ensures at c.in_ok-forbids_urls.ensures)

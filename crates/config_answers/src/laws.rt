@@ -1,0 +1,16 @@
+//! What `clone` returns.
+ghost use Rattle.config_text.specs.Orders.{IsCopied};
+
+use crate::answer::{Answer, Ending, Outcome};
+use crate::line::{Form, Name, Origin, Place};
+
+/// A clone is the same, and never fails.
+pub fn copies()
+    ensures outcomes { IsCopied ⟦<Outcome as Clone>⟧.is_clone ⟦<Outcome as Clone>⟧.is_infallible }
+    ensures endings { IsCopied ⟦<Ending as Clone>⟧.is_clone ⟦<Ending as Clone>⟧.is_infallible }
+    ensures answers { IsCopied ⟦<Answer<'static, 'static> as Clone>⟧.is_clone ⟦<Answer<'static, 'static> as Clone>⟧.is_infallible }
+    ensures origins { IsCopied ⟦<Origin as Clone>⟧.is_clone ⟦<Origin as Clone>⟧.is_infallible }
+    ensures forms { IsCopied ⟦<Form as Clone>⟧.is_clone ⟦<Form as Clone>⟧.is_infallible }
+    ensures names { IsCopied ⟦<Name<'static, 'static> as Clone>⟧.is_clone ⟦<Name<'static, 'static> as Clone>⟧.is_infallible }
+    ensures places { IsCopied ⟦<Place<'static> as Clone>⟧.is_clone ⟦<Place<'static> as Clone>⟧.is_infallible }
+{}
