@@ -20,8 +20,22 @@ CRATES = ROOT / "crates"
 TOOLCHAIN = pathlib.Path(subprocess.check_output(["rt", "doc"], text=True).split("\n")[0]).parent / "rattle"
 LIBRARY = ("gix_config_value", "config_text", "config_integer", "config_boolean", "config_word",
            "config_color", "config_path", "config_file", "config_edit", "config_url", "config_host",
-           "config_checks")
+           "config_checks", "config_answers")
 LISTED = (*LIBRARY, "uses")
+# the crates whose paths callers write: CHANGELOG promises them
+PROMISED = ("gix_config_value", "config_file", "config_edit", "config_url", "config_host")
+# the pages that stand in the folder too, and what C and Python declare
+PAGES = ("CALLING.md", *(f"docs/{it}.md" for it in ("GRAMMAR", "READING", "C", "CHECKING", "DIFFERENCES")))
+OTHERS = {"C": ("crates/gix_config_value_c/include/gix_config_value.h",
+                r"\b(gcv_\w+)(?=\()|^}? ?(gcv_\w+)(?=;)|(?<=#define )(GCV_\w+)"),
+          "Python": ("python/gix_config_value/__init__.pyi", r"^(?: *def|class) ([a-z]\w*|[A-Z]\w*)")}
+# the parts of a list of what a module has, by the kinds of their items
+STRING = r'"(?:[^"\\]|\\(?:.|\n))*"'
+# a row of an option: its name, its letter, what it takes, and its text or the name of that
+OPTION = (r'\(\s*"([a-z][a-z-]+)",\s*"(\w?)",\s*[\w:]+(?:\((?:[^()]|\([^()]*\))*\))?,'
+          rf'\s*((?!""){STRING}|[A-Z]+),?\s*\)')
+GROUPS = {"Types": ("struct", "enum", "trait", "type", "bitflag_items"), "Calls": ("fn",), "Constants": ("const",),
+          "Modules": ("module",), "Laws": ("law",)}
 # the parts of the pages, each a function of what is put into it
 PARTS = {name: text.strip().format for name, text in re.findall(
     r"(?ms)^<!-- (\w+) -->\n(.*?)(?=^<!-- |\Z)", (ROOT / "docs/reference.html").read_text("utf-8"))}
@@ -103,9 +117,29 @@ class Item(Word):
         if self.kind == "impl":
             of = re.sub(r"^impl(<([^<>]|<[^<>]*>)*>)? ", "", " ".join(self.head.split())).rpartition(" for ")
             self.trait, self.name = of[0], re.match(r"\w*", of[2])[0]
-        self.key, self.link = (self.crate, self.name), f"{self.module}.html#{self.name}"
+        self.key, self.link = (self.crate, self.name), None
         self.is_public = named[1] or owner and (owner.trait or owner.kind not in ("struct", "impl", "mod"))
         self.cut = re.search(r"(?m)^ +(requires|ensures)\b|\Z", self.head).start()
+
+
+def brought(text, crate):
+    """What a text of code brings in, as crate, module and so on: each name, its path, and whether it is passed on."""
+    for is_passed, is_ghost, path, listed, alias in USE.findall(re.sub(r",\s*\n\s+", ", ", text)):
+        for known, new in () if is_ghost else names_in(listed) or [("", alias)]:
+            whole = re.sub(r"^crate\b", crate, f"{path}::{known}".removesuffix("::")).split("::")
+            yield new or whole[-1], whole, is_passed
+
+
+def names_in(listed):
+    return [it.partition(" as ")[::2] for it in filter(None, re.split(r",\s*", listed.strip()))]
+
+
+class Module:
+    """A module of code: its comment, what it has, what it passes on, and the modules below it that users may name."""
+
+    def __init__(self, path, doc, file):
+        self.path, self.doc, self.file, self.kind, self.link, self.shown = path, doc, file, "module", None, []
+        self.items, self.passed, self.below, self.name = {}, {}, [], path.rpartition(".")[2]
 
 
 class File:
@@ -114,16 +148,16 @@ class File:
     def __init__(self, file):
         self.file, self.text = file, file.read_text("utf-8")
         self.doc = re.sub(r"(?m)^//! ?", "", re.match(r"(?://!.*\n)*", self.text)[0])
-        self.names, self.modules, self.words, self.passed, self.brought = {}, {}, {}, [], {}
-        self.crate = file.relative_to(CRATES).parts[0] if CRATES in file.parents else ""
+        self.names, self.modules, self.words, self.passed = {}, {}, {}, []
+        parts = file.relative_to(CRATES).with_suffix("").parts if CRATES in file.parents else [""]
+        self.crate, self.path = parts[0], ".".join(it for it in parts if it not in ("src", "lib"))
+        self.brought = {name: path for name, path, _ in brought(self.text, self.crate)} if file.suffix == ".rt" else {}
         # an import may go over several lines
         for is_passed, is_ghost, path, listed, alias in USE.findall(re.sub(r",\s*\n\s+", ", ", self.text)):
-            names = [it.partition(" as ")[::2] for it in filter(None, re.split(r",\s*", listed.strip()))]
+            names = names_in(listed)
             if file.suffix == ".rt" and not is_ghost:
-                for known, new in names or [("", alias)]:
-                    whole = re.sub(r"^crate\b", self.crate, f"{path}::{known}".removesuffix("::")).split("::")
-                    self.brought[new or whole[-1]] = whole, is_passed
-            elif names:
+                continue
+            if names:
                 self.names |= {new or known: (path, known) for known, new in names}
             elif not path.startswith(("super", "crate")):
                 self.modules[alias or path.split(".")[-1]] = path
@@ -234,11 +268,32 @@ def code(text, spans=(), kind="", mark=""):
     return f'<pre class="{kind}">{"".join(shown)}</pre>'
 
 
+def grammars():
+    """The grammar and the canonical texts of each kind, as the kind's type declares them."""
+    out = {}
+    for item in (it for crate in LIBRARY for file in sorted((CRATES / crate / "src").glob("**/*.rt"))
+                 for it in opened(file).items):
+        if item.name in ("grammar", "canonical") and item.owner and item.owner.trait == "Value":
+            out.setdefault(item.owner.name, []).append(item)
+    return out
+
+
+def kind_of(thing):
+    return "law" if "laws" in (thing.path if isinstance(thing, Module) else thing.module).split(".") else thing.kind
+
+
+def slug(heading):
+    """The anchor of a heading of a page."""
+    return re.sub(r"[^\w\- ]", "", heading.lower()).replace(" ", "-")
+
+
 class Reference:
     """The pages, and what stands on them."""
 
     def __init__(self, folder):
-        self.folder, self.words, self.found, self.at = folder, {}, [], {}
+        self.folder, self.words, self.found = folder, {}, []
+        self.anchors = {pathlib.Path(it).stem: ["#", *(f"#{slug(name)}" for name in re.findall(
+            r"(?m)^#+ (.*)", (ROOT / it).read_text("utf-8")))] for it in PAGES}
         # below the title and the sentence for those who read that page alone
         signs = (ROOT / "docs/SIGNS.md").read_text("utf-8").split("\n\n", 2)[2]
         # what rows explain, the fewest signs first
@@ -246,24 +301,74 @@ class Reference:
         heads = [set(re.findall(r"[^\s(){},`⟦⟧]+", it.partition("`: ")[0])) for it in told]
         self.rows = sorted(zip(heads, told), key=lambda row: len(row[0]))
         self.signs = self.prose(signs)
-        # the modules with their public items, what crates pass on, and what a crate's name leads to
+        self.looks = {(crate, file): text for crates, text in re.findall(
+            r"(?m)^\| ((?:`\w+`,? ?)+) \| (.*) \|$", (ROOT / "docs/READING.md").read_text("utf-8"))
+            for crate, *of in [re.findall(r"`(\w+)`", crates)] for file in of}
         self.modules = {}
-        files = [file for crate in LIBRARY for file in sorted(CRATES.glob(f"{crate}/src/**/*.rt"))]
-        items = [it for file in files for it in opened(file).items]
-        hidden = tuple(f"{it.id}." for it in items if it.kind == "mod" and (not it.is_public or it.id in INNER))
-        self.passed = {(file.crate, new): (path[0], path[-1]) for file in map(opened, files)
-                       for new, (path, is_passed) in file.brought.items() if is_passed}
-        self.impls = [it for it in items if it.kind == "impl"]
-        for it in items:
-            if not it.id.startswith(hidden) or it.key in self.passed.values():
-                listed = self.modules.setdefault(it.module, (opened(it.file), []))[1]
-                if it.is_public and not (it.owner or it.kind in ("mod", "use", "impl") or it.name in INNER):
-                    listed.append(it)
-                    self.at[it.key] = it.link
-                    self.at |= {(it.crate, it.name, name): f"{it.link}.{name}" for name in self.members(it)}
-        self.at = {(it.split(".")[0], it.split(".")[-1]): f"{it}.html" for it in self.modules} | self.at
-        self.leads = {f"{path}.html": lead(file.doc) for path, (file, _) in self.modules.items()}
-        self.leads |= {it.link: lead(it.doc) for _, listed in self.modules.values() for it in listed}
+        for file in (opened(file) for crate in LISTED for file in sorted(CRATES.glob(f"{crate}/src/**/*.rt"))):
+            self.fill(file)
+        self.impls = [it for file in SOURCES for it in opened(file).items if it.kind == "impl"]
+        # the paths of each item and module that a caller may write
+        self.paths = {}
+        for crate in LISTED:
+            self.walk(self.modules[crate], crate)
+        for of, paths in self.paths.items():
+            paths.sort(key=lambda it: (it.split("::")[0] not in PROMISED, it.count("::"), len(it)))
+            if isinstance(of, Module):
+                continue
+            # an item of a module that nobody may name stands on the page of the first one that passes it on
+            own = self.modules[self.container(of)]
+            page = own if own.link else next(
+                self.modules[above] for it in paths for above in [".".join(it.split("::")[:-1])]
+                if above.split(".")[0] == of.crate and above in self.modules)
+            of.link = f"{page.path}.html#{of.name}"
+            page.shown.append(of)
+        self.leads = {it.link: lead(it.doc) for it in self.paths}
+
+    @staticmethod
+    def container(item):
+        return f"{item.module}.{item.owner.name}" if item.owner else item.module
+
+    def fill(self, file):
+        """Takes the modules of a file with all that they have."""
+        self.modules[file.path] = Module(file.path, file.doc, file.file)
+        for it in (it for it in file.items if not it.owner or it.owner.kind == "mod"):
+            module = self.modules[self.container(it)]
+            if it.kind == "mod" and it.is_public and it.id not in INNER and it.name not in INNER:
+                module.below.append(f"{module.path}.{it.name}")
+            if it.kind == "mod" and it.text.rstrip().endswith("}"):
+                path = f"{module.path}.{it.name}"
+                self.modules[path] = Module(path, it.doc, file.file)
+            elif it.kind == "use" and it.is_public:
+                module.passed |= {name: path for name, path, _ in brought(it.text, it.crate)}
+            elif it.is_public and it.kind not in ("mod", "use", "impl") and it.name not in INNER:
+                module.items[it.name] = it
+
+    def meant(self, path):
+        """The item or the module that a path means, as crate, module and so on, or None."""
+        if ".".join(path) in self.modules:
+            return self.modules[".".join(path)]
+        of, name = self.meant(path[:-1]) if path[1:] else None, path[-1]
+        if not isinstance(of, Module):
+            return None
+        return self.meant(of.passed[name]) if name in of.passed else of.items.get(name)
+
+    def has(self, module):
+        """What a module has for its users: each name, and the item or the module."""
+        yield from module.items.items()
+        yield from ((path.rpartition(".")[2], self.modules[path]) for path in module.below)
+        yield from ((name, of) for name, path in module.passed.items() for of in [self.meant(path)] if of)
+
+    def walk(self, module, path):
+        """Finds the paths of a module, and of all that it has and passes on."""
+        if path == module.path.replace(".", "::"):
+            module.link = f"{module.path}.html"
+        self.paths.setdefault(module, []).append(path)
+        for name, of in self.has(module):
+            if isinstance(of, Module):
+                self.walk(of, f"{path}::{name}")
+            else:
+                self.paths.setdefault(of, []).append(f"{path}::{name}")
 
     def members(self, item):
         """The fields, variants, constants and calls that have an anchor below an item."""
@@ -271,13 +376,18 @@ class Reference:
         return {it.name: it for of in (item, *blocks) for it in of.inside
                 if it.kind != "ghost" and (it.is_public or it.kind == "const")}
 
+    @functools.cache
     def find(self, path, file):
         """The link to what a path of code means in a file, or None."""
         first, *rest = re.sub(r"[^\w:].*", "", path).split("::")
-        path = [*opened(file).brought.get(first, ([first],))[0], *rest]
-        crate, path = (path[0], path[1:]) if path[0] in LIBRARY else (opened(file).crate, path)
-        how = [(*self.passed.get(it[:2], it[:2]), *it[2:]) for it in ((crate, *path[-2:]), (crate, path[-1]))]
-        return next((self.at[it] for it in how if it in self.at), None)
+        whole, near = [*opened(file).brought.get(first, [first]), *rest], opened(file).path.split(".")
+        for above in ([], near, near[:1]):
+            of, member = self.meant([*above, *whole]), ""
+            if not of and len(whole) > 1:
+                of, member = self.meant([*above, *whole[:-1]]), whole[-1]
+            if of in self.paths and (not member or isinstance(of, Item) and member in self.members(of)):
+                return of.link + f".{member}" * bool(member)
+        return None
 
     def page(self, name, title, body):
         (self.folder / f"{name}.html").write_text(PARTS["page"](title=escape(title), body=body), "utf-8")
@@ -285,12 +395,19 @@ class Reference:
     def inline(self, text, file=None):
         """A line of prose, with what its code names as links."""
         def put(it):
-            name = (it[1] or it[3] or it[4]).strip("`")
-            to = file and (not it[4] or name[:1].isupper()) and self.find(it[2] or name, file)
+            if it[5]:
+                to = f"{it[5]}.html" + f"#{slug(it[6] or '')}" * (f"#{slug(it[6] or '')}" in self.anchors[it[5]])
+                return f'<a href="{to}">{it[0]}</a>' if it[5] in self.anchors else it[0]
+            name, page = (it[1] or it[3] or it[4]).strip("`"), re.match(r"(?:\S*/)?(\w+)\.md(#.*)?$", it[2] or "")
+            if page:
+                to = page[1] in self.anchors and f"{page[1]}.html{page[2] or ''}"
+            else:
+                to = file and (not it[4] or name[:1].isupper()) and self.find(it[2] or name, file)
             inside = f"<code>{name}</code>".replace("*", "&#42;") if "`" in it[0] else name
             return f'<a href="{to}">{inside}</a>' if to else inside
 
-        text = re.sub(r"\[([^\]]+)\]\((.*?)\)|\[`([^`]+)`\]|`+ ?(.+?) ?`+", put, escape(" ".join(text.split())))
+        text = re.sub(r"\[([^\]]+)\]\((.*?)\)|\[`([^`]+)`\]|`+ ?(.+?) ?`+"
+                      r"|docs/(\w+)\.md(?:, ([A-Z][\w ]+))?", put, escape(" ".join(text.split())))
         return re.sub(r"\*(\w+)\*", r"<i>\1</i>", re.sub(r"\*\*(.+?)\*\*", r"<b>\1</b>", text))
 
     def prose(self, text, file=None):
@@ -356,39 +473,52 @@ class Reference:
         link, fields = f"{owner.link}.{item.name}" if owner else item.link, []
         listed = () if owner else self.members(item).values()
         anchor = link.partition("#")[2]
-        name = anchor.replace(".", "::")
-        self.found.append([name, f"{item.kind} of {item.module.replace('.', '::')}", link])
+        name, (use, *others) = anchor.replace(".", "::"), self.paths[owner or item]
+        told = f"{item.kind}, use {use}" + f"::{item.name}" * bool(owner)
+        self.find_by(name, told, link, *(others if not owner else ()), lead(item.doc))
         for it in (it for it in listed if it.kind != "fn"):
             shown = re.sub(r"^pub |[,;]$", "", " ".join(without_comments(it.text).split()))
             shown = linked(shown, self.type_spans(shown, it.file))
-            self.found.append([f"{name}::{it.name}", it.kind, f"{link}.{it.name}"])
+            self.find_by(f"{name}::{it.name}", f"{it.kind} of {use}", f"{link}.{it.name}", lead(it.doc))
             fields.append(f'<dt id="{anchor}.{it.name}"><code>{shown}</code></dt>'
                           f"<dd>{self.prose(it.doc, it.file)}</dd>")
         blocks = [it for it in self.impls if it.trait and (it.key, None) == (item.key, owner)]
         return PARTS["item"](
             level=3 if owner else 2, anchor=anchor, name=name, kind=item.kind, source=item.source,
-            head=self.head(item), fields="".join(fields), ghosts=self.ghosts(item.inside),
-            calls="".join(self.item(it, item) for it in listed if it.kind == "fn"),
+            use="" if owner else PARTS["use"](path=use), head=self.head(item), fields="".join(fields),
+            ghosts=self.ghosts(item.inside), calls="".join(self.item(it, item) for it in listed if it.kind == "fn"),
             blocks="".join(PARTS["block"](
                 name=escape(" ".join(it.head.split())), ghosts=self.ghosts(it.inside),
                 calls="".join(self.head(of) for of in it.inside if of.kind == "fn")) for it in blocks))
 
-    def module(self, path):
-        """The page of a module: what it has, what it passes on, and the modules below it."""
-        (of, items), name, above = self.modules[path], path.replace(".", "::"), path.rpartition(".")[0]
-        passed = [(self.find(new, of.file), new) for crate, new in self.passed if crate == path]
-        self.found.append([name, "module", f"{path}.html"])
-        self.found += [[f"{name}::{new}", "passed on", to] for to, new in passed]
-        rows = [(it.link, it.name) for it in items] + passed
-        rows += [(f"{it}.html", it[len(path) + 1:]) for it in self.modules if it.rpartition(".")[0] == path]
-        up = f'<p class=small>in <a href="{above}.html">{above.replace(".", "::")}</a></p>' * bool(above)
-        self.page(path, name, up + self.prose(of.doc, of.file) + self.overview(rows, of.file)
-                  + "".join(map(self.item, items)))
+    def find_by(self, name, told, link, *more):
+        """Lets the search find this name, and these other texts."""
+        self.found.append([name, told, link, " ".join(more).replace("`", "")])
 
-    def overview(self, rows, file=None):
-        """Links, each with the first sentence of what it leads to."""
-        rows = (PARTS["row"](to=to, name=name, told=self.inline(self.leads[to], file)) for to, name in rows)
-        return f"<dl>{''.join(rows)}</dl>"
+    def module(self, module):
+        """The page of a module: what it has and passes on, types first, and its own items."""
+        path, (use, *others) = module.path.replace(".", "::"), self.paths[module]
+        self.find_by(use, "module", module.link, *others, lead(module.doc))
+        above = path.rpartition("::")[0]
+        up = f'<p class=small>in <a href="{above.replace("::", ".")}.html">{above}</a></p>' * bool(above)
+        also = PARTS["use"](path=use) * (use != path)
+        self.page(module.path, path, up + also + self.prose(module.doc, module.file) + self.overview(
+            list(self.has(module)), module.file) + "".join(map(self.item, module.shown)))
+
+    def overview(self, rows, file):
+        """What a module has, in groups: links, each with the first sentence of what it leads to, and with its calls."""
+        out = []
+        for group, kinds in GROUPS.items():
+            of = [(name, it) for name, it in rows if it in self.paths and kind_of(it) in kinds]
+            cells = "".join(PARTS["row"](to=it.link, name=name, told=self.inline(self.leads[it.link], file)
+                                         + self.calls(it)) for name, it in of)
+            out.append(f"<h3>{group}</h3><dl>{cells}</dl>" * bool(of))
+        return "".join(out)
+
+    def calls(self, of):
+        """Links to the calls of a type."""
+        names = [it.name for it in self.members(of).values() if it.kind == "fn"] if isinstance(of, Item) else ()
+        return PARTS["calls"](calls=", ".join(f'<a href="{of.link}.{it}">{it}</a>' for it in names)) if names else ""
 
     def headline(self, name, title, *sentences):
         """A page on which a headline stands with all that it rests on."""
@@ -397,13 +527,27 @@ class Reference:
         said = re.findall(r"(?m)^(?:>.*\n)+", (ROOT / "README.md").read_text("utf-8"))[name == "setting"]
         body = PARTS["headline"](
             quote=self.prose(said.replace("> ", "")), own=own, other=other, count=len(every),
+            kinds=self.kinds() * (name == "headline"),
             heads="".join(PARTS["claim"](name=it.name, module=it.module.replace(".", "::"), source=it.source,
                                          head=self.head(it)) for it in items),
             signs=self.signs, here=self.listed(it for it in every if it.is_here),
             toolchain=self.listed(it for it in every if not it.is_here))
-        # each word stands on this page
-        self.page(name, title, re.sub(r'class=w href="[^#"]*', 'class=w href="', body))
-        self.found.append([title, f"statement, on {own} lines", f"{name}.html"])
+        # each word of the claims stands on this page
+        on_page = {it.href: f"#{quote(it.id)}" for it in every}
+        self.page(name, title, re.sub(r'(?<=class=w href=")[^"]*', lambda it: on_page.get(it[0], it[0]), body))
+        self.find_by(title, f"statement, on {own} lines", f"{name}.html")
+
+    def kinds(self):
+        """The kinds of value as a table: the grammar of each, its canonical texts, and the lines that both rest on."""
+        rows = []
+        for name, items in grammars().items():
+            cells = [linked(text, self.word_spans(text, it.file)) for it in items
+                     for text in [re.search(r"\{ *(.*?) *\}", it.text)[1]]]
+            own, other = counts(items)
+            link = self.find(name, items[0].file)
+            rows.append(f'<tr><td><a href="{link}">{name}</a>'
+                        + "".join(f"<td><code class=l>{it}</code>" for it in cells) + f"<td>{own}<td>{other}")
+        return PARTS["kinds"](rows="".join(rows))
 
     def settings(self):
         """The built-in rows of `config_check`."""
@@ -412,19 +556,77 @@ class Reference:
         form = r"(?m)^([^#\s]\S*) +(?:since=(\S+) )?((?:(?:\w+=\S+|alone|needs-value|warn) )*)(\S+) ?(.*)"
         for key, since, marks, kind, words in re.findall(form, text):
             cells = "".join(f"<td>{escape(cell)}" for cell in (key, kind, words, since, marks.strip()))
-            self.found += [[key, f"setting, {kind}", f"settings.html#{quote(key)}"]] * (key not in rows)
+            if key not in rows:
+                self.find_by(key, f"setting, {kind}", f"settings.html#{quote(key)}", words)
             rows[key] = rows[key] + f"<tr>{cells}" if key in rows else f'<tr id="{key}">{cells}'
         kinds = re.search(r"(?ms)^## The kinds\n(.*?)^## ", (ROOT / "docs/CHECKING.md").read_text("utf-8"))[1]
         self.page("settings", "Settings that config_check knows",
                   PARTS["settings"](kinds=self.prose(kinds), rows="".join(rows.values())))
 
+    def options(self):
+        """The options of the programs that have some, with what `--help` says of each."""
+        rows = []
+        for program in ("git_settings", "config_check"):
+            text = "\n".join(map(without_comments, (opened(it).text for it in (
+                CRATES / program / "src/options.rt", CRATES / "config_host/src/options.rt"))))
+            known = dict(re.findall(rf'const (\w+): &str =\s*({STRING});', text))
+            for name, short, said in re.findall(OPTION, text):
+                said, at = re.sub(r"\\\n *", "", known.get(said, said))[1:-1], f"{program}.{name}"
+                self.find_by(f"--{name}", f"option of {program}", f"options.html#{at}", said)
+                cells = (program, f"<code>{f'-{short}, ' * bool(short)}--{name}</code>", self.inline(said))
+                rows.append(f'<tr id="{at}"><td>{"<td>".join(cells)}')
+        self.page("options", "Options of the programs", PARTS["options"](rows="".join(rows)))
+
+    def markdown(self, file):
+        """A page of the repository, whose headings can be found."""
+        title, *blocks = (ROOT / file).read_text("utf-8").split("\n\n")
+        out, name, seen = [], pathlib.Path(file).stem, []
+        for part in re.split(r"(?m)^(?=#+ )", "\n\n".join(blocks)):
+            marks, heading, text = re.match(r"(?s)(?:(#+) ([^\n]*)\n)?(.*)", part).groups()
+            if heading:
+                count, at = seen.count(slug(heading)), slug(heading)
+                at, seen = at + f"-{count}" * bool(count), [*seen, at]
+                self.find_by(heading.replace("`", ""), f"part of {file}", f"{name}.html#{at}")
+                out.append(f'<h{len(marks)} id="{at}">{self.inline(heading)}</h{len(marks)}>')
+            out.append(self.prose(text))
+        self.page(name, title.lstrip("# "), "".join(out))
+
+    def declared(self, language, file, form):
+        """What C or Python declare, by the lines of the file that does."""
+        text, page, seen = (ROOT / file).read_text("utf-8"), f"{language}-declarations", set()
+        for it in re.finditer(rf"(?m){form}", text):
+            if it[0].strip() and it[it.lastindex] not in seen and not it[it.lastindex].startswith("_"):
+                seen.add(it[it.lastindex])
+                line = text.count("\n", 0, it.start(it.lastindex)) + 1
+                self.find_by(it[it.lastindex], f"declared for {language}", f"{page}.html#L{line}")
+        self.page(page, f"What {language} sees", code(text, (), "source", " id=L{}"))
+
+    def definitions(self, crate):
+        """The words of a crate, file by file, each file with what readers of it should look for."""
+        of, out = {}, []
+        for _, it in sorted(self.words.items()):
+            if it.href.startswith(f"words.{crate}."):
+                of.setdefault(it.module, []).append(it)
+                if it not in self.paths:
+                    self.find_by(it.name, f"definition of {it.crate}", it.href, lead(it.doc))
+        for module, words in of.items():
+            look = self.looks.get((crate, module.rpartition(".")[2]))
+            out.append(f"<h2>{module}</h2>" + f"<p>Look for: {self.inline(look or '')}</p>" * bool(look))
+            out.append(self.listed(words))
+        self.page(f"words.{crate}", f"Definitions of {crate}", "".join(out))
+
     def write(self):
         self.folder.mkdir(parents=True, exist_ok=True)
-        for key in self.modules:
-            self.module(key)
+        for module in (it for it in self.modules.values() if it.link):
+            self.module(module)
         self.headline("headline", "The headline of values", "headline", "joined")
         self.headline("setting", "The headline of settings", "setting")
         self.settings()
+        self.options()
+        for page in PAGES:
+            self.markdown(page)
+        for language, (file, form) in OTHERS.items():
+            self.declared(language, file, form)
         for file in (file for crate in LISTED for file in sorted((CRATES / crate / "specs").glob("*.antt"))):
             self.words |= {it.id: it for it in opened(file).words.values()}
         # what unfolds cites more words, until no new one comes
@@ -432,15 +634,17 @@ class Reference:
         while len(shown) < len(self.words):
             shown = {key: self.word(word) for key, word in list(self.words.items())}
         for crate in (*LISTED, "toolchain"):
-            of = [it for _, it in sorted(self.words.items()) if it.href.startswith(f"words.{crate}.")]
-            self.page(f"words.{crate}", f"Definitions of {crate}", self.listed(of))
-            self.found += [[word.name, f"definition of {word.crate}", word.href] for word in of]
-        data = f"const FOUND = {json.dumps(self.found)}, WORDS = {json.dumps(shown)};"
-        (self.folder / "data.js").write_text(data, "utf-8")
-        told = f"{sum(len(it[1]) for it in self.modules.values())} items, and {len(self.words)} definitions"
-        crates = self.overview((f"{it}.html", it) for it in LIBRARY)
+            self.definitions(crate)
+        for name, data in ("FOUND", self.found), ("WORDS", shown):
+            (self.folder / f"{name.lower()}.js").write_text(f"const {name} = {json.dumps(data)};", "utf-8")
+        told = f"{sum(len(it.shown) for it in self.modules.values())} items, and {len(self.words)} definitions"
+        crates = "".join(PARTS["row"](to=f"{it}.html", name=it, told=self.inline(lead(self.modules[it].doc)))
+                         for it in LISTED)
         words = "".join(f"<li><a href=words.{it}.html>{it}</a></li>" for it in (*LISTED, "toolchain"))
-        self.page("index", "Reference", PARTS["top"](told=told, crates=crates, words=words, signs=self.signs))
+        pages = "".join(f"<li><a href={pathlib.Path(it).stem}.html>{pathlib.Path(it).stem}</a></li>" for it in PAGES)
+        pages += "".join(f"<li><a href={it}-declarations.html>{it}</a></li>" for it in OTHERS)
+        self.page("index", "Reference",
+                  PARTS["top"](told=told, crates=crates, pages=pages, words=words, signs=self.signs))
         for file in (it for crate in LISTED for it in (CRATES / crate).glob("s*/**/*.*t*")):
             at = str(file.relative_to(CRATES))
             self.page(f"source.{at.replace('/', '.')}", at, code(opened(file).text, (), "source", " id=L{}"))

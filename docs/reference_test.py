@@ -26,18 +26,27 @@ DONE = {
         document.title = ["Color", "FileError", "outofrange"].map(text => {
             box.value = text; box.dispatchEvent(new Event("input"));
             return document.querySelector("#found a").getAttribute("href") }).join(" ")"""),
+    "search finds paths, other languages, options, and words of comments": ("index.html",
+        "gix_config_value.canonical.html#normalize gix_config_value.color.html uses.setting_headline.html#value_of "
+        "options.html#config_check.fix settings.html#core.bare CALLING.html#a-first-program", """
+        const box = document.getElementById("search");
+        document.title = ["canonical::normalize", "gix_config_value::color", "value_of", "--fix", "core.bare",
+                          "a first program"].map(text => {
+            box.value = text; box.dispatchEvent(new Event("input"));
+            return document.querySelector("#found a").getAttribute("href") }).join(" ")"""),
     "search finds nothing": ("setting.html", "nothing has this name", """
         const box = document.getElementById("search"); box.value = "no-such"; box.dispatchEvent(new Event("input"));
         document.title = document.getElementById("found").textContent"""),
     "a word unfolds, and a word in it": ("headline.html", "abbrev pub Means, abbrev pub IsRefused", """
-        document.querySelector("pre.clauses a.w").click();
+        document.querySelector("pre.clauses a.w").click(); await loaded();
         document.querySelector(".unfolded a.w[href$=IsRefused]").click();
         document.title = [...document.querySelectorAll(".unfolded > pre")].map(it => it.textContent.split(" :")[0])
             .join(", ")"""),
     "a word folds again": ("config_text.value.html", "1 then 0", """
         const word = document.querySelector("pre.clauses a.w");
         const count = () => document.querySelectorAll(".unfolded").length;
-        word.click(); const before = count(); word.click(); document.title = `${before} then ${count()}`"""),
+        word.click(); await loaded(); const before = count(); word.click();
+        document.title = `${before} then ${count()}`"""),
     "rows are filtered": ("settings.html", "merge.conflictStyle", """
         const box = document.getElementById("filter"); box.value = "conflictst zdiff3";
         box.dispatchEvent(new Event("input"));
@@ -49,12 +58,19 @@ DONE = {
     "what no user calls is hidden": ("config_text.digits.html", "nothing has this name", """
         const box = document.getElementById("search"); box.value = "digit_of"; box.dispatchEvent(new Event("input"));
         document.title = document.getElementById("found").textContent"""),
+    "a crate lists its types first, with their calls": ("gix_config_value.html",
+        "Types Modules Laws; is_true, to_json", """
+        document.title = [...document.querySelectorAll("h3")].map(it => it.textContent).join(" ") + "; "
+            + document.querySelector("dd .small").textContent"""),
+    "the kinds have their grammars": ("headline.html", "Amount Integer Suffix Boolean Attribute Name Color", """
+        const links = [...document.querySelectorAll("table td:first-child a")];
+        document.title = links.map(it => it.textContent).join(" ")"""),
     "what users call is shown": ("config_text.settings.html", "lookup fn, source", """
         document.title = document.getElementById("lookup").textContent.replace("fn", " fn")"""),
 }
 # pages that are looked at in windows of 400 and 1,400 pixels, with and without the script
-LOOKED_AT = ("index", "headline", "setting", "settings", "config_file.settings", "words.config_file",
-             "source.config_file.src.settings.rt")
+LOOKED_AT = ("index", "headline", "setting", "settings", "options", "gix_config_value.canonical", "CALLING",
+             "config_file.settings", "words.config_file", "source.config_file.src.settings.rt")
 FRAMES = """addEventListener("load", () => { document.title = [...document.querySelectorAll("iframe")].map(frame => {
     const page = frame.contentDocument, root = page.documentElement, has = page.getElementById("search") !== null;
     const word = page.querySelector("a.w[href^='#']");
@@ -66,7 +82,8 @@ FRAMES = """addEventListener("load", () => { document.title = [...document.query
 
 def browse(page, *flags):
     """The page after its scripts have run, as chromium prints it."""
-    words = ["chromium", "--headless=new", "--no-sandbox", "--disable-gpu", "--dump-dom", *flags, page.as_uri()]
+    words = ["chromium", "--headless=new", "--no-sandbox", "--disable-gpu", "--dump-dom",
+             "--virtual-time-budget=10000", *flags, page.as_uri()]
     kept = {"stdout": subprocess.PIPE, "stderr": subprocess.DEVNULL, "text": True}
     return subprocess.run(words, timeout=30, check=False, **kept).stdout
 
@@ -74,7 +91,9 @@ def browse(page, *flags):
 def title(page, script, *flags):
     """What a script writes into the title of a copy of the page."""
     copy = page.with_name("copy.html")
-    copy.write_text(page.read_text("utf-8") + f"<script>{{{script}}}</script>", encoding="utf-8")
+    wait = "const loaded = () => new Promise(done => setTimeout(done, 1000));"
+    made = f"<script>{wait} (async () => {{{script}}})()</script>"
+    copy.write_text(page.read_text("utf-8") + made, encoding="utf-8")
     return (re.findall("<title>(.*?)</title>", browse(copy, *flags), re.DOTALL) or ["no page"])[0]
 
 
@@ -83,10 +102,11 @@ def links(folder):
     texts = {page.name: page.read_text("utf-8") for page in folder.glob("*.html")}
     anchors = {name: collections.Counter(re.findall(r'\bid="?([^">\s]+)', text)) for name, text in texts.items()}
     faults = [f"{name}: {it} stands twice" for name, found in anchors.items() for it in found if found[it] > 1]
-    texts["data.js"], count = (folder / "data.js").read_text("utf-8").replace('\\"', '"'), 0
-    # the words of data.js are put into pages of the same folder
+    texts |= {name: (folder / name).read_text("utf-8").replace('\\"', '"') for name in ("words.js", "found.js")}
+    count = 0
+    # the words of words.js are put into pages of the same folder
     for name, text in texts.items():
-        for to in re.findall(r'\b(?:href|src)="?([^">\s]+)', text) + re.findall(r', "([^"]*\.html[^"]*)"\]', text):
+        for to in re.findall(r'\b(?:href|src)="?([^">\s]+)', text) + re.findall(r', "([^" ]*\.html[^" ]*)", ', text):
             page, _, anchor = urllib.parse.unquote(to).partition("#")
             is_there = (folder / page).exists() and (not anchor or html.escape(anchor) in anchors[page or name])
             faults += [] if is_there else [f"{name}: {to} leads nowhere"]

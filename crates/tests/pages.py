@@ -193,9 +193,7 @@ def reading():
     """The line counts in docs/READING.md: of each sentence, and of the grammar and the canonical texts of each kind."""
     page = (ROOT / "docs/READING.md").read_text("utf-8")
     claims = {name: reference.claims_of(name) for name in reference.SENTENCE}
-    for item in (it for file in reference.SOURCES for it in reference.opened(file).items if it.crate in LIBRARY):
-        if item.name in ("grammar", "canonical") and item.owner and item.owner.trait == "Value":
-            claims.setdefault(item.owner.name, []).append(item)
+    claims |= reference.grammars()
     known = {name: [str(round(count, -1)) for count in reference.counts(of)] for name, of in claims.items()}
     told = {name: counts for name, *counts in re.findall(r"(?m)^\| `(\w+)` \| (\d+) \| (\d+) \|$", page)}
     yield "docs/READING.md, the lines of claims", known, told
