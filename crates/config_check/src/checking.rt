@@ -367,13 +367,24 @@ impl<'c, 't> Checking<'c, 't> {
     }
 
     /// The counts of a file, and the changes to make in it: with `--unsafe-fixes` all that are suggested.
-    fn look_for_changes(&mut self, file: &'t str, text: &'t [u8]) -> Result<Looked, Failure<'static>> {
+    fn look_for_changes(
+        &mut self,
+        file: &'t str,
+        text: &'t [u8],
+    ) -> Result<Looked, Failure<'static>> {
         let Looked { counts, changes } = self.look_by_all(file, text, true)?;
         if self.asked.guesses {
             return Ok(Looked { counts, changes });
         }
         let alloc = self.rt.alloc();
-        let changes = without_rivals(alloc, &self.disk, &self.surroundings, file.as_bytes(), text, changes)?;
+        let changes = without_rivals(
+            alloc,
+            &self.disk,
+            &self.surroundings,
+            file.as_bytes(),
+            text,
+            changes,
+        )?;
         Ok(Looked { counts, changes })
     }
 

@@ -277,7 +277,8 @@ fn mends_key(
 fn lacks_digit(text: &[u8], other: &[u8]) -> bool
     ensures { result ≡ lacks_digit text.now other.now }
 {
-    text.iter().any(|byte| byte.is_ascii_digit() && !other.contains(byte))
+    text.iter()
+        .any(|byte| byte.is_ascii_digit() && !other.contains(byte))
 }
 
 /// Whether one typing error at most leads from one text to the other.

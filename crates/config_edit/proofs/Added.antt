@@ -245,11 +245,16 @@ module _ {key : Key} {text rest : List ℕ} {was before : Bool} {inside : Option
       let contents = p.contents ++ contents_in piece.held p.section in
       let parts = p.parts ++ m.part ∷ [] in
       let joined = rw more_is at m.cut in
-      let can : CanFollow key parts =
-      (p.parts, m.part, refl, subst (λ s. IsIn key s) (sym m.cut.section_is) (inside_is.0 inside_now), elim either [
-        | inl behind ↦ inr (sym p.after_is ∙ behind)
-        | inr item ↦ inl (item_held piece.held piece.blanks.now piece.bytes.now piece.rest.now piece.is_line m.part m.is_of ∙ item)
-      ]) in
+      let can : CanFollow key parts = (
+        p.parts,
+        m.part,
+        refl,
+        subst (λ s. IsIn key s) (sym m.cut.section_is) (inside_is.0 inside_now),
+        elim either [
+          | inl behind ↦ inr (sym p.after_is ∙ behind)
+          | inr item ↦ inl (item_held piece.held piece.blanks.now piece.bytes.now piece.rest.now piece.is_line m.part m.is_of ∙ item)
+        ],
+      ) in
       let place : IsPlaceIn key text piece.rest.now contents there (record { rest = piece.rest; end = f }) =
       record {
         front = p.front ++ piece.bytes.now;
@@ -281,8 +286,7 @@ module _ {key : Key} {text rest : List ℕ} {was before : Bool} {inside : Option
   place_kept None m (nothing, false_is, cuts, never) either =
       let no_item : (is_inside ≡ false) ⊎ (is_item piece.held ≡ false) = elim either [ inl off ↦ inl off | inr both ↦ inr both.0 ] in
       let off = still_outside key p.section was is_inside piece.held p.inside_is false_is inside_is no_item in
-      let other = outside key (section_after piece.held p.section) inside_is off in
-      (
+      let other = outside key (section_after piece.held p.section) inside_is off in (
         without_in_both p.contents p.contents nothing (none_in_piece key piece.held p.section (inl other)),
         off,
         rw more_is at m.cut,
@@ -538,7 +542,6 @@ place_within (Some place) p = (p.place.0.front, p.place.0.joined)
 pub header_after : (h : Held) (is : Bool) → ((new : code.Section) → h ≡ held.Header new → ⊥) → is ≡ false → is ≡ holds_header h
 header_after (held.Header new) is other e = absurd (other new refl)
 header_after h is other e = e
-
 
 pub ends_no_line : {is_line : Bool} (h : Held) → EndsNoLine h is_line → holds_header h ≡ true → is_line ≡ false
 ends_no_line (held.Header new) is on = is

@@ -337,7 +337,7 @@ changed_commented {change = change} {parts = parts} {piece = piece} {line = line
     append_cancel_left blanks e.front old
     (sym (front_cut e (blanks ++ old) s.tail (s.bytes_are ∙ sym (append_assoc blanks old s.tail)) (tail_cut e s.tail s.left))) in
     let (begins, takes) = named_takes (option_copied change.name) s.between (value_bytes was) writable
-        (rw front_is at e.begins) (rw front_is at e.takes) in
+    (rw front_is at e.begins) (rw front_is at e.takes) in
     let tail_is : k.tail ≡ s.tail = append_cancel_right k.tail s.tail rest (sym k.left ∙ s.left) in
     let named = blanks ++ (key ++ (s.between ++ s.bytes)) in
     let whole : k.core ++ k.blanks ≡ named =

@@ -288,7 +288,7 @@ changing_stays {changes = changes} {left = left} {text = text} {rest = rest} {ne
     let becomes : (count : ℕ) → AreInOrder 0 changes count
     → EachBecomes (ChangesPart changes) (r.parts ++ m.part ∷ []) (new ++ piece.bytes.now) =
     λ count order. rw m.part_is at
-        (cut.next m.part (part_bytes m.part) (r.becomes count order) (spec.stays (unnamed m.part m.is_of count order))) in
+    (cut.next m.part (part_bytes m.part) (r.becomes count order) (spec.stays (unnamed m.part m.is_of count order))) in
     record {
       front = r.front ++ piece.bytes.now;
       done = r.done;
@@ -345,14 +345,14 @@ changing_keeps {changes = changes} {left = left} {index = index} piece parts r i
     (rw (entry, one_longer) (ap (λ i. i + 1) r.index_is))
     (λ count order. order_kept left index count later order)
     (λ part of count order names.
-        let (change, has, at) = names_entry part changes r.parts names in
-        let here : change.entry ≡ index = at ∙ r.cuts.counted in
-        elim (has_split r.done left change r.split has) [
-          | inl done ↦ let below = r.below change done in absurd (omega arith)
-          | inr more ↦
-              let above = order_from (index + 1) left count change (order_kept left index count later (r.ordered count order)) more in
-              absurd (omega arith)
-        ])
+    let (change, has, at) = names_entry part changes r.parts names in
+    let here : change.entry ≡ index = at ∙ r.cuts.counted in
+    elim (has_split r.done left change r.split has) [
+      | inl done ↦ let below = r.below change done in absurd (omega arith)
+      | inr more ↦
+          let above = order_from (index + 1) left count change (order_kept left index count later (r.ordered count order)) more in
+          absurd (omega arith)
+    ])
 
 cut_held : {text rest : List ℕ} {section : Option Section} (index : ℕ) {all also : List Part} {h : Held} {parts : EntryParts}
     → IsCut text rest (section_after h section) (index + length (contents_in h section)) all → h ≡ held.Entry parts → all ≡ also
@@ -377,7 +377,7 @@ changing_changes {changes = changes} {left = left} {more = more} {change = chang
     let m = cut_step piece r.cuts is shorter in
     let (inner, tail, part_is, left_of) = part_entry piece m.is_of entry in
     let (inners, tails) = one_entry_part piece parts c.between c.tail inner tail (sym c.left ∙ left_of)
-        (sym c.bytes_are ∙ sym (rw part_is at m.part_is)) in
+    (sym c.bytes_are ∙ sym (rw part_is at m.part_is)) in
     let same : m.part ≡ entry_part piece parts c.between c.tail =
     part_is ∙ ap (λ i. entry_part piece parts i tail) (sym inners) ∙ ap (λ t. entry_part piece parts c.between t) (sym tails) in
     let named = due ∙ sym r.cuts.counted in

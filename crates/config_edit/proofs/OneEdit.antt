@@ -70,7 +70,7 @@ trims_once (c ∷ core) [] trail left last end all blank e =
     absurd (not_blank c core last (parts_blank (c ∷ core) trail (rw (sym e) at blank)).0)
 trims_once (c ∷ core) (d ∷ also) trail left last end all blank e =
     let (cores, trails) = trims_once core also trail left
-        (λ more b is. last (c ∷ more) b (ap (λ t. c ∷ t) is)) (λ more b is. end (d ∷ more) b (ap (λ t. d ∷ t) is)) all blank (cc) in
+    (λ more b is. last (c ∷ more) b (ap (λ t. c ∷ t) is)) (λ more b is. end (d ∷ more) b (ap (λ t. d ∷ t) is)) all blank (cc) in
     (cc, trails)
 
 solid_first : (core trail : List ℕ) → IsCore core → StopsRun is_blank (core ++ trail)
@@ -88,7 +88,7 @@ puts_once : {value between tail : List ℕ} {was also : Option (List ℕ)} {a b 
 puts_once (spec.in_place {core = core} lead trail all is blank s) (spec.in_place {core = next} also left all_too so blank_too t) e =
     let whole : lead ++ (core ++ trail) ≡ also ++ (next ++ left) = some_same e in
     let (leads, rests) = run_same is_blank lead also (core ++ trail) (next ++ left) all all_too (solid_first core trail is)
-        (solid_first next left so) whole in
+    (solid_first next left so) whole in
     let (cores, trails) = trims_once core next trail left is.2 so.2 blank blank_too rests in
     let spellings = s.1 ∙ sym t.1 in
     cc
@@ -230,7 +230,7 @@ prefixes (x ∷ a) b (y ∷ c) d e = elim (prefixes a b c d (cc)) [
 no_feed_in : (mid left : List ℕ) → list_all is_comment_byte (mid ++ 10 ∷ left) ≡ true → ⊥
 no_feed_in mid left all =
     let (before, after) = and_parts (list_all is_comment_byte mid) (list_all is_comment_byte (10 ∷ left))
-        (sym (list_all-append is_comment_byte mid (10 ∷ left)) ∙ all) in
+    (sym (list_all-append is_comment_byte mid (10 ∷ left)) ∙ all) in
     true≢false (sym after)
 
 last_feed_once : {text a b : List ℕ} → IsLastLineEnd text (Some a) → IsLastLineEnd text (Some b) → a ≡ b
@@ -418,7 +418,7 @@ comment_once : {comment bytes a b : List ℕ} {part : Part} {was : Option (List 
     → PutsComment comment part was bytes b → a ≡ b
 comment_once p q =
     let (cores, blanks) = trims_once p.core q.core p.blanks q.blanks p.ends_core q.ends_core p.are_blank q.are_blank
-        (sym p.bytes_are ∙ q.bytes_are) in
+    (sym p.bytes_are ∙ q.bytes_are) in
     let feeds = feeds_once p.feeds q.feeds refl in
     let written = written_once p.is_written q.is_written refl in
     let ends = line_end_once p.is_end q.is_end refl refl in

@@ -233,7 +233,7 @@ one_entry_part piece parts between tail also other rests e =
     let key = parts.key.now in
     let whole = append_cancel_left piece.blanks.now ((key ++ (between ++ raw)) ++ tail) ((key ++ (also ++ raw)) ++ other) e in
     let fronts = append_cancel_right (key ++ (between ++ raw)) (key ++ (also ++ raw)) tail
-        (whole ∙ ap (λ t. (key ++ (also ++ raw)) ++ t) (sym tails)) in
+    (whole ∙ ap (λ t. (key ++ (also ++ raw)) ++ t) (sym tails)) in
     let behind = append_cancel_left key (between ++ raw) (also ++ raw) fronts in
     (append_cancel_right between also raw behind, tails)
 
@@ -332,12 +332,12 @@ replacing_finds key text rest start new section several in_line (Some g) f left 
     let goes : (value : List ℕ) (last : ℕ) → entries_in parts ≤ last
     → EachBecomes (ReplacesPart key value last) parts (new ++ (left ++ r.between)) =
     λ value last below.
-        let size = r.cuts.counted ∙ length-append r.before (x ∷ r.after) in
-        let here : entries_in r.parts < last = omega (arith, r.counted, size, below) in
-        let leave = left_end g left leaves r.in_line r.part_is in
-        let step = cut.next gone left (r.changes value last (omega arith))
-            (spec.goes (is_entry_of key r.parts g r.inner r.tail r.section_is r.is_of) here leave) in
-        rw (append_assoc new left r.between) at (r.stays value last (new ++ left) step) in
+    let size = r.cuts.counted ∙ length-append r.before (x ∷ r.after) in
+    let here : entries_in r.parts < last = omega (arith, r.counted, size, below) in
+    let leave = left_end g left leaves r.in_line r.part_is in
+    let step = cut.next gone left (r.changes value last (omega arith))
+    (spec.goes (is_entry_of key r.parts g r.inner r.tail r.section_is r.is_of) here leave) in
+    rw (append_assoc new left r.between) at (r.stays value last (new ++ left) step) in
     let found : IsFound key text f.piece.rest.now f.piece.rest.now (new ++ (left ++ r.between)) section f true =
     record {
       front = r.front ++ (bytes ++ r.between);
@@ -414,7 +414,7 @@ one_replaced {key = key} {text = text} {start = start} {new = new} {value = valu
     let part = entry_part f.piece f.parts r.inner r.tail in
     let last = length r.before in
     let gives = spec.gets (is_entry_of key r.parts f r.inner r.tail r.section_is r.is_of) r.counted
-        (gives_of set.shaped r.inner r.tail r.left_is r.part_is) in
+    (gives_of set.shaped r.inner r.tail r.left_is r.part_is) in
     let changed : EachBecomes (ReplacesPart key value last) (r.parts ++ part ∷ []) (new ++ put) =
     cut.next part put (r.changes value last (omega (arith, r.counted))) gives in
     let becomes = rw (append_assoc new put r.between, ← start_is) at (r.stays value last (new ++ put) changed) in

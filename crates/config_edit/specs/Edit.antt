@@ -459,7 +459,7 @@ abbrev pub ChangesEntry : Change → Part → List ℕ → Type 0
 ChangesEntry change (cut.entry blanks key between was tail is_line) put = (bytes after : List ℕ)
     × MatchOption (option_copied change.value) (bytes ≡ value_bytes was) (λ value. ChangesValueTo value between tail was bytes)
     × MatchOption (option_copied change.comment) (after ≡ bytes ++ tail)
-        (λ comment. PutsComment comment (cut.entry blanks key between was tail is_line) was bytes after)
+    (λ comment. PutsComment comment (cut.entry blanks key between was tail is_line) was bytes after)
     × (put ≡ blanks ++ (name_after (option_copied change.name) key ++ (between ++ after)))
 ChangesEntry change _ put = ⊥
 

@@ -10,8 +10,7 @@ use crate::surroundings::FoundRepository;
 use bstr::ByteSlice;
 use config_file::{FilePlace, Scope};
 use std::alloc::AllocError;
-use std::fs;
-use std::io;
+use std::{fs, io};
 
 /// A file that Git reads if it is there.
 ///

@@ -30,7 +30,10 @@ impl Misuse<'_> {
 
 /// A misuse that ends with the status of a wrong usage.
 fn error<'a>(why: &'a str) -> Misuse<'a> {
-    Misuse(Ending::Misused, [b"error: ", why.as_bytes(), b"", b"", b"", b"", b""])
+    Misuse(
+        Ending::Misused,
+        [b"error: ", why.as_bytes(), b"", b"", b"", b"", b""],
+    )
 }
 
 /// A misuse of a word, for which Git has a status of its own.
@@ -43,7 +46,10 @@ fn fatal<'a>(why: &'a str, text: &'a str, end: &'a str) -> Misuse<'a> {
 fn joined(text: &str) -> Option<(&str, &str)> {
     let (_, end) = text.rsplit_once('.')?;
     let (name, value) = end.split_once('=')?;
-    let length = text.len().saturating_sub(end.len()).saturating_add(name.len());
+    let length = text
+        .len()
+        .saturating_sub(end.len())
+        .saturating_add(name.len());
     Some((text.get(..length)?, value))
 }
 
@@ -55,7 +61,15 @@ fn no_value<'a>(text: &'a str) -> Misuse<'a> {
     let parts: [&'a [u8]; 7] = match joined(text) {
         Some((key, value)) if Key::parse(key.as_bytes()).is_ok() => {
             let hint = b"'\nhint: did you mean \"git config set ";
-            [front, bytes, hint, key.as_bytes(), b" ", value.as_bytes(), b"\"?"]
+            [
+                front,
+                bytes,
+                hint,
+                key.as_bytes(),
+                b" ",
+                value.as_bytes(),
+                b"\"?",
+            ]
         }
         _ if Key::parse(bytes).is_ok() => [front, bytes, b"'", b"", b"", b"", b""],
         _ => [unknown, bytes, b"'", b"", b"", b"", b""],

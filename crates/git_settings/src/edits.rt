@@ -271,7 +271,12 @@ fn tell_file(
     let is_of_sections = matches!(edit.change, Change::Rename(_) | Change::Remove);
     if is_of_sections || !is_no_file(text) {
         let error = *error;
-        tell_stop(rt, &[], Scope::Local, HereError::Stops(AddError::Line { file, error }));
+        tell_stop(
+            rt,
+            &[],
+            Scope::Local,
+            HereError::Stops(AddError::Line { file, error }),
+        );
         return Ending::Refused;
     }
     let mut buffer = Buffer::new();

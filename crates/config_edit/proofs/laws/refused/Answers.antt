@@ -96,18 +96,31 @@ set_empty =
       new_is = refl;
     } in
     let other : ¬ (HasValue (Some []) (codes "2")) = λ (ending, s). let e = no_bytes s refl in cc in
-    let gives : GivesValue (codes "2") part (codes "k = 2 # me\n") =
-    (codes " 2 ", inr (other, spec.in_blanks [] [] refl spec.none (spec.wanted (refl, λ e. cc)) two
-        (spec.wanted (refl, (35, codes " me\n", refl, refl)))), refl) in
+    let gives : GivesValue (codes "2") part (codes "k = 2 # me\n") = (
+      codes " 2 ",
+      inr (
+        other,
+        spec.in_blanks [] [] refl spec.none (spec.wanted (refl, λ e. cc)) two
+            (spec.wanted (refl, (35, codes " me\n", refl, refl))),
+      ),
+      refl,
+    ) in
     let each = cut.next part (codes "k = 2 # me\n") (cut.next feed (codes "\n") (cut.next section_a (codes "[a]") cut.none
-        (spec.stays (λ never. never))) (spec.stays (λ never. never))) (spec.gets is_of refl gives) in
-    (ak, ak_is, x ∷ [], (old.0, old.2, refl), inl (
-      ([], [], x, refl, is_of, spec.none, spec.none),
-      ((a, codes "k", Some (codes " 2 ")) ∷ [],
-      (new.0, new.2, refl),
-      r,
-      ([], section_a ∷ feed ∷ part ∷ [], codes "[a]\nk = 2 # me\n", (codes "[a]\nk =# me\n", cut.unmarked refl, cuts), each, refl)),
-    ))
+    (spec.stays (λ never. never))) (spec.stays (λ never. never))) (spec.gets is_of refl gives) in (
+      ak,
+      ak_is,
+      x ∷ [],
+      (old.0, old.2, refl),
+      inl (
+        ([], [], x, refl, is_of, spec.none, spec.none),
+        (
+          (a, codes "k", Some (codes " 2 ")) ∷ [],
+          (new.0, new.2, refl),
+          r,
+          ([], section_a ∷ feed ∷ part ∷ [], codes "[a]\nk = 2 # me\n", (codes "[a]\nk =# me\n", cut.unmarked refl, cuts), each, refl),
+        ),
+      ),
+    )
 
 pub returns-clause-behind : goal.returns-clause-behind
 returns-clause-behind c = λ sets.
@@ -162,11 +175,11 @@ set_below =
       space_run = record { joined = refl; pass = refl; longest = refl };
     }) refl (value.closed refl (value.plain refl value.ends_outside) (inl refl)) in
     let cuts = cuts_a (codes "k = 1 " ++ behind_k) (part ∷ feed ∷ about ∷ section_b ∷ feed ∷ entry_l ∷ [])
-        (cut.begins part (refl, (107, codes " = 1 ", refl, refl), (0, takes), of_me (codes "\n# About b\n[b]\nl=3\n"))
-        (cut.begins feed ((λ e. cc), ended (codes "# About b\n[b]\nl=3\n")) (cut.begins about ((λ e. cc), of_b)
-        (cut.begins section_b (refl, header.plain (record { joined = refl; pass = refl; longest = refl }) (λ e. cc) refl)
-        (cut.begins feed ((λ e. cc), ended (codes "l=3\n"))
-        (cut.begins entry_l (refl, (108, codes "=3", refl, refl), (0, takes_l), ended []) cut.ends)))))) in
+    (cut.begins part (refl, (107, codes " = 1 ", refl, refl), (0, takes), of_me (codes "\n# About b\n[b]\nl=3\n"))
+    (cut.begins feed ((λ e. cc), ended (codes "# About b\n[b]\nl=3\n")) (cut.begins about ((λ e. cc), of_b)
+    (cut.begins section_b (refl, header.plain (record { joined = refl; pass = refl; longest = refl }) (λ e. cc) refl)
+    (cut.begins feed ((λ e. cc), ended (codes "l=3\n"))
+    (cut.begins entry_l (refl, (108, codes "=3", refl, refl), (0, takes_l), ended []) cut.ends)))))) in
     let r : Replaces ak (codes "2") (x ∷ b ∷ []) (y ∷ b ∷ []) =
     record {
       before = [];
@@ -185,17 +198,24 @@ set_below =
     (codes " 2 ", inr (not_two, spec.in_place (codes " ") (codes " ") refl one_core refl two), refl) in
     let no = λ (never : ⊥). never in
     let front = cut.next part (codes "k = 2 # me\n") (cut.next feed (codes "\n") (cut.next section_a (codes "[a]") cut.none
-        (spec.stays no)) (spec.stays no)) (spec.gets is_of refl gives) in
+    (spec.stays no)) (spec.stays no)) (spec.gets is_of refl gives) in
     let each = cut.next entry_l (codes "l=3\n") (cut.next feed (codes "\n") (cut.next section_b (codes "[b]")
-        (cut.next about (codes "# About b\n") (cut.next feed (codes "\n") front (spec.stays no)) (spec.stays no))
-        (spec.stays no)) (spec.stays no)) (spec.stays other) in
-    (ak, ak_is, x ∷ b ∷ [], (old.0, old.2, refl), inl (
-      ([], b ∷ [], x, refl, is_of, spec.none, spec.kept b spec.none (λ is. other is.0)),
-      (y ∷ b ∷ [],
-      (new.0, new.2, refl),
-      r,
-      ([], section_a ∷ feed ∷ part ∷ feed ∷ about ∷ section_b ∷ feed ∷ entry_l ∷ [], new_text, (old_text, cut.unmarked refl, cuts), each, refl)),
-    ))
+    (cut.next about (codes "# About b\n") (cut.next feed (codes "\n") front (spec.stays no)) (spec.stays no))
+    (spec.stays no)) (spec.stays no)) (spec.stays other) in (
+      ak,
+      ak_is,
+      x ∷ b ∷ [],
+      (old.0, old.2, refl),
+      inl (
+        ([], b ∷ [], x, refl, is_of, spec.none, spec.kept b spec.none (λ is. other is.0)),
+        (
+          y ∷ b ∷ [],
+          (new.0, new.2, refl),
+          r,
+          ([], section_a ∷ feed ∷ part ∷ feed ∷ about ∷ section_b ∷ feed ∷ entry_l ∷ [], new_text, (old_text, cut.unmarked refl, cuts), each, refl),
+        ),
+      ),
+    )
 
 pub returns-clause-below : goal.returns-clause-below
 returns-clause-below c = λ sets.
