@@ -25,7 +25,7 @@ use Rattle.config_edit.specs.Reading.{HasHow, IsPutIn, IsShaped, IsValued, entry
 use Rattle.config_file.specs.Reading.Spellings.{is_spellable}
 use Rattle.config_file.specs.Spelling.{git_spelled}
 use Rattle.config_file.specs.Views.{value_of}
-use Rattle.config_edit.proofs.Pieces.{key_before_value, key_joined, first_blank, other_blanks}
+use Rattle.config_edit.proofs.Pieces.{letter_before, key_before_value, key_joined, first_blank, other_blanks}
 use Rattle.config_file.proofs.Spellings.{git_spelling}
 use Rattle.config_file.proofs.SpelledHeaders.{letter_is_key_byte}
 
@@ -195,7 +195,7 @@ last_holds test front b all =
 key_no_blank : (b : ℕ) → is_key_byte b ≡ true → is_blank b ≡ false
 key_no_blank b is = grind (arith, nat_tests)
 
-space_blank : (b : ℕ) → is_space b ≡ true → is_blank b ≡ true
+pub space_blank : (b : ℕ) → is_space b ≡ true → is_blank b ≡ true
 space_blank b is = grind (arith, nat_tests)
 
 -- the last byte of a key is no blank
@@ -210,11 +210,6 @@ key_last {key = key} t (l, more, text_is, letter) = elim (some_last key) [
 ]
 
 -- an entry with another value
-letter_before : (front : List ℕ) (b : ℕ) (after other : List ℕ) → BeginsWithLetter (front ++ b ∷ after)
-    → BeginsWithLetter (front ++ b ∷ other)
-letter_before [] b after other (c, more, e, letter) = (c, other, cc, letter)
-letter_before (x ∷ front) b after other (c, more, e, letter) = (c, front ++ b ∷ other, cc, letter)
-
 -- what precedes the value of an entry, which may have another value there, before another rest
 pub record CanHold (key raw at front : List ℕ) : Type 0 where
   pub start : List ℕ

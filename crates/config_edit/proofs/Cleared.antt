@@ -20,14 +20,18 @@ use Rattle.config_edit.specs.Edit as edit
 use Rattle.config_edit.specs.Edit.{Content, IsIn, WithoutIn, IsEndOfLine, IsLineEnd}
 use Rattle.config_edit.specs.Cut as cut
 use Rattle.config_edit.specs.Cut.{Part, IsPart, Cuts, IsTail, IsComment, absent, present, HasComment}
-use Rattle.config_edit.specs.Cut.{AreBlank, part_bytes, parts_bytes, ends_line, section_behind}
+use Rattle.config_edit.specs.Cut.{AreBlank, part_bytes, parts_bytes, ends_line, section_behind, is_header, HaveNoHeader}
 use Rattle.config_edit.proofs.Changed.{both_blank}
 use Rattle.config_edit.specs.Sections as spec
-use Rattle.config_edit.specs.Sections.{AllAre, NoneIs, IsHeaderIn, IsHeaderPart, IsCommentLine, BeginsWithHeader, Clears}
+use Rattle.config_edit.specs.Sections.{AllAre, NoneIs, IsHeaderIn, IsCommentLine, BeginsWithHeader, Clears}
 use Rattle.config_edit.specs.Sections.{EndsInComments, EndsInNoComment, LastEnd, Stays, end_of, goes_on_behind}
 use Rattle.config_edit.specs.Reading.{Ends, IsRead, IsPiece, IsMade, IsHeaderHeld, IsFoundIn, Clearing, IsKept}
-use Rattle.config_edit.specs.Reading.{IsLost, IsAtLine, EndsNoLine, ClearsPiece}
+use Rattle.config_edit.specs.Reading.{IsLost, IsAtLine, EndsNoLine, ClearsPiece, holds_header}
+use Rattle.std.proofs.lemmas.Bool.{and_parts}
+use Rattle.config_edit.proofs.CutLoops.{has_header, is_header_held, no_header_more}
+use Rattle.config_edit.proofs.CutLoops as loops
 use Rattle.config_edit.proofs.Edits.{without_in_both, some_left}
+use Rattle.config_edit.proofs.OnePart.{line_end_once}
 use Rattle.config_edit.proofs.Cuts.{part_of, one_cut, IsPartOf, no_part, same_last}
 use Rattle.config_edit.proofs.PartsRead.{part_contents, contents_of, part_moved, behind_begins, behind_more, behind_all}
 use Rattle.config_edit.proofs.PartsRead.{some_bytes, header_held, header_in, found_before, all_both, all_front}
@@ -42,21 +46,14 @@ line_of held.Comment blanks bytes rest is_line part ends is = rw is refl
 
 no_header_part : (h : Held) (blanks bytes rest : List ℕ) (is_line : Bool) (part : Part)
     → ((header : code.Section) → h ≡ held.Header header → ⊥)
-    → IsPartOf h blanks bytes rest is_line part → ¬ (IsHeaderPart part)
+    → IsPartOf h blanks bytes rest is_line part → is_header part ≡ false
 no_header_part (held.Header section) blanks bytes rest is_line part no_header is = absurd (no_header section refl)
-no_header_part (held.Entry parts) blanks bytes rest is_line part no_header (between, tail, is, left) = rw is (λ h. h)
-no_header_part held.Nothing blanks bytes rest is_line part no_header is = rw is (λ h. h)
-no_header_part held.Comment blanks bytes rest is_line part no_header is = rw is (λ h. h)
+no_header_part h blanks bytes rest is_line part no_header is = is_header_held h blanks bytes rest is_line part is
 
-header_part : (h : Held) (section : code.Section) (blanks bytes rest : List ℕ) (is_line : Bool) (part : Part)
-    → h ≡ held.Header section → IsPartOf h blanks bytes rest is_line part → IsHeaderPart part
-header_part (held.Header new) section blanks bytes rest is_line part e (inner, is) = rw is tt
-header_part h section blanks bytes rest is_line part e is = cc
-
-header_is : (key : Key) (part : Part) → IsHeaderIn key part → IsHeaderPart part
-header_is key (cut.header blanks section inner) is = tt
-header_is key (cut.entry blanks name between value tail is_line) is = is
-header_is key (cut.line tail is_line) is = is
+header_is : (key : Key) (part : Part) → IsHeaderIn key part → is_header part ≡ true
+header_is key (cut.header blanks section inner) is = refl
+header_is key (cut.entry blanks name between value tail is_line) is = absurd is
+header_is key (cut.line tail is_line) is = absurd is
 
 comment_in : (comment blanks more : List ℕ) → AreBlank blanks → IsComment comment → comment ≢ []
     → HasComment (blanks ++ (comment ++ more))
@@ -114,9 +111,9 @@ no_comment_part held.Nothing blanks bytes rest is_line part other all (tail, joi
 no_comment_part held.Comment blanks bytes rest is_line part other all made is = absurd (other refl)
 
 -- behind a part that is no header a line begins, or the text ends
-line_or_end : (part : Part) (rest : List ℕ) → IsPart part rest → ¬ (IsHeaderPart part)
+line_or_end : (part : Part) (rest : List ℕ) → IsPart part rest → is_header part ≡ false
     → (ends_line part ≡ true) ⊎ (rest ≡ [])
-line_or_end (cut.header blanks section inner) rest is other = absurd (other tt)
+line_or_end (cut.header blanks section inner) rest is other = absurd (true≢false other)
 line_or_end (cut.entry blanks key between value tail is_line) rest (all, letter, takes, t) other = elim t.ends [
   | inl l ↦ inl l.0
   | inr e ↦ inr e.1
@@ -191,7 +188,7 @@ pub then_header : (key : Key) (text rest put : List ℕ) (is_found in_line : Boo
     → ClearsPiece key text piece put is_found in_line now
 then_header key text rest put is_found in_line None piece r is shorter header e other =
     piece_kept piece r is shorter (λ h. other (subst (λ h. IsHeaderHeld key h) e h))
-    (λ part held_is later. header_part piece.held header _ _ _ piece.is_line part e held_is)
+    (λ part held_is later. is_header_held piece.held _ _ _ piece.is_line part held_is ∙ ap (λ h. holds_header h) e)
 then_header key text rest put is_found in_line (Some lost) piece r is shorter header e (is_in, cut, end_is) =
     let (part, bytes_are, is_part, held_is) = part_of piece (some_bytes piece is shorter) is in
     let in_key : IsHeaderIn key part = header_held key piece.held _ _ _ piece.is_line part held_is (subst (λ h. IsHeaderHeld key h) (sym e) is_in) in
@@ -205,7 +202,7 @@ then_header key text rest put is_found in_line (Some lost) piece r is shorter he
       behind = behind_more piece r.behind is shorter part bytes_are is_part;
       clears = r.clears;
       is_header = in_key;
-      no_header = tt;
+      no_header = refl;
       cut = cut;
       ends = spec.header_alone;
       last_end = rw end_is (spec.before [] part ends spec.none);
@@ -215,11 +212,8 @@ then_header key text rest put is_found in_line (Some lost) piece r is shorter he
 -- one part more in the body of a section
 bytes_more : (parts : List Part) (part : Part) (rest : List ℕ)
     → parts_bytes parts ++ (part_bytes part ++ rest) ≡ parts_bytes (parts ++ part ∷ []) ++ rest
-bytes_more [] part rest = simp append-nil
-bytes_more (first ∷ parts) part rest =
-    append_assoc (part_bytes first) (parts_bytes parts) (part_bytes part ++ rest)
-    ∙ ap (λ x. part_bytes first ++ x) (bytes_more parts part rest)
-    ∙ sym (append_assoc (part_bytes first) (parts_bytes (parts ++ part ∷ [])) rest)
+bytes_more parts part rest =
+    sym (ap (λ b. b ++ rest) (loops.bytes_more parts part) ∙ append_assoc (parts_bytes parts) (part_bytes part) rest)
 
 comment_more : {body comments : List Part} (starts_line : Bool) (rest : List ℕ) (part : Part) → EndsInComments body comments
     → IsAtLine body starts_line rest → starts_line ≡ true → IsCommentLine part
@@ -285,7 +279,7 @@ piece_lost {rest = rest} {starts_line = starts_line} piece before after r is sho
           (behind_more piece r.behind is shorter part bytes_are is_part);
       clears = r.clears;
       is_header = r.is_header;
-      no_header = all_both _ r.body (part ∷ []) r.no_header (not_header, tt);
+      no_header = no_header_more r.body part r.no_header not_header;
       cut = cut;
       ends = in_comments;
       last_end = elim end_is [
@@ -369,19 +363,19 @@ agree_kept : {key : Key} {old now : Option Section} (part : Part) (parts : List 
     × (section_behind old part ≡ section_behind now part) × ¬ (IsIn key (section_behind old part))
 agree_kept (cut.header blanks section inner) parts other agree = (edit.none, refl, other)
 agree_kept part parts other (inl (inr none)) = cc
-agree_kept (cut.entry blanks key between value tail is_line) parts other (inl (inl header)) = absurd header
+agree_kept (cut.entry blanks key between value tail is_line) parts other (inl (inl header)) = absurd (true≢false (sym header))
 agree_kept {old = old} (cut.entry blanks key between value tail is_line) parts other (inr (same, outside)) =
     rw (← same) (edit.kept (old, key, value) edit.none outside, refl, outside)
-agree_kept (cut.line tail is_line) parts other (inl (inl header)) = absurd header
+agree_kept (cut.line tail is_line) parts other (inl (inl header)) = absurd (true≢false (sym header))
 agree_kept (cut.line tail is_line) parts other (inr (same, outside)) = (edit.none, same, outside)
 
-body_without : {key : Key} (section : Option Section) (body next : List Part) {left : List Content} → NoneIs IsHeaderPart body
+body_without : {key : Key} (section : Option Section) (body next : List Part) {left : List Content} → HaveNoHeader body
     → IsIn key section → WithoutIn key (contents_of section next) left → WithoutIn key (contents_of section (body ++ next)) left
 body_without section [] next none is h = h
-body_without section (cut.header blanks new inner ∷ body) next (other, none) is h = absurd (other tt)
-body_without section (cut.entry blanks name between value tail is_line ∷ body) next (other, none) is h =
+body_without section (cut.header blanks new inner ∷ body) next none is h = absurd (true≢false (sym none))
+body_without section (cut.entry blanks name between value tail is_line ∷ body) next none is h =
     without_in_both ((section, name, value) ∷ []) [] (edit.lost (section, name, value) edit.none is) (body_without section body next none is h)
-body_without section (cut.line tail is_line ∷ body) next (other, none) is h = body_without section body next none is h
+body_without section (cut.line tail is_line ∷ body) next none is h = body_without section body next none is h
 
 parts_behind : {text : List ℕ} (front back : List Part) → Cuts text (front ++ back) → (rest : List ℕ) × Cuts rest back
 parts_behind {text = text} [] back cuts = (text, cuts)
@@ -491,16 +485,16 @@ cleared_reads {key = key} (cut.begins first is cuts) (spec.lost {goes_on = goes_
     )
 
 -- the parts become one text
-bodies_same : (a b c d : List Part) → NoneIs IsHeaderPart a → NoneIs IsHeaderPart b
+bodies_same : (a b c d : List Part) → HaveNoHeader a → HaveNoHeader b
     → BeginsWithHeader c ⊎ (c ≡ []) → BeginsWithHeader d ⊎ (d ≡ []) → a ++ c ≡ b ++ d → (a ≡ b) × (c ≡ d)
 bodies_same [] [] c d none also first second e = (refl, e)
-bodies_same [] (y ∷ b) c d none (other, also) (inl header) second e = absurd (other (rw e at header))
+bodies_same [] (y ∷ b) c d none also (inl header) second e = absurd (has_header [] b y also (rw e at header))
 bodies_same [] (y ∷ b) c d none also (inr nothing) second e = cc
-bodies_same (x ∷ a) [] c d (other, none) also first (inl header) e = absurd (other (rw (sym e) at header))
+bodies_same (x ∷ a) [] c d none also first (inl header) e = absurd (has_header [] a x none (rw (sym e) at header))
 bodies_same (x ∷ a) [] c d none also first (inr nothing) e = cc
-bodies_same (x ∷ a) (y ∷ b) c d (other, none) (another, also) first second e =
+bodies_same (x ∷ a) (y ∷ b) c d none also first second e =
     let tails : a ++ c ≡ b ++ d = cc in
-    let (bodies, nexts) = bodies_same a b c d none also first second tails in
+    let (bodies, nexts) = bodies_same a b c d (and_parts (not (is_header x)) _ none).1 (and_parts (not (is_header y)) _ also).1 first second tails in
     let heads : x ≡ y = cc in
     (rw (heads, bodies) refl, nexts)
 
@@ -535,14 +529,6 @@ stays_same (inr (none, nothing)) (inr (none_too, nothing_too)) e f = nothing ∙
 stays_same (inl (begins, ends)) (inr (none, nothing)) e f = absurd (rw (f ∙ none) at begins)
 stays_same (inr (none, nothing)) (inl (begins, ends)) e f = absurd (rw (sym f ∙ none) at begins)
 
-line_end_same : {a b c d : List ℕ} {l m : Bool} → IsEndOfLine a l c → IsEndOfLine b m d → a ≡ b → l ≡ m → c ≡ d
-line_end_same edit.unended edit.unended e f = refl
-line_end_same (edit.feed none) (edit.feed other) e f = refl
-line_end_same (edit.return_feed front) (edit.return_feed other) e f = refl
-line_end_same (edit.feed none) (edit.return_feed front) e f = absurd (none front e)
-line_end_same (edit.return_feed front) (edit.feed none) e f = absurd (none front (sym e))
-line_end_same a b e f = cc
-
 last_end_same : {a b : List Part} {end also : List ℕ} → LastEnd a end → LastEnd b also → a ≡ b → end ≡ also
 last_end_same spec.none spec.none e = refl
 last_end_same spec.none (spec.here parts part ends is) e = absurd (no_part parts part e)
@@ -550,7 +536,7 @@ last_end_same spec.none (spec.before parts part ends h) e = absurd (no_part part
 last_end_same (spec.here parts part ends is) spec.none e = absurd (no_part parts part (sym e))
 last_end_same (spec.before parts part ends h) spec.none e = absurd (no_part parts part (sym e))
 last_end_same (spec.here parts part ends is) (spec.here others other ends_too so) e =
-    line_end_same is so (ap part_bytes (same_last parts others part other e).1) refl
+    line_end_once is so (ap part_bytes (same_last parts others part other e).1) refl
 last_end_same (spec.before parts part ends h) (spec.before others other ends_too k) e =
     last_end_same h k (same_last parts others part other e).0
 last_end_same (spec.here parts part ends is) (spec.before others other unended k) e =

@@ -25,7 +25,7 @@ use Rattle.config_edit.specs.Cut.{present}
 use Rattle.config_edit.specs.Reading.{HasHow, IsOpenEntry, entry_part, IsNamed, IsCommented, IsChangedIn, IsWritableName, IsWritableComment}
 use Rattle.config_file.specs.Views.{value_of}
 use Rattle.config_edit.proofs.Pieces.{first_blank, other_blanks, tail_ends}
-use Rattle.config_edit.proofs.Changed.{front_cut, gap_spaces, parts_blank, both_blank, gap_blank, spells_between, spells_before, can_hold, with_value}
+use Rattle.config_edit.proofs.Changed.{space_blank, front_cut, gap_spaces, parts_blank, both_blank, gap_blank, spells_between, spells_before, can_hold, with_value}
 use Rattle.config_edit.proofs.Changed.{inside_is_not_outside, backslash_is_not_outside, tail_cut}
 use Rattle.config_edit.proofs.EachEntry.{entry_named, begins_named}
 use Rattle.config_edit.proofs.Closed.{goes_on_over, more_bytes, some_same}
@@ -109,9 +109,6 @@ trimmed (c ∷ d ∷ g ∷ core) blanks all e joined (value.continued_after_retu
     rw (← same, ← also, ← third) (value.continued_after_return is return line (trimmed core blanks all e left s))
 
 -- what is written
-space_is_blank : (b : ℕ) → is_space b ≡ true → is_blank b ≡ true
-space_is_blank b is = grind (arith, nat_tests)
-
 comment_behind : (front more : List ℕ) → list_all is_comment_byte (front ++ 35 ∷ more) ≡ true
     → list_all is_comment_byte more ≡ true
 comment_behind [] more all = more_bytes 35 more all
@@ -120,7 +117,7 @@ comment_behind (b ∷ front) more all = comment_behind front more (more_bytes b 
 written_parts : {comment written : List ℕ} → list_all is_comment_byte comment ≡ true → WritesComment comment written
     → (blanks more : List ℕ) × (written ≡ blanks ++ 35 ∷ more) × AreBlank blanks × (list_all is_comment_byte more ≡ true)
 written_parts all (spec.spaced b blanks more spaces) =
-    let are_blank = all_more is_space is_blank space_is_blank (b ∷ blanks) spaces in
+    let are_blank = all_more is_space is_blank space_blank (b ∷ blanks) spaces in
     (b ∷ blanks, more, refl, are_blank, comment_behind (b ∷ blanks) more all)
 written_parts all (spec.signed {more = more}) = (32 ∷ [], more, refl, refl, more_bytes 35 more all)
 written_parts all (spec.plain {comment = comment} other) = (32 ∷ [], 32 ∷ comment, refl, refl, all)

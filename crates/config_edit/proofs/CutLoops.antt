@@ -1,6 +1,9 @@
 -- Loops that go through the parts of a text.
-use Rattle.std.proofs.Common.{◌≡◌, ◌≢◌, ℕ, ◌+◌, ◌<◌, Bool, List, [], ◌∷◌, ◌++◌, Option, None, length}
-use Rattle.std.proofs.Common.{refl, sym, ap, ◌∙◌, append_assoc, append-nil, arith}
+use Rattle.std.proofs.Common.{◌≡◌, ◌≢◌, ℕ, ◌+◌, ◌<◌, Bool, true, false, not, List, [], ◌∷◌, ◌++◌, Option, None, length}
+use Rattle.std.proofs.Common.{refl, sym, ap, ◌∙◌, append_assoc, append-nil, arith, true≢false}
+use Rattle.std.specs.List.{list_all}
+use Rattle.std.proofs.lemmas.Bool.{and_parts}
+use Rattle.std.proofs.lemmas.List.Folds.{list_all-append}
 use Rattle.std.proofs.lemmas.List.{append_cancel_left, append_cancel_right}
 use Rattle.config_edit.specs.declared.piece.Held.{Held}
 use Rattle.config_edit.specs.declared.piece.Held.TheVariants as held
@@ -9,6 +12,7 @@ use Rattle.config_file.specs.Header.{Section}
 use Rattle.config_file.specs.Key.{Key}
 use Rattle.config_edit.specs.Cut as cut
 use Rattle.config_edit.specs.Cut.{Part, part_bytes, parts_bytes, entries_in, ends_in_header, section_from, section_behind}
+use Rattle.config_edit.specs.Cut.{is_header, HaveNoHeader}
 use Rattle.config_edit.specs.Edit as spec
 use Rattle.config_edit.specs.Edit.{IsEntryOf}
 use Rattle.config_edit.specs.Reading.{IsPiece, IsCut, AllStay, IsEntryHeld, contents_in, section_after, holds_header}
@@ -25,28 +29,33 @@ bytes_join [] b = refl
 bytes_join (part ∷ a) b =
     ap (λ t. part_bytes part ++ t) (bytes_join a b) ∙ sym (append_assoc (part_bytes part) (parts_bytes a) (parts_bytes b))
 
-header_behind : (first second : Part) (parts : List Part)
-    → ends_in_header (first ∷ second ∷ parts) ≡ ends_in_header (second ∷ parts)
-header_behind (cut.header blanks section inner) second parts = refl
-header_behind (cut.entry blanks key between value tail is_line) second parts = refl
-header_behind (cut.line tail is_line) second parts = refl
+pub bytes_more : (parts : List Part) (part : Part) → parts_bytes (parts ++ part ∷ []) ≡ parts_bytes parts ++ part_bytes part
+bytes_more parts part = bytes_join parts (part ∷ []) ∙ ap (λ b. parts_bytes parts ++ b) (append-nil (part_bytes part))
 
-abbrev pub is_header_part : Part → Bool
-is_header_part part = ends_in_header (part ∷ [])
+pub last_is_header : (before : List Part) (part : Part) → ends_in_header (before ++ part ∷ []) ≡ is_header part
+last_is_header [] part = refl
+last_is_header (first ∷ []) part = refl
+last_is_header (first ∷ second ∷ before) part = last_is_header (second ∷ before) part
 
-pub last_header : (before : List Part) (part : Part) → ends_in_header (before ++ part ∷ []) ≡ is_header_part part
-last_header [] part = refl
-last_header (first ∷ []) part = header_behind first part []
-last_header (first ∷ second ∷ before) part =
-    header_behind first second (before ++ part ∷ []) ∙ last_header (second ∷ before) part
+pub no_header_more : (parts : List Part) (last : Part) → HaveNoHeader parts → is_header last ≡ false → HaveNoHeader (parts ++ last ∷ [])
+no_header_more parts last all other =
+    list_all-append (λ part. not (is_header part)) parts (last ∷ []) ∙ rw (all, other) refl
+
+pub has_header : (parts back : List Part) (part : Part) → HaveNoHeader (parts ++ part ∷ back) → is_header part ≡ true → ⊥
+has_header parts back part all is =
+    let test = λ (part : Part). not (is_header part) in
+    let (front, later) = and_parts (list_all test parts) (list_all test (part ∷ back))
+    (sym (list_all-append test parts (part ∷ back)) ∙ all) in
+    let here = (and_parts (test part) (list_all test back) later).0 in
+    true≢false (sym here ∙ ap not is)
 
 -- what a piece says of its part
-pub header_held : (h : Held) (blanks bytes rest : List ℕ) (is_line : Bool) (part : Part)
-    → IsPartOf h blanks bytes rest is_line part → is_header_part part ≡ holds_header h
-header_held (held.Header section) blanks bytes rest is_line part (inner, is) = rw is refl
-header_held (held.Entry parts) blanks bytes rest is_line part (between, tail, is, left) = rw is refl
-header_held held.Nothing blanks bytes rest is_line part is = rw is refl
-header_held held.Comment blanks bytes rest is_line part is = rw is refl
+pub is_header_held : (h : Held) (blanks bytes rest : List ℕ) (is_line : Bool) (part : Part)
+    → IsPartOf h blanks bytes rest is_line part → is_header part ≡ holds_header h
+is_header_held (held.Header section) blanks bytes rest is_line part (inner, is) = rw is refl
+is_header_held (held.Entry parts) blanks bytes rest is_line part (between, tail, is, left) = rw is refl
+is_header_held held.Nothing blanks bytes rest is_line part is = rw is refl
+is_header_held held.Comment blanks bytes rest is_line part is = rw is refl
 
 entries_held : (h : Held) (blanks bytes rest : List ℕ) (is_line : Bool) (part : Part) (section : Option Section)
     → IsPartOf h blanks bytes rest is_line part → entries_in (part ∷ []) ≡ length (contents_in h section)
@@ -101,13 +110,13 @@ cut_step {text = text} {rest = rest} {section = section} {count = count} {before
       is_of = is_of;
       cut = record {
         joined = c.joined ∙ ap (λ r. parts_bytes before ++ r) rest_is ∙ sym (append_assoc (parts_bytes before) (part_bytes part) left)
-            ∙ ap (λ b. b ++ left) (ap (λ b. parts_bytes before ++ b) (sym (append-nil (part_bytes part))) ∙ sym (bytes_join before (part ∷ [])));
+            ∙ ap (λ b. b ++ left) (sym (bytes_more before part));
         cuts = cut_more before part left (rw rest_is at c.cuts) is_part;
         section_is = section_more None before part ∙ ap (λ s. section_behind s part) c.section_is ∙ section_held piece.held piece.blanks.now piece.bytes.now left piece.is_line part section is_of;
         counted = entries_join before (part ∷ []) ∙ ap (λ n. n + entries_in (part ∷ [])) c.counted
             ∙ ap (λ n. count + n) (entries_held piece.held piece.blanks.now piece.bytes.now left piece.is_line part section is_of);
       };
-      in_header = sym (last_header before part ∙ header_held piece.held piece.blanks.now piece.bytes.now left piece.is_line part is_of);
+      in_header = sym (last_is_header before part ∙ is_header_held piece.held piece.blanks.now piece.bytes.now left piece.is_line part is_of);
     }
 
 -- a part more that is no entry of the key

@@ -12,7 +12,7 @@ use Rattle.config_edit.specs.declared.piece.Piece.{Piece}
 use Rattle.config_file.specs.Bytes.{is_blank, is_comment_sign, is_comment_byte, BeginsWithLetter}
 use Rattle.config_file.specs.Header.{Section, Header}
 use Rattle.config_file.specs.Runs.{StopsRun}
-use Rattle.config_file.specs.File.{TakesEntry, alone, valued}
+use Rattle.config_file.specs.File.{TakesEntry}
 use Rattle.config_file.specs.Views.{section_of, value_of}
 use Rattle.config_edit.specs.Cut as cut
 use Rattle.config_edit.specs.Cut.{AreBlank, IsComment, absent, present, IsTail, Part, IsPart, Cuts, part_bytes, value_bytes}
@@ -23,8 +23,8 @@ use Rattle.config_file.proofs.OneReading as one
 use Rattle.config_file.proofs.OneReading.{Kind, kind, kind_header, kind_line_end, kind_comment, kind_entry}
 use Rattle.config_file.proofs.OneHeader.{header_only}
 use Rattle.config_file.proofs.OneEntry.{entry_only}
-use Rattle.config_edit.proofs.Pieces.{first_blank, other_blanks, key_joined}
-use Rattle.config_edit.proofs.Changed.{value_ends, both_blank}
+use Rattle.config_edit.proofs.Pieces.{first_blank, other_blanks}
+use Rattle.config_edit.proofs.Changed.{behind, both_blank}
 
 ok_same : {A B : Type 0} {x y : A} → ◌≡◌ {A = Result A B} (Ok x) (Ok y) → x ≡ y
 ok_same e = cc
@@ -42,14 +42,6 @@ pub header_once : {text rest left : List ℕ} {new next : Section} → Header te
 header_once {text = text} {rest = rest} {left = left} {new = new} {next = next} first second =
     let same = header_only text (Ok (new, rest)) (Ok (next, left)) first second in
     let all = ok_same same in (ap (λ p. p.0) all, ap (λ p. p.1) all)
-
--- what precedes the value of an entry, and its bytes
-pub value_at_end : {text key rest : List ℕ} {value : Option (List ℕ)} {lines : ℕ} → TakesEntry text key value lines rest
-    → (between : List ℕ) × (text ≡ (key ++ (between ++ value_bytes value)) ++ rest)
-value_at_end (alone {rest = rest} t end) = (t.spaces, key_joined rest t ∙ simp append-nil)
-value_at_end (valued {b = b} t is_sign value) =
-    let joined = (value_ends value).0 in
-    (t.spaces ++ b ∷ [], simp (t.key_run.joined, t.space_run.joined, joined, append_assoc))
 
 -- the kind of the first byte behind any blanks
 abbrev first_kind : List ℕ → Kind
@@ -324,9 +316,10 @@ part_made (held.Header section) blanks bytes rest is_line all some h =
 part_made (held.Entry parts) blanks bytes rest is_line all some e =
     let key = parts.key.now in
     let value = value_of parts.value in
-    let (between, text_is) = value_at_end e.takes in
+    let b = behind e.takes in
+    let between = b.between in
     let front_is : e.front ≡ key ++ (between ++ value_bytes value) =
-    append_cancel_right e.front (key ++ (between ++ value_bytes value)) parts.rest.now text_is in (
+    append_cancel_right e.front (key ++ (between ++ value_bytes value)) parts.rest.now b.joined in (
       cut.entry blanks key between value e.tail is_line,
       sym (e.joined ∙ ap (λ f. blanks ++ (f ++ e.tail)) front_is),
       (all, rw front_is at (front_letter e.front (rw e.left at e.begins) e.is_tail), (parts.lines, takes_moved front_is e.left e.takes), e.is_tail),

@@ -152,12 +152,6 @@ still_outside : (key : Key) (h : Held) (section : Option Section) → ¬ (IsHead
 still_outside key (held.Header new) section other outside = other
 still_outside key h section other outside = outside
 
--- blanks before an entry
-pub holds_blanks : {section next : Option Section} {contents : List Content} (front blanks : List ℕ) → AreBlank blanks
-    → Holds section front contents next → Holds section (front ++ blanks) contents next
-holds_blanks front blanks all holds =
-    simp append-nil at (holds_join front blanks holds (λ line other. (line, [], blanks_lead blanks all reached.here, refl)))
-
 -- the same text read from another line on has the same entries, on other lines
 relined : {section : Option Section} {line : ℕ} {text : List ℕ} {entries : List Entry}
     → Reads section line text entries None → (other : ℕ)

@@ -21,3 +21,4 @@ mod Renamed
 mod SectionEdits
 mod SectionLaws
 mod SectionTexts
+mod OnePart

@@ -29,7 +29,8 @@ use Rattle.config_edit.specs.Cut as cut
 use Rattle.config_edit.specs.Cut.{parts_bytes, Part, Cuts, IsSplit, HasParts, BecomesParts, EachBecomes, AreBlank, value_bytes}
 use Rattle.config_file.proofs.OneRun.{run_same}
 use Rattle.config_file.specs.File.{after_mark}
-use Rattle.config_edit.proofs.Cuts.{one_cut, one_each, no_part, same_last}
+use Rattle.config_edit.proofs.Cuts.{one_each, no_part, same_last}
+use Rattle.config_edit.proofs.OnePart.{contents_once, end_once, line_end_once, lost_one, parts_once}
 use Rattle.config_edit.proofs.Changed.{some_last, last_holds, parts_blank, last_of}
 use Rattle.config_edit.proofs.Closed.{some_same}
 
@@ -40,17 +41,17 @@ space_once (spec.wanted is) (spec.unwanted other) = absurd (other is)
 space_once (spec.unwanted other) (spec.wanted is) = absurd (other is)
 space_once (spec.unwanted other) (spec.unwanted also) = refl
 
-parts_once : {lead trail also left : List ℕ} → PartsBlanks lead trail → PartsBlanks also left → lead ++ trail ≡ also ++ left
+blanks_once : {lead trail also left : List ℕ} → PartsBlanks lead trail → PartsBlanks also left → lead ++ trail ≡ also ++ left
     → (lead ≡ also) × (trail ≡ left)
-parts_once spec.none spec.none e = (refl, refl)
-parts_once spec.none spec.return e = absurd (cc)
-parts_once spec.none (spec.first other) e = absurd (cc)
-parts_once spec.return spec.none e = absurd (cc)
-parts_once spec.return spec.return e = (refl, refl)
-parts_once spec.return (spec.first other) e = absurd (other (cc, cc))
-parts_once (spec.first other) spec.none e = absurd (cc)
-parts_once (spec.first other) spec.return e = absurd (other (cc, cc))
-parts_once (spec.first other) (spec.first also) e = (cc, cc)
+blanks_once spec.none spec.none e = (refl, refl)
+blanks_once spec.none spec.return e = absurd (cc)
+blanks_once spec.none (spec.first other) e = absurd (cc)
+blanks_once spec.return spec.none e = absurd (cc)
+blanks_once spec.return spec.return e = (refl, refl)
+blanks_once spec.return (spec.first other) e = absurd (other (cc, cc))
+blanks_once (spec.first other) spec.none e = absurd (cc)
+blanks_once (spec.first other) spec.return e = absurd (other (cc, cc))
+blanks_once (spec.first other) (spec.first also) e = (cc, cc)
 
 abbrev EndsSolid : List ℕ → Type 0
 EndsSolid core = (more : List ℕ) (b : ℕ) → core ≡ more ++ b ∷ [] → is_blank b ≡ false
@@ -98,7 +99,7 @@ puts_once (spec.in_place lead trail all is blank s) (spec.behind_key gap t) e = 
 puts_once (spec.in_blanks also left both parts gap t later) (spec.in_place {core = core} lead trail all is blank s) e =
     absurd (solid_within lead core trail (also ++ left) is (sym (some_same e)) both)
 puts_once (spec.in_blanks lead trail all parts gap s later) (spec.in_blanks also left all_too parts_too gap_too t later_too) e =
-    let (leads, trails) = parts_once parts parts_too (some_same e) in
+    let (leads, trails) = blanks_once parts parts_too (some_same e) in
     let gaps = space_once (rw leads at gap) gap_too in
     let laters = space_once (rw trails at later) later_too in
     let spellings = s.1 ∙ sym t.1 in
@@ -124,25 +125,9 @@ gives_once value (cut.entry blanks key between was tail is_line) (bytes, is, put
     put_is ∙ ap (λ x. blanks ++ ((key ++ (between ++ x)) ++ tail)) (value_once is so) ∙ sym other_is
 gives_once value (cut.line tail is_line) first second = absurd first
 
-pub line_end_once : {bytes also a b : List ℕ} {l m : Bool} → IsEndOfLine bytes l a → IsEndOfLine also m b → bytes ≡ also → l ≡ m
-    → a ≡ b
-line_end_once spec.unended spec.unended e f = refl
-line_end_once spec.unended (spec.feed other) e f = absurd (cc)
-line_end_once spec.unended (spec.return_feed front) e f = absurd (cc)
-line_end_once (spec.feed other) spec.unended e f = absurd (cc)
-line_end_once (spec.feed other) (spec.feed also) e f = refl
-line_end_once (spec.feed other) (spec.return_feed front) e f = absurd (other front e)
-line_end_once (spec.return_feed front) spec.unended e f = absurd (cc)
-line_end_once (spec.return_feed front) (spec.feed other) e f = absurd (other front (sym e))
-line_end_once (spec.return_feed front) (spec.return_feed back) e f = refl
-
-leaves_once : {a b : List ℕ} (in_line : Bool) (bytes : List ℕ) (l : Bool) → LeavesEnd in_line bytes l a → LeavesEnd in_line bytes l b → a ≡ b
-leaves_once true bytes l first second = line_end_once first second refl refl
-leaves_once false bytes l first second = first ∙ sym second
-
 replaces_once : {key : Key} {value : List ℕ} {last : ℕ} (before : List Part) (part : Part) (a b : List ℕ)
     → ReplacesPart key value last before part a → ReplacesPart key value last before part b → a ≡ b
-replaces_once before part a b (spec.goes is below end) (spec.goes so below_too end_too) = leaves_once (cut.ends_in_header before) (cut.part_bytes part) (cut.ends_line part) end end_too
+replaces_once before part a b (spec.goes is below end) (spec.goes so below_too end_too) = end_once (cut.ends_in_header before) (cut.part_bytes part) (cut.ends_line part) end end_too
 replaces_once before part a b (spec.goes is below end) (spec.gets so at gives) = absurd (omega arith)
 replaces_once before part a b (spec.goes is below end) (spec.stays other) = absurd (other is)
 replaces_once before part a b (spec.gets is at gives) (spec.goes so below end) = absurd (omega arith)
@@ -153,44 +138,13 @@ replaces_once before part a b (spec.stays other) (spec.gets is at gives) = absur
 replaces_once before part a b (spec.stays other) (spec.stays also) = refl
 
 -- texts
-split_once : {text also mark other a b : List ℕ} → IsSplit text mark a → IsSplit also other b → text ≡ also → (mark ≡ other) × (a ≡ b)
-split_once (cut.unmarked none) (cut.unmarked also) e = (refl, e)
-split_once (cut.unmarked none) (cut.marked is) e = let x = sym none ∙ ap (λ t. after_mark t) e ∙ is in absurd (cc)
-split_once (cut.marked is) (cut.unmarked none) e = let x = sym none ∙ ap (λ t. after_mark t) (sym e) ∙ is in absurd (cc)
-split_once (cut.marked is) (cut.marked so) e = (refl, some_same (sym is ∙ ap (λ t. after_mark t) e ∙ so))
-
 pub becomes_once : {May : List Part → Part → List ℕ → Type 0} {old a b : List ℕ}
     → ((before : List Part) (part : Part) (put other : List ℕ) → May before part put → May before part other → put ≡ other)
     → BecomesParts May old a → BecomesParts May old b → a ≡ b
-becomes_once one (mark, parts, bytes, (body, split, cuts), each, is) (also, others, more, (left, split_too, cuts_too), each_too, so) =
-    let (marks, bodies) = split_once split split_too refl in
-    let same = one_cut left parts others (rw bodies at cuts) cuts_too in
+becomes_once one (mark, parts, bytes, has, each, is) (also, others, more, has_too, each_too, so) =
+    let (marks, same) = parts_once has has_too in
     let news = one_each one each each_too same in
     is ∙ ap (λ m. m ++ bytes) marks ∙ ap (λ n. also ++ n) news ∙ sym so
-
--- the last entry of a key
-fewer : {key : Key} {old new : List Content} → Without key None old new → length new ≤ length old
-fewer spec.none = omega arith
-fewer (spec.lost x {old = old} w is at) = let less = fewer w in let size = length-append old (x ∷ []) in omega arith
-fewer (spec.kept x {old = old} {new = new} w other) =
-    let less = fewer w in let size = length-append old (x ∷ []) in let now = length-append new (x ∷ []) in omega arith
-
-lost_one : {key : Key} {old new : List Content} (before after : List Content) (x : Content) → Without key None old new
-    → old ≡ before ++ x ∷ after → IsOf key x → length new < length old
-lost_one [] after x spec.none e of = absurd (cc)
-lost_one (y ∷ before) after x spec.none e of = absurd (cc)
-lost_one before after x (spec.lost y {old = old} w is at) e of =
-    let less = fewer w in let size = length-append old (y ∷ []) in omega arith
-lost_one {key = key} before after x (spec.kept y {old = old} {new = new} w other) e of = elim (some_last after) [
-  | inl none ↦
-      let (fronts, lasts) = last_of old before y x (e ∙ ap (λ t. before ++ x ∷ t) none) in
-      absurd (other (subst (λ c. IsOf key c) (sym lasts) of, tt))
-  | inr (front, z, is) ↦
-      let (fronts, lasts) = last_of old (before ++ x ∷ front) y z (e ∙ ap (λ t. before ++ x ∷ t) is ∙ sym (append_assoc before (x ∷ front) (z ∷ []))) in
-      let less = lost_one before front x w fronts of in
-      let size = length-append old (y ∷ []) in
-      let now = length-append new (y ∷ []) in omega arith
-]
 
 -- two cuts of a list
 two_cuts : {A : Type 0} (before also after left : List A) (x y : A) → before ++ x ∷ after ≡ also ++ y ∷ left
@@ -324,10 +278,7 @@ line_same name first second marks fronts backs feeds ends heads spellings =
 
 puts_line_once : {key : Key} {value old a b : List ℕ} → PutsLine key value old a → PutsLine key value old b → a ≡ b
 puts_line_once {key = key} {old = old} p q =
-    let (body, split, cuts) = p.has_parts in
-    let (other, split_too, cuts_too) = q.has_parts in
-    let (marks, bodies) = split_once split split_too refl in
-    let parts = one_cut other (p.front ++ p.back) (q.front ++ q.back) (rw bodies at cuts) cuts_too in
+    let (marks, parts) = parts_once p.has_parts q.has_parts in
     let (fronts, backs) = place_once p.is_place q.is_place parts in
     let feeds = feed_once (rw (fronts, backs) at p.is_feed) q.is_feed (front_within q.front q.back) in
     let headeds = headed_once p.is_place q.is_place parts feeds in
@@ -340,10 +291,6 @@ pub added_once : {key : Key} {value old a b : List ℕ} {contents : List Content
 added_once (now, has, adds, puts) (also, has_too, adds_too, puts_too) = puts_line_once puts puts_too
 
 -- edits
-contents_once : {text : List ℕ} {a b : List Content} → HasContents text a → HasContents text b → a ≡ b
-contents_once {text = text} (entries, is, same) (others, also, so) =
-    sym same ∙ ap (λ e. map content e) (one_reading text entries others None None is also).0 ∙ so
-
 edits_once : (Makes : Key → List Content → List ℕ → Type 0) {name old a b : List ℕ}
     → ((key : Key) (contents : List Content) (x y : List ℕ) → Makes key contents x → Makes key contents y → x ≡ y)
     → Edits Makes name old a → Edits Makes name old b → a ≡ b

@@ -13,7 +13,7 @@ use Rattle.config_edit.specs.declared.EditError.{EditError}
 use Rattle.config_edit.specs.declared.EditError.TheVariants as error
 use Rattle.config_edit.specs.Edit as spec
 use Rattle.config_edit.specs.Edit.{Content, content, HasContents, IsOf, RefusesEdit, IsMemory, Without, HasSeveral, HasNone}
-use Rattle.config_edit.proofs.TakenOut.{split_last, none_part}
+use Rattle.config_edit.proofs.OnePart.{contents_once, lost_one}
 
 headless : {name : List ℕ} {a b : Key} → IsKey name a → HasNoHeader a.section a.subsection → IsKey name b
     → ¬ (HasNoHeader b.section b.subsection) → ⊥
@@ -33,33 +33,9 @@ fileless : {text : List ℕ} {entries others : List Entry} {a : FileError} → I
     → IsFile text others None → ⊥
 fileless first second = let e = (one_reading _ _ _ _ _ first second).1 in cc
 
-contents_once : {text : List ℕ} {xs ys : List Content} → HasContents text xs → HasContents text ys → xs ≡ ys
-contents_once (entries, is_file, xs_are) (others, also, ys_are) =
-    sym xs_are ∙ ap (λ e. map content e) (one_reading _ _ _ _ _ is_file also).0 ∙ ys_are
-
--- contents out of which an entry of the key goes are fewer
-at_most : {key : Key} {places : Option (List ℕ)} {old new : List Content} → Without key places old new → length new ≤ length old
-at_most spec.none = omega arith
-at_most (spec.lost x {old = old} w is at) = let less = at_most w in omega (arith, length-append old (x ∷ []))
-at_most (spec.kept x {old = old} {new = new} w other) =
-    let less = at_most w in omega (arith, length-append old (x ∷ []), length-append new (x ∷ []))
-
-fewer : {key : Key} {old new : List Content} → Without key None old new → (before after : List Content) (x : Content)
-    → old ≡ before ++ x ∷ after → IsOf key x → length new < length old
-fewer spec.none before after x e is = absurd (none_part before after x e)
-fewer (spec.lost y {old = old} w of at) before after x e is =
-    let less = at_most w in omega (arith, length-append old (y ∷ []))
-fewer (spec.kept y {old = old} {new = new} w other) before after x e is =
-    elim (split_last old before after y x e) [
-      | inl same ↦ absurd (other (rw same.1 at is, tt))
-      | inr (left, old_is) ↦
-          let less = fewer w before left x old_is is in
-          omega (arith, length-append old (y ∷ []), length-append new (y ∷ []))
-    ]
-
 pub none_of_several : (key : Key) (contents : List Content) → HasSeveral key contents → HasNone key contents → ⊥
 none_of_several key contents (before, between, after, x, y, e, is, so) none =
-    let less = fewer none before (between ++ y ∷ after) x e is in absurd (omega arith)
+    let less = lost_one before (between ++ y ∷ after) x none e is in absurd (omega arith)
 
 module _ (S A : Key → List Content → Type 0) (name text : List ℕ) (value : Option (List ℕ))
     (apart : (key : Key) (contents : List Content) → S key contents → ¬ (A key contents)) where

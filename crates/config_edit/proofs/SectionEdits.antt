@@ -26,10 +26,6 @@ pub no_file_renamed : (old new text : List ℕ) (e : EditError) → ¬ (LacksHea
 no_file_renamed old new text (error.File e) has refused = (has, refused)
 no_file_renamed old new text e has refused = absurd refused
 
-pub no_file_removed : (name text : List ℕ) (e : EditError) → RefusesText text e → RefusesRemoval name text e
-no_file_removed name text (error.File e) refused = refused
-no_file_removed name text e refused = absurd refused
-
 -- a section that has its name already
 pub same_name : {text mark body old_name new_name edited : List ℕ} {parts : List Part} (from : Key) → IsSplit text mark body
     → NamesSection old_name from → Cuts body parts → ¬ (NoneIs (IsHeaderIn from) parts)

@@ -14,22 +14,10 @@ use Rattle.config_edit.specs.Cut.{Part, Cuts, IsSplit, HasParts}
 use Rattle.config_edit.specs.Sections.{RenamesParts, Clears, RenamesSection, RemovesSection, NamesSection}
 use Rattle.config_edit.specs.Sections.{NoneIs, IsHeaderIn, LacksSection, RefusesRenaming, RefusesRemoval}
 use Rattle.config_edit.specs.Edit.{HasOneReason, IsMemory}
-use Rattle.config_edit.proofs.Cuts.{one_cut}
+use Rattle.config_edit.proofs.OnePart.{parts_once}
 use Rattle.config_edit.proofs.PartsRead.{cuts_end}
 use Rattle.config_edit.proofs.Renamed.{one_renaming}
 use Rattle.config_edit.proofs.Cleared.{cleared_reads, one_clearing}
-
-split_once : {text m n a b : List ℕ} → IsSplit text m a → IsSplit text n b → (m ≡ n) × (a ≡ b)
-split_once (cut.unmarked none) (cut.unmarked other) = (refl, refl)
-split_once {a = a} {b = b} (cut.marked is) (cut.marked so) =
-    let some : Some a ≡ Some b = sym is ∙ so in (refl, cc)
-split_once {b = b} (cut.unmarked none) (cut.marked so) = let never : None ≡ Some b = sym none ∙ so in cc
-split_once {a = a} (cut.marked is) (cut.unmarked none) = let never : None ≡ Some a = sym none ∙ is in cc
-
-pub parts_once : {text m n : List ℕ} {a b : List Part} → HasParts text m a → HasParts text n b → (m ≡ n) × (a ≡ b)
-parts_once {a = a} {b = b} (body, split, cuts) (other, so, also) =
-    let (marks, bodies) = split_once split so in
-    (marks, one_cut other a b (rw bodies at cuts) also)
 
 -- what a text becomes, of which parts have become these bytes
 pub renamed_is : {old_name new_name old new mark right : List ℕ} {parts : List Part} (from to : Key)

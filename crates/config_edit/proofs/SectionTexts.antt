@@ -172,21 +172,21 @@ no_comments = spec.lines line_end [] (λ front last e. absurd (no_part front las
 pub alone_removed : (new : List ℕ) → RemovesSection (codes "a") (codes "[a]\n") new → new ≡ []
 alone_removed new =
     removed_is (codes "a") {new = new} a a_is (unmarked (at_a (at_end cut.ends)) refl)
-    (spec.lost {next = []} (header_of 97) (line_end ∷ []) [] in_a (λ h. h, tt) (inr (refl, refl)) ends_at_feed spec.none)
+    (spec.lost {next = []} (header_of 97) (line_end ∷ []) [] in_a refl (inr (refl, refl)) ends_at_feed spec.none)
 
 a_goes : {next : List Part} {new : List ℕ} → BeginsWithHeader next → Clears a false next new
     → Clears a false (header_of 97 ∷ line_end ∷ next) new
 a_goes begins c =
-    spec.lost (header_of 97) (line_end ∷ []) [] in_a (λ h. h, tt) (inl (begins, no_comments)) ends_at_feed c
+    spec.lost (header_of 97) (line_end ∷ []) [] in_a refl (inl (begins, no_comments)) ends_at_feed c
 
 pub both_removed : (new : List ℕ) → RemovesSection (codes "a") (codes "[a]\n[a]\nk=1\n") new → new ≡ []
 both_removed new =
     removed_is (codes "a") {new = new} a a_is (unmarked (at_a (at_end (at_a (at_end (at_k1 cut.ends))))) refl)
-    (a_goes tt (spec.lost {next = []} (header_of 97) (line_end ∷ k1 ∷ []) [] in_a (λ h. h, (λ h. h, tt)) (inr (refl, refl)) ends_at_k1
+    (a_goes refl (spec.lost {next = []} (header_of 97) (line_end ∷ k1 ∷ []) [] in_a refl (inr (refl, refl)) ends_at_k1
     spec.none))
 
 pub between_removed : (new : List ℕ) → RemovesSection (codes "a") (codes "[b]\n[a]\n[c]\n") new → new ≡ codes "[b]\n[c]\n"
 between_removed new =
     removed_is (codes "a") {new = new} a a_is (unmarked (at_b (at_end (at_a (at_end (at_c (at_end cut.ends)))))) refl)
-    (spec.kept (header_of 98) not_b (spec.kept line_end (λ h. h) (a_goes tt
+    (spec.kept (header_of 98) not_b (spec.kept line_end (λ h. h) (a_goes refl
     (spec.kept (header_of 99) not_c (spec.kept line_end (λ h. h) spec.none)))))

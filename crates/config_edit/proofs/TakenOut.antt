@@ -14,21 +14,22 @@ use Rattle.config_file.specs.Header.{Section}
 use Rattle.config_file.specs.Key.{Key}
 use Rattle.config_edit.specs.Cut as cut
 use Rattle.config_edit.specs.Cut.{Part, IsTail, IsComment, absent, present, HasComment, Cuts, EachBecomes, part_bytes, parts_bytes}
-use Rattle.config_edit.specs.Cut.{ends_line, ends_in_header, entries_in, section_from, section_behind}
+use Rattle.config_edit.specs.Cut.{ends_line, ends_in_header, entries_in, section_from, section_behind, is_header, HaveNoHeader}
 use Rattle.config_edit.specs.Edit as edit
 use Rattle.config_edit.specs.Edit.{IsPlaceOf, IsEndOfLine}
 use Rattle.config_edit.specs.Unset as spec
 use Rattle.config_edit.specs.Unset.{Goes, LeavesEnd, Leaves, IsBlankPart, EndsInComment, IsBelowComment, LosesOf, KeepsNone}
-use Rattle.config_edit.specs.Unset.{LeavesEmptied, SectionBecomes, is_header, HaveNoHeader, TakesOut}
+use Rattle.config_edit.specs.Unset.{LeavesEmptied, SectionBecomes, TakesOut}
 use Rattle.config_edit.specs.Reading as read
 use Rattle.config_edit.specs.Reading.{IsPiece, IsMade, EndsInCommentHeld, IsEntryHeld, IsBegun, IsPushed, IsFinished}
-use Rattle.config_edit.specs.Reading.{IsSection, AreTaken, TakesParts, is_blank_held, contents_in}
+use Rattle.config_edit.specs.Reading.{IsSection, AreTaken, TakesParts, is_blank_held, contents_in, holds_header}
 use Rattle.config_file.proofs.LineEnds.{not_none}
 use Rattle.config_edit.proofs.Pieces.{comment_behind}
 use Rattle.config_edit.specs.Cut.{AreBlank, IsPart}
 use Rattle.config_edit.proofs.Cuts.{IsPartOf, part_of, tail_behind, cut_more, section_more, no_part, same_last}
 use Rattle.config_edit.proofs.Cuts.{one_each}
-use Rattle.config_edit.proofs.SectionLaws.{parts_once}
+use Rattle.config_edit.proofs.CutLoops.{bytes_more, entries_join, has_header, last_is_header, no_header_more}
+use Rattle.config_edit.proofs.OnePart.{end_once, parts_once}
 use Rattle.config_edit.specs.Unset.{IsTakenOut}
 
 not_true : (b : Bool) → ¬ (b ≡ true) → b ≡ false
@@ -58,44 +59,6 @@ split_last (x ∷ body) (y ∷ front) back last part e =
       | inl same ↦ inl (rw (heads, same.0) refl, same.1)
       | inr (left, is) ↦ inr (left, rw (heads, is) refl)
     ]
-
-header_step : (first second : Part) (parts : List Part)
-    → ends_in_header (first ∷ second ∷ parts) ≡ ends_in_header (second ∷ parts)
-header_step (cut.header blanks section inner) second parts = refl
-header_step (cut.entry blanks key between value tail l) second parts = refl
-header_step (cut.line tail l) second parts = refl
-
-header_last : (parts : List Part) (last : Part) → ends_in_header (parts ++ last ∷ []) ≡ is_header last
-header_last [] (cut.header blanks section inner) = refl
-header_last [] (cut.entry blanks key between value tail l) = refl
-header_last [] (cut.line tail l) = refl
-header_last (first ∷ []) last = header_step first last [] ∙ header_last [] last
-header_last (first ∷ second ∷ parts) last =
-    header_step first second (parts ++ last ∷ []) ∙ header_last (second ∷ parts) last
-
-entries_more : (parts : List Part) (last : Part) → entries_in (parts ++ last ∷ []) ≡ entries_in parts + entries_in (last ∷ [])
-entries_more [] last = omega arith
-entries_more (cut.header blanks section inner ∷ parts) last = entries_more parts last
-entries_more (cut.entry blanks key between value tail l ∷ parts) last =
-    let more = entries_more parts last in omega arith
-entries_more (cut.line tail l ∷ parts) last = entries_more parts last
-
-bytes_more : (parts : List Part) (last : Part) → parts_bytes (parts ++ last ∷ []) ≡ parts_bytes parts ++ part_bytes last
-bytes_more [] last = append-nil (part_bytes last)
-bytes_more (first ∷ parts) last =
-    ap (λ b. part_bytes first ++ b) (bytes_more parts last) ∙ sym (append_assoc (part_bytes first) (parts_bytes parts) (part_bytes last))
-
-no_header_more : (parts : List Part) (last : Part) → HaveNoHeader parts → is_header last ≡ false → HaveNoHeader (parts ++ last ∷ [])
-no_header_more parts last all other =
-    list_all-append (λ part. not (is_header part)) parts (last ∷ []) ∙ rw (all, other) refl
-
-has_header : (parts back : List Part) (part : Part) → HaveNoHeader (parts ++ part ∷ back) → is_header part ≡ true → ⊥
-has_header parts back part all is =
-    let test = λ (part : Part). not (is_header part) in
-    let (front, later) = and_parts (list_all test parts) (list_all test (part ∷ back))
-    (sym (list_all-append test parts (part ∷ back)) ∙ all) in
-    let here = (and_parts (test part) (list_all test back) later).0 in
-    true≢false (sym here ∙ ap not is)
 
 no_section : (before : Option Section) (parts : List Part) → HaveNoHeader parts → section_from before parts ≡ before
 no_section before [] all = refl
@@ -189,10 +152,6 @@ tail_comment {tail = tail} {rest = rest} t = (
 )
 
 -- ---- the part that a piece is
-
-abbrev holds_header : Held → Bool
-holds_header (held.Header section) = true
-holds_header h = false
 
 record Fits (key : Key) (places : Option (List ℕ)) (before : List Part) (section : Option Section) (index : ℕ) (h : Held)
     (is_line : Bool) (part : Part) : Type 0 where
@@ -472,7 +431,7 @@ module _ {key : Key} {places : Option (List ℕ)} {text rest new : List ℕ} {se
         parts = p.parts ++ part ∷ [];
         cuts = cut_more p.parts part piece.rest.now (λ later c. p.cuts later (subst (λ t. Cuts t later) rest_is c)) is_part;
         section_is = sym f.section_next ∙ ap (λ s. section_behind s part) p.section_is ∙ sym (section_more None p.parts part);
-        index_is = next_is ∙ rw (p.index_is, ← f.entries) (sym (entries_more p.parts part));
+        index_is = next_is ∙ rw (p.index_is, ← f.entries) (sym (entries_join p.parts (part ∷ [])));
         below_is = (
           λ e. more.0 (elim (below.0 e) [
             | inl ends ↦ inl (f.ends.1 ends)
@@ -483,7 +442,7 @@ module _ {key : Key} {places : Option (List ℕ)} {text rest new : List ℕ} {se
             | inr (blank, was) ↦ inr (f.blank.0 blank, p.below_is.1 was)
           ]),
         );
-        in_head = in_head ∙ sym (header_last p.parts part);
+        in_head = in_head ∙ sym (last_is_header p.parts part);
         taken = taken;
       }
 
@@ -593,24 +552,9 @@ taken_ends p none done =
 
 -- ---- what is taken out is determined
 
-line_end_once : {bytes other a b : List ℕ} {l m : Bool} → IsEndOfLine bytes l a → IsEndOfLine other m b → bytes ≡ other → l ≡ m → a ≡ b
-line_end_once edit.unended edit.unended e same = refl
-line_end_once edit.unended (edit.feed never) e same = absurd (true≢false (sym same))
-line_end_once edit.unended (edit.return_feed front) e same = absurd (true≢false (sym same))
-line_end_once (edit.feed never) edit.unended e same = absurd (true≢false same)
-line_end_once (edit.feed never) (edit.feed also) e same = refl
-line_end_once (edit.feed never) (edit.return_feed front) e same = absurd (never front e)
-line_end_once (edit.return_feed front) edit.unended e same = absurd (true≢false same)
-line_end_once (edit.return_feed front) (edit.feed never) e same = absurd (never front (sym e))
-line_end_once (edit.return_feed front) (edit.return_feed back) e same = refl
-
-end_once : (stays : Bool) (bytes a b : List ℕ) (l : Bool) → LeavesEnd stays bytes l a → LeavesEnd stays bytes l b → a ≡ b
-end_once true bytes a b l first second = line_end_once first second refl refl
-end_once false bytes a b l first second = first ∙ sym second
-
 module _ (key : Key) (places : Option (List ℕ)) where
   leaves_once : (before : List Part) (part : Part) (a b : List ℕ) → Leaves key places before part a → Leaves key places before part b → a ≡ b
-  leaves_once before part a b (inl (goes, end)) (inl (also, other)) = end_once (ends_in_header before) (part_bytes part) a b (ends_line part) end other
+  leaves_once before part a b (inl (goes, end)) (inl (also, other)) = end_once (ends_in_header before) (part_bytes part) (ends_line part) end other
   leaves_once before part a b (inl (goes, end)) (inr (never, is)) = absurd (never goes)
   leaves_once before part a b (inr (never, is)) (inl (goes, end)) = absurd (never goes)
   leaves_once before part a b (inr (never, is)) (inr (nor, so)) = is ∙ sym so
@@ -618,7 +562,7 @@ module _ (key : Key) (places : Option (List ℕ)) where
   emptied_once : (done before : List Part) (part : Part) (a b : List ℕ)
       → LeavesEmptied key places done before part a → LeavesEmptied key places done before part b → a ≡ b
   emptied_once done [] part a b is so = is ∙ sym so
-  emptied_once done (top ∷ []) part a b is so = end_once (ends_in_header done) (part_bytes part) a b (ends_line part) is so
+  emptied_once done (top ∷ []) part a b is so = end_once (ends_in_header done) (part_bytes part) (ends_line part) is so
   emptied_once done (top ∷ first ∷ front) part a b is so = leaves_once (done ++ top ∷ first ∷ front) part a b is so
 
   section_once : (before body : List Part) (top : Part) (a b : List ℕ)

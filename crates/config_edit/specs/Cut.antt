@@ -1,5 +1,5 @@
 -- A text cut in its parts, of which an edit says what each becomes.
-use Rattle.std.specs.Prelude.{◌≡◌, ◌≢◌, ℕ, ◌+◌, Bool, true, false, List, [], ◌∷◌, ◌++◌, Option, Some, None, ◌⊎◌}
+use Rattle.std.specs.Prelude.{◌≡◌, ◌≢◌, ℕ, ◌+◌, Bool, true, false, not, List, [], ◌∷◌, ◌++◌, Option, Some, None, ◌⊎◌}
 use Rattle.std.specs.List.{list_all}
 use Rattle.config_file.specs.Bytes.{line_feed, left_bracket, is_blank, is_comment_sign, is_comment_byte, BeginsWithLetter}
 use Rattle.config_file.specs.Header.{Section, Header}
@@ -85,11 +85,17 @@ ends_line (header blanks section inner) = false
 ends_line (entry blanks key between value tail is_line) = is_line
 ends_line (line tail is_line) = is_line
 
+abbrev pub is_header : Part → Bool
+is_header (header blanks section inner) = true
+is_header _ = false
+
+abbrev pub HaveNoHeader : List Part → Type 0
+HaveNoHeader parts = list_all (λ part. not (is_header part)) parts ≡ true
+
 -- whether the last of these parts is a header, so that the next one is on its line
 abbrev pub ends_in_header : List Part → Bool
 ends_in_header [] = false
-ends_in_header (header blanks section inner ∷ []) = true
-ends_in_header (last ∷ []) = false
+ends_in_header (last ∷ []) = is_header last
 ends_in_header (first ∷ second ∷ parts) = ends_in_header (second ∷ parts)
 
 -- how many entries are among these parts

@@ -33,10 +33,10 @@ use Rattle.config_file.specs.Value.{outside, at_backslash, SpellsValue, line_fee
 use Rattle.config_edit.specs.Edit.{Content, content, LosesOne, IsEntry, IsEnd}
 use Rattle.config_edit.specs.Cut as cut
 use Rattle.config_edit.specs.Cut.{AreBlank, HasComment, IsTail, Part, Cuts, EachBecomes, part_bytes, parts_bytes, ends_in_header, entries_in}
-use Rattle.config_edit.specs.Cut.{value_bytes, section_from}
-use Rattle.config_edit.specs.Sections.{IsHeaderIn, IsHeaderPart, NoneIs, RenamesParts, Clears, LastEnd, EndsInComments}
+use Rattle.config_edit.specs.Cut.{value_bytes, section_from, is_header, HaveNoHeader}
+use Rattle.config_edit.specs.Sections.{IsHeaderIn, NoneIs, RenamesParts, Clears, LastEnd, EndsInComments}
 use Rattle.config_edit.specs.Sections.{BeginsWithHeader}
-use Rattle.config_edit.specs.Unset.{is_header, HaveNoHeader, Leaves, LeavesEmptied, LosesOf, KeepsNone, IsBelowComment, TakesOut}
+use Rattle.config_edit.specs.Unset.{Leaves, LeavesEmptied, LosesOf, KeepsNone, IsBelowComment, TakesOut}
 use Rattle.config_edit.specs.Edit.{IsIn, IsOf, HasValue, Without, HasNone, HasNoneAt, LeavesEnd}
 use Rattle.config_edit.specs.Edit.{IsPlaceOf, HasSeveral, Replaces, SameEntry, NoneIn}
 use Rattle.config_edit.specs.Edit.{IsLineEnd, AddsContent, entry_line, PutsValue, ReplacesPart, HasOne}
@@ -551,7 +551,7 @@ pub record IsLost (key : Key) (text rest new : List ℕ) (lost : Lost) (in_line 
   pub behind : IsBehind text rest (before ++ head ∷ body)
   pub clears : ClearsUpTo BeginsWithHeader key before new in_line
   pub is_header : IsHeaderIn key head
-  pub no_header : NoneIs IsHeaderPart body
+  pub no_header : HaveNoHeader body
   pub cut : lost.comments.now ≡ parts_bytes comments ++ rest
   pub ends : EndsInComments body comments
   pub last_end : LastEnd (head ∷ body) lost.line_end.now

@@ -8,13 +8,8 @@ use Rattle.config_file.specs.Header.{Section}
 use Rattle.config_file.specs.File.{Entry, IsFile}
 use Rattle.config_file.specs.Key.{Key, IsKey}
 use Rattle.config_file.specs.Spelling.{SpellsSection, HasNoHeader, spelled_section}
-use Rattle.config_edit.specs.Cut.{Part, header, line, part_bytes, parts_bytes, ends_line, HasComment, HasParts}
+use Rattle.config_edit.specs.Cut.{Part, header, line, part_bytes, parts_bytes, ends_line, HasComment, HasParts, is_header, HaveNoHeader}
 use Rattle.config_edit.specs.Edit.{Content, HasContents, IsIn, WithoutIn, IsEndOfLine}
-
--- the part is a header
-abbrev pub IsHeaderPart : Part → Type 0
-IsHeaderPart (header blanks section inner) = ⊤
-IsHeaderPart _ = ⊥
 
 -- the part is a header of a section of the key
 abbrev pub IsHeaderIn : Key → Part → Type 0
@@ -61,7 +56,7 @@ pub data EndsInComments : List Part → List Part → Type 0 where
 
 abbrev pub BeginsWithHeader : List Part → Type 0
 BeginsWithHeader [] = ⊥
-BeginsWithHeader (part ∷ parts) = IsHeaderPart part
+BeginsWithHeader (part ∷ parts) = is_header part ≡ true
 
 -- what stays of the body of a section that goes: the comment lines directly above the next header, or nothing at the
 -- end of the text
@@ -95,7 +90,7 @@ pub data Clears (key : Key) : Bool → List Part → List ℕ → Type 0 where
       → ¬ (IsHeaderIn key part) → Clears key (not (ends_line part)) parts new
       → Clears key goes_on (part ∷ parts) (part_bytes part ++ new)
   lost : {goes_on : Bool} {next : List Part} {end new : List ℕ} (head : Part) (body comments : List Part)
-      → IsHeaderIn key head → NoneIs IsHeaderPart body → Stays body next comments → LastEnd (head ∷ body) end
+      → IsHeaderIn key head → HaveNoHeader body → Stays body next comments → LastEnd (head ∷ body) end
       → Clears key (goes_on_behind goes_on end) next new
       → Clears key goes_on (head ∷ (body ++ next)) ((end_of goes_on end ++ parts_bytes comments) ++ new)
 

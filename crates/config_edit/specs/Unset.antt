@@ -1,9 +1,8 @@
 -- A text out of which entries of a key are taken, and the headers of sections that they leave empty.
-use Rattle.std.specs.Prelude.{◌≡◌, ℕ, Bool, true, false, not, List, [], ◌∷◌, ◌++◌, Option, Some, None, ◌⊎◌}
-use Rattle.std.specs.List.{list_all}
+use Rattle.std.specs.Prelude.{◌≡◌, ℕ, Bool, true, false, List, [], ◌∷◌, ◌++◌, Option, Some, None, ◌⊎◌}
 use Rattle.config_file.specs.Key.{Key}
 use Rattle.config_edit.specs.Cut.{Part, header, entry, line, part_bytes, parts_bytes, ends_line, ends_in_header, entries_in}
-use Rattle.config_edit.specs.Cut.{section_after, HasComment, HasParts, EachBecomes}
+use Rattle.config_edit.specs.Cut.{section_after, HasComment, HasParts, EachBecomes, is_header, HaveNoHeader}
 use Rattle.config_edit.specs.Edit.{Content, HasContents, Edits, IsOf, IsPlaceOf, IsEndOfLine, LosesOne, Without}
 pub use Rattle.config_edit.specs.Edit.{LeavesEnd}
 
@@ -67,13 +66,6 @@ SectionBecomes key places before top body put =
     (IsEmptied key places before top body × EachBecomes (LeavesEmptied key places before) (top ∷ body) put)
     ⊎ (¬ (IsEmptied key places before top body)
     × EachBecomes (λ front. Leaves key places (before ++ front)) (top ∷ body) put)
-
-abbrev pub is_header : Part → Bool
-is_header (header blanks section inner) = true
-is_header _ = false
-
-abbrev pub HaveNoHeader : List Part → Type 0
-HaveNoHeader parts = list_all (λ part. not (is_header part)) parts ≡ true
 
 -- What becomes of the parts of a text, a section after the other: what precedes the first header stays.
 pub data TakesOut (key : Key) (places : Option (List ℕ)) : List Part → List ℕ → Type 0 where
