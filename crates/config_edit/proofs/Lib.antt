@@ -21,4 +21,5 @@ mod Renamed
 mod SectionEdits
 mod SectionLaws
 mod SectionTexts
+mod Literals
 mod OnePart

@@ -396,6 +396,11 @@ Decides name value text =
 abbrev pub Has : List Change → Change → Type 0
 Has changes change = (before after : List Change) × (changes ≡ before ++ change ∷ after)
 
+-- the change is of the entry behind this many, and gives it this last part of its key, this value and this comment, if any
+abbrev pub IsChange : Change → ℕ → Option (List ℕ) → Option (List ℕ) → Option (List ℕ) → Type 0
+IsChange change entry name value comment = (change.entry ≡ entry) × (option_copied change.name ≡ name)
+    × (option_copied change.value ≡ value) × (option_copied change.comment ≡ comment)
+
 -- an entry before and after a change: it has the last part of the key and the value of the change, where that has them
 abbrev pub IsChanged : Change → Content → Content → Type 0
 IsChanged change x y = (y.0 ≡ x.0) × MatchOption (option_copied change.name) (y.1 ≡ x.1) (λ name. y.1 ≡ name)

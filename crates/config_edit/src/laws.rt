@@ -3,10 +3,11 @@ ghost use Rattle.std.specs.Prelude.{ℕ, List, [], codes, ◌≡◌, ◌≤◌, 
 ghost use Rattle.config_file.specs.Bytes.{BeginsWithLetter, is_comment_byte, is_comment_sign};
 ghost use Rattle.config_file.specs.Runs.{Run};
 ghost use Rattle.config_file.specs.Header.{Section};
-ghost use Rattle.config_edit.specs.Edit.{AddsOne, ChangesEntries, Content, Decides, HasNone, HasNoneAt, HasOneReason, HasSeveral, Never, RefusesEdit, ReplacesAll, Sets};
+ghost use Rattle.config_edit.specs.Edit.{AddsOne, ChangesEntries, Content, Decides, HasNone, HasNoneAt, HasOneReason, HasSeveral, IsChange, Never, RefusesEdit, ReplacesAll, Sets};
 ghost use Rattle.config_edit.specs.Unset.{Unsets, UnsetsAll, UnsetsEach};
 ghost use Rattle.config_edit.specs.Cut.{Cuts, Part};
 ghost use Rattle.config_edit.specs.Sections.{LacksSection, RefusesRemoval, RefusesRenaming, RemovesSection, RenamesSection};
+ghost use Rattle.config_edit.specs.declared.EditError.TheVariants.{Absent};
 ghost use Rattle.config_text.specs.Orders.{IsCopied};
 
 use crate::Change;
@@ -54,6 +55,7 @@ pub fn renamed_texts()
         → new ≡ codes "[b]\n[b]\nk=1\n" }
     ensures subsection { (new : List ℕ) → RenamesSection (codes "a") (codes "b.C") (codes "[a]\nk=1\n") new
         → new ≡ codes "[b \"C\"]\nk=1\n" }
+    ensures not_absent { RefusesRenaming (codes "a") (codes "b") (codes "[a]\n") Absent → ⊥ }
 {}
 
 /// Sections that go: Git writes the same texts.
@@ -62,12 +64,57 @@ pub fn removed_texts()
     ensures both { (new : List ℕ) → RemovesSection (codes "a") (codes "[a]\n[a]\nk=1\n") new → new ≡ [] }
     ensures between { (new : List ℕ) → RemovesSection (codes "a") (codes "[b]\n[a]\n[c]\n") new
         → new ≡ codes "[b]\n[c]\n" }
+    ensures not_absent { RefusesRemoval (codes "a") (codes "[a]\n") Absent → ⊥ }
 {}
 
-/// Results that lose a comment are none of `set`.
-pub fn refused()
-    ensures behind { Sets (codes "a.k") (codes "2") (codes "[a]\nk =# me\n") (codes "[a]\nk =2\n") → ⊥ }
-    ensures below { Sets (codes "a.k") (codes "2") (codes "[a]\nk = 1 # me\n\n# About b\n[b]\nl=3\n") (codes "[a]\nk = 2\n[b]\nl=3\n") → ⊥ }
+/// What `set` makes of some texts, one of them of git-config(1), and what it does not make of them.
+pub fn set_texts()
+    ensures empty { Sets (codes "a.k") (codes "2") (codes "[a]\nk =# me\n") (codes "[a]\nk = 2 # me\n") }
+    ensures commented { Sets (codes "a.k") (codes "2") (codes "[a]\nk = 1 # me\n\n# About b\n[b]\nl=3\n")
+        (codes "[a]\nk = 2 # me\n\n# About b\n[b]\nl=3\n") }
+    ensures below_comment { Sets (codes "core.filemode") (codes "true") (codes "[core]\n\t; Don't trust file modes\n\tfilemode = false\n")
+        (codes "[core]\n\t; Don't trust file modes\n\tfilemode = true\n") }
+    ensures no_comment_lost { Sets (codes "a.k") (codes "2") (codes "[a]\nk =# me\n") (codes "[a]\nk =2\n") → ⊥ }
+    ensures no_lines_lost { Sets (codes "a.k") (codes "2") (codes "[a]\nk = 1 # me\n\n# About b\n[b]\nl=3\n")
+        (codes "[a]\nk = 2\n[b]\nl=3\n") → ⊥ }
+{}
+
+/// What `replace_all` makes of some texts, one of them of git-config(1), and what it does not make of them.
+pub fn replaced_texts()
+    ensures commented { ReplacesAll (codes "a.k") (codes "2") (codes "# Do not touch\n[a]\nk =1 # me\n# x\n")
+        (codes "# Do not touch\n[a]\nk =2 # me\n# x\n") }
+    ensures several { ReplacesAll (codes "a.k") (codes "3") (codes "[a]\n\tk = 1\n\tj = 0\n\tk = 2\n")
+        (codes "[a]\n\tj = 0\n\tk = 3\n") }
+    ensures with_comment { ReplacesAll (codes "core.gitproxy") (codes "ssh")
+        (codes "[core]\n\tgitproxy=proxy-command for kernel.org\n\tgitproxy=default-proxy ; for all the rest\n")
+        (codes "[core]\n\tgitproxy=ssh ; for all the rest\n") }
+    ensures no_comment_changed { ReplacesAll (codes "a.k") (codes "2") (codes "# Do not touch\n[a]\nk =1 # me\n# x\n")
+        (codes "# 2\n[a]\nk =2\n") → ⊥ }
+{}
+
+/// What `add` makes of some texts, as Git does, one of them of git-config(1), and what it does not make of them.
+pub fn added_texts()
+    ensures above_comment { AddsOne (codes "a.k") (codes "1") (codes "[a]\n# b # c\n") (codes "[a]\n\tk = 1\n# b # c\n") }
+    ensures new_section { AddsOne (codes "a.k") (codes "1") (codes "[b]\n\tl = 3") (codes "[b]\n\tl = 3\n[a]\n\tk = 1\n") }
+    ensures behind_comment { AddsOne (codes "core.gitproxy") (codes "\"proxy-command\" for example.com")
+        (codes "[core]\n\tgitproxy=default-proxy ; for all the rest\n\n; HTTP\n[http]\n\tsslVerify\n")
+        (codes "[core]\n\tgitproxy=default-proxy ; for all the rest\n\tgitproxy = \\\"proxy-command\\\" for example.com\n\n; HTTP\n[http]\n\tsslVerify\n") }
+    ensures no_comment_cut { AddsOne (codes "a.k") (codes "1") (codes "[a]\n# b # c\n") (codes "[a]\n# b \r\n\tk = 1\r\n# c\n") → ⊥ }
+    ensures no_other_spelling { AddsOne (codes "a.k") (codes "1") (codes "[a]\n# b # c\n") (codes "[a]\n\tk = \"\\\n1\"\n# b # c\n") → ⊥ }
+{}
+
+/// What `change_entries` makes of some texts, as Git does, one of them of git-config(1), and what it does not make of them.
+pub fn changed_texts()
+    ensures commented { (change : Change) → IsChange change 0 None (Some (codes "2")) None
+        → ChangesEntries (change ∷ []) (codes "[a]\nk=1# me\n") (codes "[a]\nk=2# me\n") }
+    ensures several { (first second : Change) → IsChange first 0 (Some (codes "email")) None None
+        → IsChange second 1 None (Some (codes "C")) (Some (codes "mine"))
+        → ChangesEntries (first ∷ second ∷ []) (codes "[user]\n\temial = A # me\n\tname = B\n")
+        (codes "[user]\n\temail = A # me\n\tname = C # mine\n") }
+    ensures key_alone { (change : Change) → IsChange change 0 None (Some (codes "false")) None
+        → ChangesEntries (change ∷ []) (codes "[http]\n\tsslVerify\n") (codes "[http]\n\tsslVerify = false\n") }
+    ensures no_comment_lost { (change : Change) → IsChange change 0 None (Some (codes "2")) None
+        → ¬ (ChangesEntries (change ∷ []) (codes "[a]\nk=1# me\n") (codes "[a]\nk=2\n")) }
 {}
 
 /// An edit that takes entries of a key out has one result.
