@@ -1,1 +1,4 @@
 mod LineLemmas
+mod GivenLemmas
+mod ChoiceLemmas
+mod TypeLemmas

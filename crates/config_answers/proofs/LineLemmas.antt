@@ -1,21 +1,23 @@
 -- The lines of settings, one by one.
-use Rattle.std.proofs.Common.{◌≡◌, ◌≢◌, ◌≤◌, ◌<◌, ◌+◌, ◌++◌, ◌∙◌, ℕ, zero, suc, Bool, true, false, List, [], ◌∷◌}
+use Rattle.std.proofs.Common.{◌≡◌, ◌≢◌, ◌<◌, ◌+◌, ◌++◌, ◌∙◌, ℕ, zero, suc, Bool, true, false, List, [], ◌∷◌}
 use Rattle.std.proofs.Common.{Option, Some, None, refl, sym, ap, subst, length, take, append_assoc, append-nil, get_or}
 use Rattle.std.proofs.Common.{if◌then◌else◌, arith}
 use Rattle.std.specs.Prelude.{unwrap_or, MatchBool}
 use Rattle.std.specs.List.{concat, last_or}
 use Rattle.std.proofs.Math.Seq.{take-suc}
 use Rattle.config_file.specs.Listing.{IsListed}
-use Rattle.config_file.specs.Settings.{AreListed}
+use Rattle.config_file.specs.Settings.{AreListed, value_text}
 use Rattle.config_file.specs.Views.{entry_of}
 use Rattle.config_file.specs.declared.settings.Setting.{Setting}
 use Rattle.config_answers.specs.declared.answer.Answer.{Answer}
-use Rattle.config_answers.specs.declared.answer.Answer.TheVariants.{Written, Absent}
-use Rattle.config_answers.specs.declared.answer.Outcome.{Outcome}
-use Rattle.config_answers.specs.declared.answer.Outcome.TheVariants as outcome
+use Rattle.config_answers.specs.declared.answer.Answer.TheVariants.{Written, Absent, NoDefault}
+use Rattle.config_answers.specs.declared.typed.Outcome.{Outcome}
+use Rattle.config_answers.specs.declared.typed.Outcome.TheVariants as outcome
 use Rattle.config_answers.specs.declared.line.Form.{Form}
-use Rattle.config_answers.specs.declared.line.Origin.{Origin}
-use Rattle.config_answers.specs.Answers.{Becomes, HasLine, IsLineOf, Lines, written, missing, nothing, chosen, Puts, Answers}
+use Rattle.config_answers.specs.declared.line.Unfiled.{Unfiled}
+use Rattle.config_answers.specs.declared.line.Place.{Place}
+use Rattle.config_answers.specs.Answers.{Becomes, HasLine, IsLine, IsLineOf, Lines, written, missing, chosen}
+use Rattle.config_answers.specs.Answers.{Puts, Answers, AnswersDefault, IsPlaceOfDefault}
 
 pub concat_next : (lines : List (List ℕ)) (one : List ℕ) → concat (lines ++ one ∷ []) ≡ concat lines ++ one
 concat_next [] one = append-nil one
@@ -92,50 +94,90 @@ not_empty [] x same = absurd (cc)
 not_empty (y ∷ ys) x same = absurd (cc)
 
 -- what is written for the first settings: their lines, if one of them has a line
-abbrev pub IsSoFar : (Setting → Outcome → List ℕ → Type 0) → (Setting → Origin → Type 0) → Form → List Setting
+abbrev pub IsSoFar : (Option (List ℕ) → Outcome → List ℕ → Type 0) → Unfiled → Form → List Setting
     → List ℕ → Bool → Type 0
-IsSoFar Shows Lies form settings output is_absent = (lines : List (List ℕ)) × Lines Shows Lies form settings lines
+IsSoFar Shows unfiled form settings output is_absent = (lines : List (List ℕ)) × Lines Shows unfiled form settings lines
     × (output ≡ chosen form.all lines) × MatchBool is_absent (lines ≡ []) (lines ≢ [])
 
-one_line : (Shows : Setting → Outcome → List ℕ → Type 0) (Lies : Setting → Origin → Type 0) (form : Form)
+one_line : (Shows : Option (List ℕ) → Outcome → List ℕ → Type 0) (unfiled : Unfiled) (form : Form)
     (settings : List Setting) (setting : Setting) (old new : List ℕ) (was is : Bool) (one : List ℕ)
-    → IsSoFar Shows Lies form settings old was → IsLineOf Shows Lies form setting one
+    → IsSoFar Shows unfiled form settings old was → IsLineOf Shows unfiled form setting one
     → new ≡ (if form.all then old else []) ++ one → is ≡ false
-    → IsSoFar Shows Lies form (settings ++ setting ∷ []) new is
-one_line Shows Lies form settings setting old new was is one (lines, are, out, none) line same absent = (
+    → IsSoFar Shows unfiled form (settings ++ setting ∷ []) new is
+one_line Shows unfiled form settings setting old new was is one (lines, are, out, none) line same absent = (
   lines ++ one ∷ [],
   written are line,
   same ∙ ap (λ o. (if form.all then o else []) ++ one) out ∙ chosen_next form.all lines one,
   subst (λ b. MatchBool b (lines ++ one ∷ [] ≡ []) (lines ++ one ∷ [] ≢ [])) (sym absent) (not_empty lines one),
 )
 
-pub one_more : (Shows : Setting → Outcome → List ℕ → Type 0) (Lies : Setting → Origin → Type 0) (form : Form)
+pub one_more : (Shows : Option (List ℕ) → Outcome → List ℕ → Type 0) (unfiled : Unfiled) (form : Form)
     (settings : List Setting) (setting : Setting) (old new : List ℕ) (was is : Bool) (o : Outcome)
-    → StaysAbsent o was is → IsSoFar Shows Lies form settings old was
-    → Puts (Becomes Shows setting) (IsLineOf Shows Lies form setting) form.all old new o
-    → IsSoFar Shows Lies form (settings ++ setting ∷ []) new is
-one_more Shows Lies form settings setting old new was is outcome.AsWritten same so_far (one, line, out) =
-    one_line Shows Lies form settings setting old new was is one so_far line out same
-one_more Shows Lies form settings setting old new was is outcome.Typed same so_far (one, line, out) =
-    one_line Shows Lies form settings setting old new was is one so_far line out same
-one_more Shows Lies form settings setting old new was is outcome.Alone same so_far (one, line, out) =
-    one_line Shows Lies form settings setting old new was is one so_far line out same
-one_more Shows Lies form settings setting old new was is outcome.Missing same (lines, are, out, none) (kept, becomes) = (
+    → StaysAbsent o was is → IsSoFar Shows unfiled form settings old was
+    → Puts (Becomes Shows (value_text setting)) (IsLineOf Shows unfiled form setting) form.all old new o
+    → IsSoFar Shows unfiled form (settings ++ setting ∷ []) new is
+one_more Shows unfiled form settings setting old new was is outcome.AsWritten same so_far (one, line, out) =
+    one_line Shows unfiled form settings setting old new was is one so_far line out same
+one_more Shows unfiled form settings setting old new was is outcome.Typed same so_far (one, line, out) =
+    one_line Shows unfiled form settings setting old new was is one so_far line out same
+one_more Shows unfiled form settings setting old new was is outcome.Alone same so_far (one, line, out) =
+    one_line Shows unfiled form settings setting old new was is one so_far line out same
+one_more Shows unfiled form settings setting old new was is outcome.Missing same (lines, are, out, none) (kept, becomes) = (
   lines,
-  missing are becomes,
+  missing setting are becomes,
   kept ∙ out,
   subst (λ b. MatchBool b (lines ≡ []) (lines ≢ [])) (sym same) none,
 )
-one_more Shows Lies form settings setting old new was is outcome.Refused same so_far puts = absurd same
+one_more Shows unfiled form settings setting old new was is outcome.Refused same so_far puts = absurd same
 
-pub answers : (Shows : Setting → Outcome → List ℕ → Type 0) (Lies : Setting → Origin → Type 0) (form : Form)
+pub answers : (Shows : Option (List ℕ) → Outcome → List ℕ → Type 0) (unfiled : Unfiled) (form : Form)
     (settings : List Setting) (output : List ℕ) (is_absent : Bool) (answer : Answer)
-    → MatchBool is_absent (answer ≡ Absent) (answer ≡ Written) → IsSoFar Shows Lies form settings output is_absent
-    → Answers Shows Lies form settings output answer
-answers Shows Lies form settings output true answer is (lines, are, out, none) =
-    subst (Answers Shows Lies form settings output) (sym is) (
-      subst (Lines Shows Lies form settings) none are,
+    → MatchBool is_absent (answer ≡ Absent) (answer ≡ Written) → IsSoFar Shows unfiled form settings output is_absent
+    → Answers Shows unfiled form settings output answer
+answers Shows unfiled form settings output true answer is (lines, are, out, none) =
+    subst (Answers Shows unfiled form settings output) (sym is) (
+      subst (Lines Shows unfiled form settings) none are,
       out ∙ ap (chosen form.all) none ∙ chosen_none form.all,
     )
-answers Shows Lies form settings output false answer is (lines, are, out, some) =
-    subst (Answers Shows Lies form settings output) (sym is) (lines, are, some, out)
+answers Shows unfiled form settings output false answer is (lines, are, out, some) =
+    subst (Answers Shows unfiled form settings output) (sym is) (lines, are, some, out)
+
+-- the answer that the outcome of a default gives
+abbrev pub IsAnswerOf : Outcome → Answer → Type 0
+IsAnswerOf outcome.Missing answer = answer ≡ Absent
+IsAnswerOf outcome.Refused answer = answer ≡ NoDefault
+IsAnswerOf _ answer = answer ≡ Written
+
+first_line : (all : Bool) (old new one : List ℕ) → old ≡ [] → new ≡ (if all then old else []) ++ one → new ≡ one
+first_line true old new one none same = rw none at same
+first_line false old new one none same = same
+
+default_written : (Shows : Option (List ℕ) → Outcome → List ℕ → Type 0) (form : Form) (key value old new : List ℕ)
+    (place : Place) (answer : Answer) → IsPlaceOfDefault place → old ≡ [] → answer ≡ Written
+    → (one : List ℕ) × IsLine Shows form (Some value) place key one × (new ≡ (if form.all then old else []) ++ one)
+    → AnswersDefault Shows form key value new answer
+default_written Shows form key value old new place answer at none is (one, line, same) =
+    rw is (place, at, rw (first_line form.all old new one none same) line)
+
+pub default_answer : (Shows : Option (List ℕ) → Outcome → List ℕ → Type 0) (form : Form) (key value old new : List ℕ)
+    (place : Place) (answer : Answer) (o : Outcome) → IsPlaceOfDefault place → old ≡ [] → IsAnswerOf o answer
+    → Puts (Becomes Shows (Some value)) (IsLine Shows form (Some value) place key) form.all old new o
+    → AnswersDefault Shows form key value new answer
+default_answer Shows form key value old new place answer outcome.AsWritten at none is puts =
+    default_written Shows form key value old new place answer at none is puts
+default_answer Shows form key value old new place answer outcome.Typed at none is puts =
+    default_written Shows form key value old new place answer at none is puts
+default_answer Shows form key value old new place answer outcome.Alone at none is puts =
+    default_written Shows form key value old new place answer at none is puts
+default_answer Shows form key value old new place answer outcome.Missing at none is (same, becomes) =
+    rw is (becomes, same ∙ none)
+default_answer Shows form key value old new place answer outcome.Refused at none is (same, becomes) =
+    rw is (becomes, same ∙ none)
+
+pub other_answer : (o : Outcome) (answer : Answer) → o ≢ outcome.Missing → o ≢ outcome.Refused → answer ≡ Written
+    → IsAnswerOf o answer
+other_answer outcome.AsWritten answer no_file no_value is = is
+other_answer outcome.Typed answer no_file no_value is = is
+other_answer outcome.Alone answer no_file no_value is = is
+other_answer outcome.Missing answer no_file no_value is = absurd (no_file refl)
+other_answer outcome.Refused answer no_file no_value is = absurd (no_value refl)

@@ -1,15 +1,18 @@
 -- The line that Git writes for a setting.
-use Rattle.std.specs.Prelude.{◌≡◌, ℕ, ◌+◌, ◌/◌, ◌%◌, Bool, true, false, not, ◌&&◌, ◌==◌, nat_le, if◌then◌else◌}
+use Rattle.std.specs.Prelude.{◌≡◌, ℕ, ◌+◌, ◌/◌, ◌%◌, Bool, true, not, ◌&&◌, ◌==◌, nat_le, if◌then◌else◌}
 use Rattle.std.specs.Prelude.{List, [], ◌∷◌, ◌++◌, flat_map, codes, Option, Some, None, option_map}
 use Rattle.std.specs.List.{list_all}
 use Rattle.config_file.specs.Listing.{IsListed}
 use Rattle.config_file.specs.Scope.{scope_name}
 use Rattle.config_file.specs.Views.{section_of}
 use Rattle.config_file.specs.declared.scope.Scope.{Scope}
+use Rattle.config_file.specs.declared.scope.Scope.TheVariants as scope
+use Rattle.config_file.specs.declared.settings.Setting.{Setting}
 use Rattle.config_answers.specs.declared.line.Form.{Form}
 use Rattle.config_answers.specs.declared.line.Name as code
 use Rattle.config_answers.specs.declared.line.Name.TheVariants as name
 use Rattle.config_answers.specs.declared.line.Place.{Place}
+use Rattle.config_answers.specs.declared.line.Unfiled.{Unfiled}
 use Rattle.config_answers.specs.declared.line.Origin.{Origin}
 use Rattle.config_answers.specs.declared.line.Origin.TheVariants.{File, Input, Command}
 
@@ -70,3 +73,19 @@ line form place key value =
 abbrev pub IsName : code.Name → List ℕ → Type 0
 IsName (name.Text text) key = key ≡ text.now
 IsName (name.Of entry) key = IsListed (option_map section_of entry.now.section) entry.now.key.now key
+
+-- the settings of this scope and of a text of this name are in the text of the other name, if it is one that is read
+abbrev pub IsText : Scope → List ℕ → (is_read : Bool) → List ℕ → Type 0
+IsText of file is_read name = (of ≡ scope.Command) × (is_read ≡ true) × (file ≡ name)
+
+-- what the settings of this scope and of a text of this name are in: a file, unless it is one of the other two
+abbrev pub Lies : Unfiled → Scope → List ℕ → Origin → Type 0
+Lies unfiled of file Command = IsText of file unfiled.command (codes "command line")
+Lies unfiled of file Input = IsText of file unfiled.input (codes "standard input")
+Lies unfiled of file File = ¬ (IsText of file unfiled.command (codes "command line"))
+    × ¬ (IsText of file unfiled.input (codes "standard input"))
+
+-- where a setting is
+abbrev pub IsPlaceOf : Unfiled → Setting → Place → Type 0
+IsPlaceOf unfiled setting place = Lies unfiled setting.scope setting.file.now place.origin
+    × (place.scope ≡ setting.scope) × (place.file.now ≡ setting.file.now) × (place.line ≡ setting.entry.line)

@@ -1,55 +1,26 @@
 //! What is answered from the settings that are asked for.
 ghost use Rattle.std.specs.Prelude.{◌≡◌, [], ℕ, List, IfOk, option_map, option_copied};
 ghost use Rattle.config_file.specs.Listing.{IsListed};
-ghost use Rattle.config_file.specs.Settings.{AreListed};
+ghost use Rattle.config_file.specs.Settings.{AreListed, value_text};
 ghost use Rattle.config_file.specs.Views.{entry_of};
-ghost use Rattle.config_answers.specs.Answers.{value_of, IsLine, IsLineOf, Becomes, Puts, Answers, ending_of};
-ghost use Rattle.config_answers.specs.Answers.{status_of};
+ghost use Rattle.config_answers.specs.Answers.{value_of, IsLine, IsLineOf, Becomes, Puts, Answers, AnswersOr};
+ghost use Rattle.config_answers.specs.Answers.{ending_of, status_of};
 ghost use Rattle.config_answers.specs.Lines.{IsName};
-ghost use Rattle.config_file.specs.declared.settings.Setting as code;
-ghost use Rattle.config_answers.specs.declared.answer.Outcome.{Outcome};
-ghost use Rattle.config_answers.specs.declared.line.Origin.{Origin};
+ghost use Rattle.config_answers.specs.Types.{Shows};
 
-use crate::line::{Form, Name, Origin, Place, push_line};
-use config_file::Setting;
+use crate::line::{COMMAND, Form, Name, Origin, Place, Unfiled, push_line};
+use crate::typed::{Host, Outcome, Values, read_text};
+use config_file::{Scope, Setting};
 use std::alloc::{AllocError, Global};
 use std::io;
 
-/// What becomes of a value.
-#[derive(Clone, Copy)]
-pub enum Outcome {
-    /// The text of the value as it is written.
-    AsWritten,
-    /// A text of its type.
-    Typed,
-    /// The key stands alone, and has no text.
-    Alone,
-    /// It counts as not set, as the path of an optional file that is not there.
-    Missing,
-    /// It is none of its type.
-    Refused,
-}
-
-/// What only its caller knows of a setting: what it is in, and how its value is shown.
-pub trait Host {
-    /// What may become of a setting, with the text of its type if it has one.
-    ghost shows: { Self → code.Setting → Outcome → List ℕ → Type 0 };
-
-    /// What a setting may be in.
-    ghost lies: { Self → code.Setting → Origin → Type 0 };
-
-    /// What the setting is in.
-    fn origin(&self, setting: &Setting<'_>) -> Origin
-        ensures { lies self.now setting.now result };
-
-    /// What becomes of the setting. A text of its type is appended to the empty text. It fails only if memory
-    /// or the system refuses it.
-    fn show(&self, setting: &Setting<'_>, text: &mut Vec<u8>) -> io::Result<Outcome>
-        requires { text.old.items ≡ [] }
-        ensures { IfOk result (λ outcome. shows self.now setting.now outcome text.new.items) };
-}
-
 /// How a run ends. Its number is the exit status, which is Git's.
+///
+/// ```rust
+/// use config_answers::answer::Ending;
+///
+/// assert_eq!(rt; Ending::Absent.status(), 1);
+/// ```
 #[derive(Clone, Copy)]
 pub enum Ending {
     /// All is listed, the value is printed, or the file is as asked.
@@ -95,10 +66,29 @@ impl Ending {
 }
 
 /// How settings are written, and the texts that are built for that.
+///
+/// ```rust
+/// use config_answers::answer::Writer;
+/// use config_answers::line::{Form, Unfiled};
+///
+/// let form = Form {
+///     all: false,
+///     null: false,
+///     shows_scope: false,
+///     shows_origin: false,
+///     shows_names: false,
+///     shows_values: true,
+///     between: b' ',
+/// };
+/// let writer = Writer::new(alloc, form, Unfiled { command: false, input: false });
+/// assert!(rt; writer.output.is_empty());
+/// ```
 #[derive(Drop)]
 pub struct Writer {
     /// How they are written.
     pub form: Form,
+    /// Which of the texts that they are from are no files.
+    pub unfiled: Unfiled,
     /// The text of a value.
     pub typed: Vec<u8>,
     /// What is written so far.
@@ -106,22 +96,40 @@ pub struct Writer {
 }
 
 /// What is answered.
+///
+/// ```rust
+/// use config_answers::answer::{Answer, Ending};
+///
+/// assert!(rt; matches!(Answer::NoDefault.ending(), Ending::Refused));
+/// ```
 #[derive(Clone, Copy)]
 pub enum Answer<'s, 't> {
-    /// The lines of settings.
+    /// The lines of settings, or that of the default.
     Written,
     /// Nothing, as no setting has a line.
     Absent,
     /// Nothing, as the value of this setting is none of its type.
     Refused(&'s Setting<'t>),
+    /// Nothing, as the default is none of its type.
+    NoDefault,
 }
 
-/// The value in the line of a setting.
-fn value_of<'v>(outcome: Outcome, setting: &'v Setting<'_>, typed: &'v [u8]) -> Option<&'v [u8]>
-    ensures { option_copied result ≡ value_of outcome setting.now typed.now }
+/// The text of a value, or `None` for a key alone.
+fn text_of<'s>(setting: &'s Setting<'_>) -> Option<&'s [u8]>
+    ensures { option_copied result ≡ value_text setting.now }
+{
+    match &setting.value {
+        Some(text) => Some(text),
+        None => None,
+    }
+}
+
+/// The value in a line.
+fn value_of<'v>(outcome: Outcome, value: Option<&'v [u8]>, typed: &'v [u8]) -> Option<&'v [u8]>
+    ensures { option_copied result ≡ value_of outcome (option_copied value.entry) typed.now }
 {
     match outcome {
-        Outcome::AsWritten => Some(setting.text()),
+        Outcome::AsWritten => Some(read_text(value)),
         Outcome::Typed => Some(typed),
         _ => None,
     }
@@ -135,85 +143,94 @@ impl Answer<'_, '_> {
         match self {
             Answer::Written => Ending::Done,
             Answer::Absent => Ending::Absent,
-            Answer::Refused(_) => Ending::Refused,
+            Answer::Refused(_) | Answer::NoDefault => Ending::Refused,
         }
     }
 }
 
 impl Writer {
     /// Writes nothing yet.
-    pub fn new(alloc: Global, form: Form) -> Writer
+    pub fn new(alloc: Global, form: Form, unfiled: Unfiled) -> Writer
         ensures output { result.output.items ≡ [] }
         ensures form { result.form ≡ form }
+        ensures unfiled { result.unfiled ≡ unfiled }
     {
         Writer {
             form,
+            unfiled,
             typed: Vec::new(alloc),
             output: Vec::new(alloc),
         }
     }
 
-    /// Writes the line of a setting at this place and under this key, if it has one.
+    /// Writes the line of a value, or of a key alone, at this place and under this key, if it has one.
     #[inline(always)]
     pub fn put<H: Host>(
         &mut self,
-        host: &H,
-        setting: &Setting<'_>,
+        values: &Values<'_, H>,
+        value: Option<&[u8]>,
         place: &Place<'_>,
         name: Name<'_, '_>,
     ) -> io::Result<Outcome>
         ensures puts { (key : List ℕ) → IsName name.entry key → IfOk result
-            (Puts (Becomes (H.shows host.now) setting.now)
-            (IsLine (H.shows host.now) self.old.form setting.now place.now key)
+            (let shows = Shows (H.dates values.now.host) (H.is_there values.now.host) values.now.homes
+            values.now.shown in
+            Puts (Becomes shows (option_copied value.entry))
+            (IsLine shows self.old.form (option_copied value.entry) place.now key)
             self.old.form.all self.old.output.items self.new.output.items) }
         ensures form { self.new.form ≡ self.old.form }
+        ensures unfiled { self.new.unfiled ≡ self.old.unfiled }
     {
         self.typed.clear();
-        let outcome = host.show(setting, &mut self.typed)?;
+        let outcome = values.show(&mut self.typed, value)?;
         if matches!(outcome, Outcome::Missing | Outcome::Refused) {
             return Ok(outcome);
         }
         if !self.form.all {
             self.output.clear();
         }
-        let value = value_of(outcome, setting, &self.typed);
+        let value = value_of(outcome, value, &self.typed);
         push_line(&mut self.output, &self.form, place, name, value)?;
         Ok(outcome)
     }
 
     /// Writes the line of a setting, if it has one.
     #[inline(always)]
-    pub fn put_setting<H: Host>(&mut self, host: &H, setting: &Setting<'_>) -> io::Result<Outcome>
+    pub fn put_setting<H: Host>(
+        &mut self,
+        values: &Values<'_, H>,
+        setting: &Setting<'_>,
+    ) -> io::Result<Outcome>
         ensures puts { (key : List ℕ)
             → IsListed (entry_of setting.now.entry).section (entry_of setting.now.entry).key key → IfOk result
-            (Puts (Becomes (H.shows host.now) setting.now)
-            (IsLineOf (H.shows host.now) (H.lies host.now) self.old.form setting.now)
+            (let shows = Shows (H.dates values.now.host) (H.is_there values.now.host) values.now.homes
+            values.now.shown in
+            Puts (Becomes shows (value_text setting.now))
+            (IsLineOf shows self.old.unfiled self.old.form setting.now)
             self.old.form.all self.old.output.items self.new.output.items) }
         ensures form { self.new.form ≡ self.old.form }
+        ensures unfiled { self.new.unfiled ≡ self.old.unfiled }
     {
-        let place = Place {
-            origin: host.origin(setting),
-            scope: setting.scope,
-            file: setting.file,
-            line: setting.entry.line,
-        };
-        self.put(host, setting, &place, Name::Of(&setting.entry))
+        let place = self.unfiled.place(setting);
+        self.put(values, text_of(setting), &place, Name::Of(&setting.entry))
     }
 
     /// Answers from the settings that are asked for. Nothing is written yet. It fails only if memory or the
     /// system refuses it.
     pub fn answer<'s, 't, H: Host>(
         &mut self,
-        host: &H,
+        values: &Values<'_, H>,
         settings: &'s [Setting<'t>],
     ) -> io::Result<Answer<'s, 't>>
         requires { self.old.output.items ≡ [] }
         ensures answers { AreListed settings.now → IfOk result
-            (Answers (H.shows host.now) (H.lies host.now) self.old.form settings.now self.new.output.items) }
+            (Answers (Shows (H.dates values.now.host) (H.is_there values.now.host) values.now.homes
+            values.now.shown) self.old.unfiled self.old.form settings.now self.new.output.items) }
+        ensures form { self.new.form ≡ self.old.form }
     {
         let mut is_absent = true;
         for setting in settings {
-            match self.put_setting(host, setting)? {
+            match self.put_setting(values, setting)? {
                 Outcome::Missing => {}
                 Outcome::Refused => {
                     self.output.clear();
@@ -227,5 +244,39 @@ impl Writer {
         } else {
             Answer::Written
         })
+    }
+
+    /// Answers from the settings that are asked for, or from this default, if there is one and no setting has a line.
+    /// It is written under this key. Nothing is written yet. It fails only if memory or the system refuses it.
+    pub fn answer_or<'s, 't, H: Host>(
+        &mut self,
+        values: &Values<'_, H>,
+        settings: &'s [Setting<'t>],
+        key: &[u8],
+        default: Option<&[u8]>,
+    ) -> io::Result<Answer<'s, 't>>
+        requires { self.old.output.items ≡ [] }
+        ensures { AreListed settings.now → IfOk result
+            (AnswersOr (Shows (H.dates values.now.host) (H.is_there values.now.host) values.now.homes
+            values.now.shown) self.old.unfiled self.old.form settings.now key.now (option_copied default.entry)
+            self.new.output.items) }
+    {
+        let answer = self.answer(values, settings)?;
+        let (Answer::Absent, Some(default)) = (answer, default) else {
+            return Ok(answer);
+        };
+        let place = Place {
+            origin: Origin::Command,
+            scope: Scope::Command,
+            file: COMMAND,
+            line: 1,
+        };
+        Ok(
+            match self.put(values, Some(default), &place, Name::Text(key))? {
+                Outcome::Missing => Answer::Absent,
+                Outcome::Refused => Answer::NoDefault,
+                _ => Answer::Written,
+            },
+        )
     }
 }

@@ -1,21 +1,66 @@
-//! Which settings are asked for: those of a key, or of a pattern of keys, and with a value that fits.
-ghost use Rattle.std.specs.Prelude.{◌≡◌, ◌↔◌, ℕ, List, IsTrue, IfOk};
+//! Which settings are asked for: those of a key, of a pattern of keys or of a section, and with a value that fits.
+ghost use Rattle.std.specs.Prelude.{◌≡◌, ◌↔◌, ℕ, List, IsTrue, IfOk, option_copied};
 ghost use Rattle.config_file.specs.Listing.{IsListed};
 ghost use Rattle.config_file.specs.Settings.{path_bytes};
 ghost use Rattle.config_file.specs.Views.{entry_of};
-ghost use Rattle.config_answers.specs.Choices.{choice_of, HasAskedKey, FitsValue, Takes};
+ghost use Rattle.config_answers.specs.Choices.{choice_of, keys_of, FitsKey, FitsListed, FitsValue, IsWithin, Takes};
 
 use config_file::{Entry, Key, Scope, Setting};
 use regex::bytes::Matcher;
 use std::alloc::{AllocError, Global};
 
-/// What is asked for. Without a key and without a pattern of keys each key is, and so is each value.
+/// Which keys are asked for.
+///
+/// ```rust
+/// use config_answers::choice::{Choice, Keys};
+/// use config_file::{Entries};
+///
+/// let entry = Entries::new(b"[Core]\n\tBare").next().expect(&rt, "an entry").expect(&rt, "no error");
+/// let mut choice = Choice {
+///     keys: Keys::Within(b"core", None),
+///     fixed: None,
+///     values: None,
+///     is_negated: false,
+///     listed: Vec::new(alloc),
+/// };
+/// assert!(rt; choice.has_key(&entry)?);
+/// ```
+#[derive(Drop)]
+pub enum Keys<'k, 'p> {
+    /// Each key.
+    All,
+    /// This key.
+    One(Key<'k>),
+    /// Those that are listed as a text in which a pattern is found.
+    Found(Matcher<'p>),
+    /// The one that is listed as this text.
+    Listed(&'k [u8]),
+    /// The one that is listed as this text, and those that decide in its place: `diff.color` and `color.ui`.
+    Colored(&'k [u8]),
+    /// Those of this section, with this name if there is one, in each subsection. Their case does not count.
+    Within(&'k [u8], Option<&'k [u8]>),
+}
+
+/// What is asked for.
+///
+/// ```rust
+/// use config_answers::choice::{Choice, Keys};
+/// use config_file::{Entries, Key};
+///
+/// let entry = Entries::new(b"[Core]\n\tBare").next().expect(&rt, "an entry").expect(&rt, "no error");
+/// let mut choice = Choice {
+///     keys: Keys::One(Key::parse(b"core.bare")?),
+///     fixed: None,
+///     values: None,
+///     is_negated: false,
+///     listed: Vec::new(alloc),
+/// };
+/// assert!(rt; choice.has_key(&entry)?);
+/// ```
 #[derive(Drop)]
 pub struct Choice<'k, 'p> {
-    /// The key, if it is one.
-    pub key: Option<Key<'k>>,
-    /// What searches for the pattern of keys.
-    pub keys: Option<Matcher<'p>>,
+    /// The keys.
+    pub keys: Keys<'k, 'p>,
     /// The value, byte for byte.
     pub fixed: Option<&'k [u8]>,
     /// What searches for the pattern of values.
@@ -36,24 +81,61 @@ fn bytes_of<'s>(setting: &'s Setting<'_>) -> &'s [u8]
     }
 }
 
+/// Whether a key that is listed as this has this section, and this name if there is one.
+fn is_within(listed: &[u8], section: &[u8], name: Option<&[u8]>) -> bool
+    ensures { IsTrue result ↔ IsWithin section.now (option_copied name.entry) listed.now }
+{
+    let Some(key) = Key::split(listed) else {
+        return false;
+    };
+    if !key.section().eq_ignore_ascii_case(section) {
+        return false;
+    }
+    match name {
+        Some(name) => key.name().eq_ignore_ascii_case(name),
+        None => true,
+    }
+}
+
+impl Keys<'_, '_> {
+    /// Whether a key that is listed as this is asked for, if its text decides that.
+    fn has_listed(&mut self, listed: &[u8]) -> bool
+        ensures has { IsTrue result ↔ FitsListed (keys_of self.old) listed.now }
+        ensures same { keys_of self.new ≡ keys_of self.old }
+    {
+        if let Keys::Found(pattern) = self {
+            return pattern.is_match(listed);
+        }
+        match &*self {
+            Keys::Listed(text) => listed == *text,
+            Keys::Colored(text) => {
+                listed == *text
+                    || listed == b"diff.color".as_slice()
+                    || listed == b"color.ui".as_slice()
+            }
+            Keys::Within(section, name) => is_within(listed, section, *name),
+            _ => true,
+        }
+    }
+}
+
 impl Choice<'_, '_> {
     /// Whether an entry has a key that is asked for.
     #[inline(always)]
     pub fn has_key(&mut self, entry: &Entry<'_>) -> Result<bool, AllocError>
         ensures has { (listed : List ℕ)
             → IsListed (entry_of entry.now).section (entry_of entry.now).key listed
-            → IfOk result (λ has. IsTrue has ↔ HasAskedKey (choice_of self.old) (entry_of entry.now) listed) }
+            → IfOk result (λ has. IsTrue has ↔ FitsKey (choice_of self.old).keys (entry_of entry.now) listed) }
         ensures same { choice_of self.new ≡ choice_of self.old }
     {
-        if let Some(key) = &self.key {
-            return Ok(key.is_of(entry));
+        match &self.keys {
+            Keys::All => return Ok(true),
+            Keys::One(key) => return Ok(key.is_of(entry)),
+            _ => {}
         }
-        let Some(keys) = &mut self.keys else {
-            return Ok(true);
-        };
         self.listed.clear();
         entry.push_key(&mut self.listed)?;
-        Ok(keys.is_match(&self.listed))
+        Ok(self.keys.has_listed(&self.listed))
     }
 
     /// Whether a value is asked for. That of a key alone is the empty text.

@@ -6,3 +6,5 @@ pub mod answer;
 pub mod choice;
 pub mod laws;
 pub mod line;
+pub mod read;
+pub mod typed;

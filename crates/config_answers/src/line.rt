@@ -4,12 +4,20 @@ ghost use Rattle.std.specs.Prelude.{flat_map};
 ghost use Rattle.std.specs.List.{list_all};
 ghost use Rattle.config_file.specs.Scope.{scope_name};
 ghost use Rattle.config_answers.specs.Lines.{letter_of, escape, escaped, is_plain, name_shown, origin_shown};
-ghost use Rattle.config_answers.specs.Lines.{gap, end, value_part, line, IsName};
+ghost use Rattle.config_answers.specs.Lines.{gap, end, value_part, line, IsName, Lies, IsText, IsPlaceOf};
 
-use config_file::{Entry, Scope};
+use config_file::{Entry, Scope, Setting};
 use std::alloc::AllocError;
 
 /// What settings are in.
+///
+/// ```rust
+/// use config_answers::line::{COMMAND, Origin, Unfiled};
+/// use config_file::Scope;
+///
+/// let unfiled = Unfiled { command: true, input: false };
+/// assert!(rt; matches!(unfiled.origin(Scope::Command, COMMAND), Origin::Command));
+/// ```
 #[derive(Clone, Copy)]
 pub enum Origin {
     /// A file.
@@ -20,7 +28,50 @@ pub enum Origin {
     Command,
 }
 
+/// The name of the text of the settings of a command.
+pub const COMMAND: &[u8] = b"command line";
+
+/// The name of the text of standard input.
+pub const INPUT: &[u8] = b"standard input";
+
+/// Which of the texts that settings are from are no files. A file of the scope of a command has the name of none of
+/// them: the settings of a command include files by whole paths, as those of standard input do.
+///
+/// ```rust
+/// use config_answers::line::{COMMAND, Origin, Unfiled};
+/// use config_file::Scope;
+///
+/// let unfiled = Unfiled { command: false, input: true };
+/// assert!(rt; matches!(unfiled.origin(Scope::Command, COMMAND), Origin::File)); // a file of this name
+/// ```
+#[derive(Clone, Copy)]
+pub struct Unfiled {
+    /// Whether the settings of a command, with the name [`COMMAND`].
+    pub command: bool,
+    /// Whether standard input, with the name [`INPUT`].
+    pub input: bool,
+}
+
 /// How settings are written.
+///
+/// ```rust
+/// use config_answers::line::{Form, Name, Origin, Place, push_line};
+/// use config_file::Scope;
+///
+/// let form = Form {
+///     all: true,
+///     null: false,
+///     shows_scope: false,
+///     shows_origin: false,
+///     shows_names: true,
+///     shows_values: true,
+///     between: b'=',
+/// };
+/// let place = Place { origin: Origin::File, scope: Scope::Local, file: b"a\tb", line: 2 };
+/// let mut text = Vec::new(alloc);
+/// push_line(&mut text, &form, &place, Name::Text(b"core.bare"), Some(b"no"))?;
+/// assert_eq!(rt; text.as_slice(), b"core.bare=no\n".as_slice());
+/// ```
 #[derive(Clone, Copy)]
 pub struct Form {
     /// Whether all settings are written, and not the last one alone.
@@ -40,6 +91,14 @@ pub struct Form {
 }
 
 /// The key under which a setting is written.
+///
+/// ```rust
+/// use config_answers::line::Name;
+/// use config_file::Entries;
+///
+/// let entry = Entries::new(b"[a \"B\"]\n\tC = 1").next().expect(&rt, "an entry").expect(&rt, "no error");
+/// assert!(rt; matches!(Name::Of(&entry), Name::Of(entry) if entry.line == 2)); // written as a.B.c
+/// ```
 #[derive(Clone, Copy)]
 pub enum Name<'s, 't> {
     /// This text.
@@ -49,6 +108,25 @@ pub enum Name<'s, 't> {
 }
 
 /// Where a setting is.
+///
+/// ```rust
+/// use config_answers::line::{Form, Name, Origin, Place, push_line};
+/// use config_file::Scope;
+///
+/// let form = Form {
+///     all: true,
+///     null: false,
+///     shows_scope: false,
+///     shows_origin: true,
+///     shows_names: true,
+///     shows_values: true,
+///     between: b' ',
+/// };
+/// let place = Place { origin: Origin::File, scope: Scope::Local, file: b"a\tb", line: 2 };
+/// let mut text = Vec::new(alloc);
+/// push_line(&mut text, &form, &place, Name::Text(b"core.bare"), None)?;
+/// assert_eq!(rt; text.as_slice(), b"file:\"a\\tb\"\tcore.bare\n".as_slice());
+/// ```
 #[derive(Clone, Copy)]
 pub struct Place<'s> {
     /// What it is in.
@@ -59,6 +137,36 @@ pub struct Place<'s> {
     pub file: &'s [u8],
     /// The line, counted from 1.
     pub line: usize,
+}
+
+impl Unfiled {
+    /// What the settings of a file of this scope and name are in.
+    pub fn origin(self, scope: Scope, file: &[u8]) -> Origin
+        ensures { Lies self scope file.now result }
+    {
+        if !matches!(scope, Scope::Command) {
+            return Origin::File;
+        }
+        if self.command && file == COMMAND {
+            return Origin::Command;
+        }
+        if self.input && file == INPUT {
+            return Origin::Input;
+        }
+        Origin::File
+    }
+
+    /// Where a setting is.
+    pub fn place<'s>(self, setting: &Setting<'s>) -> Place<'s>
+        ensures { IsPlaceOf self setting.now result }
+    {
+        Place {
+            origin: self.origin(setting.scope, setting.file),
+            scope: setting.scope,
+            file: setting.file,
+            line: setting.entry.line,
+        }
+    }
 }
 
 /// The letter that stands for a byte after a backslash, if there is one.

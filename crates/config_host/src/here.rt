@@ -3,10 +3,10 @@
 use crate::disk::Disk;
 use crate::environment::HostError;
 use crate::error::{HereError, Refusal};
-use crate::reading::{seek_urls, settings_at};
+use crate::reading::settings_at;
 use crate::repository::{Location, find};
-use crate::sources::{Named, Source, is_there, names};
-use crate::surroundings::{FoundRepository, Surroundings};
+use crate::sources::{Named, is_there, names};
+use crate::surroundings::FoundRepository;
 use bumpalo::Bump;
 use config_file::Settings;
 use std::alloc::AllocError;
@@ -136,32 +136,4 @@ fn files_at<'t>(
 pub fn files_here<'t>(disk: &Disk<'t>) -> Result<Vec<&'t [u8]>, HostError> {
     let (folder, repository) = found_here(disk)?;
     Ok(files_at(disk, folder, repository)?)
-}
-
-/// Finds the repository of the current folder, if this text has a condition and it is not known yet.
-fn prepare_repository<'t>(
-    disk: &Disk<'t>,
-    surroundings: &mut Surroundings<'t>,
-    text: &[u8],
-) -> Result<(), HereError<'t>> {
-    if !surroundings.lack(text) {
-        return Ok(());
-    }
-    let repository = find(disk, b"")?.used()?;
-    Ok(surroundings.set_repository(disk, repository)?)
-}
-
-/// Finds what conditions ask about, if this text has one and it is not known yet: the repository of the
-/// current folder, and the URLs of remotes in these texts. A walk over one of them comes to the text next.
-pub fn prepare<'t>(
-    disk: &Disk<'t>,
-    surroundings: &mut Surroundings<'t>,
-    sources: &[Source<'t>],
-    text: &[u8],
-) -> Result<(), HereError<'t>> {
-    prepare_repository(disk, surroundings, text)?;
-    if !surroundings.lack_urls(text) {
-        return Ok(());
-    }
-    seek_urls(disk, surroundings, sources)
 }

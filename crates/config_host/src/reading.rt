@@ -44,7 +44,7 @@ pub struct Taken<'t> {
 }
 
 /// The files in which a walk over this text goes on.
-fn files_of<'t>(disk: &Disk<'t>, source: &Source<'t>) -> Result<Disk<'t>, AllocError> {
+pub fn files_of<'t>(disk: &Disk<'t>, source: &Source<'t>) -> Result<Disk<'t>, AllocError> {
     if source.is_file {
         Ok(disk.again())
     } else {
@@ -103,25 +103,41 @@ pub fn next_entry<'t>(
     }))
 }
 
-/// Whether an entry has the URLs of remotes as its condition.
-fn asks_for_urls(alloc: Global, entry: &Entry<'_>) -> Result<bool, AllocError> {
-    let Some(section) = &entry.section else {
-        return Ok(false);
-    };
-    let Some(subsection) = &section.subsection else {
-        return Ok(false);
-    };
-    let mut text = Vec::new(alloc);
-    subsection.push_text(&mut text)?;
-    let is_url = matches!(Condition::parse(&text), Condition::HasRemoteUrl(_));
-    Ok(is_url && section.name.eq_ignore_ascii_case(b"includeif"))
+/// The conditions that a walk looks for.
+#[derive(Clone, Copy)]
+enum Sought {
+    /// Each one.
+    Any,
+    /// Those on the URLs of remotes.
+    Urls,
 }
 
-/// What a walk that looks for a condition on the URLs of remotes comes to.
+impl Sought {
+    /// Whether an entry has such a condition.
+    fn is_of(self, alloc: Global, entry: &Entry<'_>) -> Result<bool, AllocError> {
+        let Some(section) = &entry.section else {
+            return Ok(false);
+        };
+        let Some(subsection) = &section.subsection else {
+            return Ok(false);
+        };
+        if !section.name.eq_ignore_ascii_case(b"includeif") {
+            return Ok(false);
+        }
+        if matches!(self, Sought::Any) {
+            return Ok(true);
+        }
+        let mut text = Vec::new(alloc);
+        subsection.push_text(&mut text)?;
+        Ok(matches!(Condition::parse(&text), Condition::HasRemoteUrl(_)))
+    }
+}
+
+/// What a walk that looks for conditions comes to.
 #[derive(Clone, Copy)]
 enum Asked {
-    /// The condition.
-    Urls,
+    /// One of them.
+    Condition,
     /// Another entry.
     Nothing,
     /// The end.
@@ -134,6 +150,7 @@ enum Asked {
 fn asked_next<'t>(
     disk: &Disk<'t>,
     known: &Known<'_>,
+    sought: Sought,
     walk: &mut Walk<'t>,
 ) -> Result<Asked, HereError<'t>> {
     let taken = match next_entry(disk, known, walk) {
@@ -142,8 +159,8 @@ fn asked_next<'t>(
         Err(HereError::Host(error)) => return Err(HereError::Host(error)),
         Err(_) => return Ok(Asked::Stop),
     };
-    if asks_for_urls(disk.host.alloc(), &taken.entry)? {
-        Ok(Asked::Urls)
+    if sought.is_of(disk.host.alloc(), &taken.entry)? {
+        Ok(Asked::Condition)
     } else if taken.stop.is_some() {
         Ok(Asked::Stop)
     } else {
@@ -151,17 +168,18 @@ fn asked_next<'t>(
     }
 }
 
-/// Whether a walk over this text comes to a condition on the URLs of remotes before it stops.
+/// Whether a walk over this text comes to such a condition before it stops.
 fn text_asks<'t>(
     disk: &Disk<'t>,
     known: &Known<'_>,
+    sought: Sought,
     source: &Source<'t>,
 ) -> Result<Option<bool>, HereError<'t>> {
     let disk = files_of(disk, source)?;
     let mut walk = Walk::new(source.place, source.text);
     for _ in 0..u64::MAX {
-        match asked_next(&disk, known, &mut walk)? {
-            Asked::Urls => return Ok(Some(true)),
+        match asked_next(&disk, known, sought, &mut walk)? {
+            Asked::Condition => return Ok(Some(true)),
             Asked::Nothing => {}
             Asked::End => break,
             Asked::Stop => return Ok(None),
@@ -170,20 +188,30 @@ fn text_asks<'t>(
     Ok(Some(false))
 }
 
-/// Whether the walks over these texts come to a condition on the URLs of remotes before one stops.
-fn ask_for_urls<'t>(
+/// Whether the walks over these texts come to such a condition before one stops.
+fn ask<'t>(
     disk: &Disk<'t>,
     known: &Known<'_>,
+    sought: Sought,
     sources: &[Source<'t>],
 ) -> Result<bool, HereError<'t>> {
     for source in sources {
-        match text_asks(disk, known, source)? {
+        match text_asks(disk, known, sought, source)? {
             Some(false) => {}
             Some(true) => return Ok(true),
             None => return Ok(false),
         }
     }
     Ok(false)
+}
+
+/// Whether walks over these texts come to a condition.
+pub fn ask_for_conditions<'t>(
+    disk: &Disk<'t>,
+    surroundings: &Surroundings<'t>,
+    sources: &[Source<'t>],
+) -> Result<bool, HereError<'t>> {
+    ask(disk, &surroundings.known(), Sought::Any, sources)
 }
 
 /// Adds the URL of a remote, if the entry has one. A key alone has none.
@@ -244,7 +272,7 @@ pub fn seek_urls<'t>(
     surroundings: &mut Surroundings<'t>,
     sources: &[Source<'t>],
 ) -> Result<(), HereError<'t>> {
-    let urls = if ask_for_urls(disk, &surroundings.known(), sources)? {
+    let urls = if ask(disk, &surroundings.known(), Sought::Urls, sources)? {
         urls_of(disk, &surroundings.seeking(), sources)?
     } else {
         Vec::new(disk.host.alloc())

@@ -8,8 +8,9 @@ use config_file::{Directories, Includes, Known, Repository, Urls};
 use std::alloc::AllocError;
 use std::io;
 
-/// Whether a text has a section whose name begins with this. The name follows a `[` at once.
-fn has_section(text: &[u8], name: &[u8]) -> bool {
+/// Whether a text has a section of includes, whose name follows a `[` at once.
+pub fn has_includes(text: &[u8]) -> bool {
+    let name = b"include";
     let mut rest = text;
     for _ in 0..text.len() {
         let at = rest.find_byte(b'[').unwrap_or(rest.len());
@@ -24,21 +25,6 @@ fn has_section(text: &[u8], name: &[u8]) -> bool {
         }
     }
     false
-}
-
-/// Whether a text has a section of includes.
-pub fn has_includes(text: &[u8]) -> bool {
-    has_section(text, b"include")
-}
-
-/// Whether a text has a section of conditions.
-pub(crate) fn has_conditions(text: &[u8]) -> bool {
-    has_section(text, b"includeif")
-}
-
-/// Whether a text may have a condition on the URLs of remotes. A backslash may be within its name.
-fn may_ask_for_urls(text: &[u8]) -> bool {
-    has_conditions(text) && (text.contains_str(b"hasconfig:") || text.contains(&b'\\'))
 }
 
 /// Which includes a program follows.
@@ -115,8 +101,6 @@ pub struct Surroundings<'t> {
     real_home: Option<&'t [u8]>,
     repository: Option<FoundRepository<'t>>,
     urls: Vec<&'t [u8]>,
-    is_known: bool,
-    are_sought: bool,
 }
 
 impl<'t> Surroundings<'t> {
@@ -133,19 +117,7 @@ impl<'t> Surroundings<'t> {
             real_home: None,
             repository: None,
             urls: Vec::new(disk.host.alloc()),
-            is_known: false,
-            are_sought: false,
         })
-    }
-
-    /// Whether this text asks about a repository, and it is not known yet.
-    pub(crate) fn lack(&self, text: &[u8]) -> bool {
-        !self.is_known && self.followed == Followed::AsGit && has_conditions(text)
-    }
-
-    /// Whether this text may ask about the URLs of remotes, and they were not sought yet.
-    pub(crate) fn lack_urls(&self, text: &[u8]) -> bool {
-        !self.are_sought && self.followed == Followed::AsGit && may_ask_for_urls(text)
     }
 
     /// Takes this as the repository, or knows that there is none.
@@ -158,14 +130,12 @@ impl<'t> Surroundings<'t> {
         if let Some(home) = self.home {
             self.real_home = Some(resolved(disk, home, home)?);
         }
-        self.is_known = true;
         Ok(())
     }
 
     /// Takes these as the URLs of all remotes.
     pub(crate) fn set_urls(&mut self, urls: Vec<&'t [u8]>) {
         self.urls = urls;
-        self.are_sought = true;
     }
 
     /// The repository, or `None` if there is none, or if it is not known yet.

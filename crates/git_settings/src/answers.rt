@@ -1,6 +1,6 @@
 //! Answers about a URL, a color, and whether output is colored.
 
-use crate::files::Reading;
+use crate::files::{Found, Reading};
 use crate::output::{Ending, Name, tell};
 use crate::shown::{Outcome, Shown, Wrong, tell_wrong};
 use crate::wanted::section_and_name;
@@ -147,8 +147,10 @@ impl<'t> Reading<'_, 't> {
 
     /// Appends a setting that decides for a URL, or tells that it has no value of its type.
     fn answer_for_url(&mut self, setting: &Setting<'_>, key: &[u8]) -> Result<Ending, HostError> {
-        let place = self.place(setting);
-        let outcome = self.show(setting, &place, Name::Text(key))?;
+        let Found { values, writer, .. } = &mut self.found;
+        let place = writer.unfiled.place(setting);
+        let value = setting.value.as_deref();
+        let outcome = writer.put(values, value, &place, Name::Text(key))?;
         if matches!(outcome, Outcome::Refused) {
             self.tell_setting(self.request.shown, setting, key);
             if !is_passed_over(self.request.shown, setting) {
@@ -194,7 +196,8 @@ impl<'t> Reading<'_, 't> {
             }
         }
         if let Some(color) = color {
-            self.writer
+            self.found
+                .writer
                 .output
                 .extend_from_slice(color.escape().as_str().as_bytes())?;
         }
@@ -267,7 +270,7 @@ impl<'t> Reading<'_, 't> {
             Use::OnTerminal => has_terminal,
         };
         if said.is_some() {
-            self.writer.output.extend_from_slice(if is_colored {
+            self.found.writer.output.extend_from_slice(if is_colored {
                 b"true\n"
             } else {
                 b"false\n".as_slice()

@@ -3,7 +3,7 @@
 use crate::options::{Action, Counted, OLDER_ACTIONS, TYPE_FLAGS, Word};
 use crate::output::{Ending, tell};
 use crate::request::{Change, Chosen, Edit, Request, Subject, Texts};
-use crate::shown::Shown;
+use crate::shown::{Shown, shown_by_name};
 use config_file::{Key, Scope};
 use config_host::options::Options;
 
@@ -136,7 +136,7 @@ fn shown_of<'a>(options: &Options<'a>) -> Result<Shown, Misuse<'a>> {
     let Some(word) = found else {
         return Ok(Shown::Text);
     };
-    Shown::named(word, !options.has("canonical")).ok_or(fatal(
+    shown_by_name(word, !options.has("canonical")).ok_or(fatal(
         "unrecognized --type argument, ",
         word,
         "",

@@ -5,11 +5,13 @@ ghost use Rattle.git_settings.specs.declared.edits.Refusal.TheVariants.{Edit as 
 
 use crate::output::{Ending, tell, tell_error};
 use crate::request::{Change, Chosen, Edit, Subject, Texts};
-use crate::shown::{Outcome, Wrong, put_typed, tell_wrong};
+use crate::shown::{Outcome, Wrong, tell_wrong};
 use crate::sources::{file_of, located, tell_stop};
-use crate::wanted::{Patterns, Unclear, Wanted, tell_key};
+use crate::wanted::{Patterns, Unclear, choice_of, fits_alone, tell_key};
 use bstr::ByteSlice;
 use bumpalo::Bump;
+use config_answers::choice::Choice;
+use config_answers::typed::put_typed;
 use config_edit::{self as edit, EditError};
 use config_file::bytes::{self, Class};
 use config_file::entry::push_lower;
@@ -61,18 +63,18 @@ fn chosen_of<'a>(edit: &Edit<'a>) -> Chosen<'a> {
 /// Whether an entry is to be changed.
 fn is_wanted(
     alloc: Global,
-    wanted: &mut Wanted<'_, '_>,
+    choice: &mut Choice<'_, '_>,
     entry: &Entry<'_>,
 ) -> Result<bool, AllocError> {
-    if !wanted.has_key(entry)? {
+    if !choice.has_key(entry)? {
         return Ok(false);
     }
     match &entry.value {
         Some(value) => {
             let text = value.text(alloc)?;
-            Ok(wanted.has_value(&text))
+            Ok(choice.has_value(&text))
         }
-        None => Ok(wanted.fits_alone()),
+        None => Ok(fits_alone(choice)),
     }
 }
 
@@ -80,7 +82,7 @@ fn is_wanted(
 fn places_in(
     alloc: Global,
     text: &[u8],
-    wanted: &mut Wanted<'_, '_>,
+    choice: &mut Choice<'_, '_>,
 ) -> Result<Vec<usize>, EditError> {
     let mut found = Vec::new(alloc);
     let mut place = 0usize;
@@ -89,7 +91,7 @@ fn places_in(
             Ok(entry) => entry,
             Err(error) => return Err(EditError::File(error)),
         };
-        if is_wanted(alloc, wanted, &entry)? && found.push(place).is_err() {
+        if is_wanted(alloc, choice, &entry)? && found.push(place).is_err() {
             return Err(EditError::Memory(AllocError));
         }
         place = place.saturating_add(1);
@@ -100,8 +102,8 @@ fn places_in(
 /// The places of the entries of the key whose values fit.
 fn places_of(alloc: Global, text: &[u8], chosen: &Chosen<'_>) -> Result<Vec<usize>, Refusal> {
     let patterns = Patterns::new(alloc, chosen)?;
-    let mut wanted = Wanted::new(alloc, chosen, &patterns)?;
-    Ok(places_in(alloc, text, &mut wanted)?)
+    let mut choice = choice_of(alloc, chosen, &patterns)?;
+    Ok(places_in(alloc, text, &mut choice)?)
 }
 
 /// The text in which the entry at this place has this value and this comment.

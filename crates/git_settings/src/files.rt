@@ -1,223 +1,121 @@
 //! Lists the entries of texts, or prints values of them.
+ghost use Rattle.std.specs.Prelude.{⊤};
 
-use crate::output::{Ending, Name, Origin, Place, form_of};
+use crate::output::{Ending, form_of};
 use crate::request::{Request, Subject};
-use crate::shown::{Homes, Outcome, Shown, Values, Wrong, tell_wrong};
-use crate::sources::{COMMAND, Opened, open_texts, origin_of, tell_stop};
-use crate::wanted::{Patterns, Unclear, Wanted};
+use crate::shown::{Shown, System, Values, Wrong, homes_of, tell_wrong};
+use crate::sources::{Opened, open_texts, tell_stop, unfiled};
+use crate::wanted::{Patterns, Unclear, choice_of};
 use bumpalo::Bump;
 use config_answers::answer::{Answer, Writer};
-use config_file::{Entries, Entry, Key, Known, Scope, Setting, Walk, push_setting};
-use config_host::here::prepare;
-use config_host::reading::next_entry;
-use config_host::sources::Source;
-use config_host::{Disk, HereError, HostError, Surroundings};
-use std::alloc::AllocError;
+use config_answers::choice::Choice;
+use config_answers::read::{Receiver, Stopped, Text};
+use config_file::{Key, Scope, Setting};
+use config_host::reading::files_of;
+use config_host::{HereError, HostError};
 use std::io::{self, Write};
 use std::mem;
 
 /// How many bytes of output are kept before they are written.
 const ROOM: usize = 65536;
 
-/// A run over the requested texts.
+/// What gets the settings that are asked for, and what is to be written of them.
 #[derive(Drop)]
-pub struct Reading<'r, 't> {
-    /// The system.
-    pub rt: &'t HostRuntime,
-    disk: Disk<'t>,
-    /// The texts, in order.
-    sources: Vec<Source<'t>>,
-    homes: Homes<'t>,
-    /// What is asked.
-    pub request: &'r Request<'r>,
-    wanted: Wanted<'r, 'r>,
-    /// The settings that are asked for, unless all entries are listed.
-    found: Vec<Setting<'t>>,
+pub struct Found<'t> {
+    /// How values are shown, by the system.
+    pub values: Values<'t, System<'t>>,
+    /// Whether settings are listed at once.
+    lists: bool,
+    /// The settings that are kept, if they are not.
+    settings: Vec<Setting<'t>>,
     /// What is still to be written.
     pub writer: Writer,
 }
 
-/// Where settings are, and how the values of a request are shown.
-fn values_of<'v, 't>(
-    rt: &'v HostRuntime,
-    homes: &'v Homes<'t>,
-    sources: &'v [Source<'t>],
-    request: &Request<'_>,
-) -> Values<'v, 't> {
-    Values {
-        rt,
-        homes,
-        sources,
-        shown: if request.shows_values {
-            request.shown
-        } else {
-            Shown::Text
-        },
+impl Found<'_> {
+    /// Writes the output so far.
+    fn write(&mut self) -> io::Result<()> {
+        self.values.host.0.stdout().write_all(&self.writer.output)?;
+        self.writer.output.clear();
+        Ok(())
     }
 }
 
-impl<'t> Reading<'_, 't> {
-    /// Where a setting is.
-    pub fn place<'s>(&self, setting: &'s Setting<'_>) -> Place<'s> {
-        Place {
-            origin: origin_of(&self.sources, setting.scope, setting.file),
-            scope: setting.scope,
-            file: setting.file,
-            line: setting.entry.line,
+impl<'t> Receiver<'t> for Found<'t> {
+    ghost receives = { λ _ _ _. ⊤ };
+
+    /// Lists a setting, or keeps it. As in Git, a list leaves out what is none of its type.
+    fn receive(&mut self, setting: Setting<'t>) -> io::Result<()> {
+        if !self.lists {
+            return Ok(self.settings.push(setting)?);
         }
-    }
-
-    /// Tells that a setting, which is listed under this key, is none of this type.
-    pub fn tell_setting(&self, shown: Shown, setting: &Setting<'_>, key: &[u8]) {
-        let wrong = Wrong {
-            key,
-            value: setting.value.as_deref(),
-            place: Some(self.place(setting)),
-        };
-        tell_wrong(self.rt, shown, &wrong, b"");
-    }
-
-    /// Appends a setting to the output as Git writes it, or replaces the one before it if one is wanted.
-    /// Returns what becomes of its value.
-    pub fn show(
-        &mut self,
-        setting: &Setting<'_>,
-        place: &Place<'_>,
-        name: Name<'_, '_>,
-    ) -> io::Result<Outcome> {
-        let values = values_of(self.rt, &self.homes, &self.sources, self.request);
-        self.writer.put(&values, setting, place, name)
-    }
-
-    /// Lists a setting, or keeps it if it is asked for. As in Git, a list leaves out what is none of its
-    /// type.
-    fn take_setting(&mut self, setting: Setting<'t>) -> io::Result<()> {
-        if !self.request.lists() {
-            return Ok(self.found.push(setting)?);
-        }
-        let values = values_of(self.rt, &self.homes, &self.sources, self.request);
-        self.writer.put_setting(&values, &setting)?;
+        self.writer.put_setting(&self.values, &setting)?;
         if self.writer.output.len() >= ROOM {
             self.write()?;
         }
         Ok(())
     }
+}
 
-    /// Takes an entry, if it is wanted.
-    fn take(&mut self, scope: Scope, file: &'t [u8], entry: &Entry<'t>) -> io::Result<()> {
-        match self.wanted.take(self.rt.alloc(), scope, file, entry)? {
-            Some(setting) => self.take_setting(setting),
-            None => Ok(()),
-        }
-    }
+/// A run over the requested texts.
+#[derive(Drop)]
+pub struct Reading<'r, 't> {
+    /// The system.
+    pub rt: &'t HostRuntime,
+    /// What is asked.
+    pub request: &'r Request<'r>,
+    /// What is found.
+    pub found: Found<'t>,
+}
 
-    /// Writes the output so far.
-    fn write(&mut self) -> io::Result<()> {
-        self.rt.stdout().write_all(&self.writer.output)?;
-        self.writer.output.clear();
-        Ok(())
-    }
-
-    /// Takes the next entries of a walk, up to one that includes a file. Returns the text of that file, in
-    /// which the walk goes on, or `None` at the end.
-    fn pull(
-        &mut self,
-        disk: &Disk<'t>,
-        known: &Known<'_>,
-        source: &Source<'t>,
-        walk: &mut Walk<'t>,
-    ) -> Result<Option<&'t [u8]>, HereError<'t>> {
-        for _ in 0..u64::MAX {
-            let Some(taken) = next_entry(disk, known, walk)? else {
-                break;
-            };
-            self.take(source.scope, taken.place.name, &taken.entry)?;
-            if let Some(stop) = taken.stop {
-                return Err(HereError::Stops(stop));
-            }
-            if taken.entered.is_some() {
-                return Ok(taken.entered);
-            }
-        }
-        Ok(None)
-    }
-
-    /// Takes the entries of a text, and of the files that it includes, up to where Git stops. Before each
-    /// text is read, it finds what its conditions ask about.
-    fn walk(
-        &mut self,
-        surroundings: &mut Surroundings<'t>,
-        source: &Source<'t>,
-    ) -> Result<(), HereError<'t>> {
-        let disk = if source.is_file {
-            self.disk.again()
-        } else {
-            self.disk.from_root()
+/// Reads the texts that are opened, up to where Git stops, which is told.
+fn read_all<'t>(
+    rt: &HostRuntime,
+    opened: &Opened<'t>,
+    choice: &mut Choice<'_, '_>,
+    found: &mut Found<'t>,
+) -> Result<Ending, HostError> {
+    for source in &opened.sources {
+        let files = files_of(&opened.disk, source)?;
+        let text = Text {
+            scope: source.scope,
+            place: source.place,
+            text: source.text,
         };
-        let mut walk = Walk::new(source.place, source.text);
-        let mut entered = Some(source.text);
-        for _ in 0..u64::MAX {
-            let Some(text) = entered else {
-                break;
-            };
-            prepare(&self.disk, surroundings, &self.sources, text)?;
-            entered = self.pull(&disk, &surroundings.known(), source, &mut walk)?;
-        }
-        Ok(())
-    }
-
-    /// Takes the entries of all texts, up to where Git stops, which is told.
-    fn walk_all(&mut self, surroundings: &mut Surroundings<'t>) -> Result<Ending, HostError> {
-        for index in 0..self.sources.len() {
-            let Some(source) = self.sources.get(index) else {
-                break;
-            };
-            let source = *source;
-            match self.walk(surroundings, &source) {
-                Ok(()) => {}
-                Err(HereError::Host(error)) => return Err(error),
-                Err(stop) => {
-                    tell_stop(self.rt, &self.sources, source.scope, stop);
-                    return Ok(Ending::Refused);
-                }
+        match choice.read(
+            rt.alloc(),
+            &files,
+            &opened.surroundings.known(),
+            text,
+            found,
+        ) {
+            Ok(()) => {}
+            Err(Stopped::System(error)) => return Err(HostError::from(error)),
+            Err(Stopped::Git(stop)) => {
+                tell_stop(rt, &opened.sources, source.scope, HereError::Stops(stop));
+                return Ok(Ending::Refused);
             }
         }
-        Ok(Ending::Done)
     }
+    Ok(Ending::Done)
+}
 
-    /// Appends the default value, if there is one, under the key or the pattern as it was asked for.
-    fn answer_default(&mut self, key: &str) -> Result<Ending, HostError> {
-        let Some(default) = self.request.default else {
-            return Ok(Ending::Absent);
+impl<'t> Reading<'_, 't> {
+    /// Tells that a setting, which is listed under this key, is none of this type.
+    pub fn tell_setting(&self, shown: Shown, setting: &Setting<'_>, key: &[u8]) {
+        let wrong = Wrong {
+            key,
+            value: setting.value.as_deref(),
+            place: Some(self.found.writer.unfiled.place(setting)),
         };
-        let alloc = self.rt.alloc();
-        let mut text = Vec::new(alloc);
-        let written = push_setting(alloc, &mut text, b"a.b", Some(default.as_bytes()));
-        let (Ok(()), Some(Ok(entry))) = (written, Entries::new(&text).next()) else {
-            return Err(HostError::from(AllocError));
-        };
-        let setting = Setting::of_entry(alloc, COMMAND, entry)?;
-        let place = Place {
-            origin: Origin::Command,
-            scope: Scope::Command,
-            file: COMMAND,
-            line: 1,
-        };
-        match self.show(&setting, &place, Name::Text(key.as_bytes()))? {
-            Outcome::Missing => Ok(Ending::Absent),
-            Outcome::Refused => {
-                self.tell_default(key, default);
-                Ok(Ending::Refused)
-            }
-            _ => Ok(Ending::Done),
-        }
+        tell_wrong(self.rt, shown, &wrong, b"");
     }
 
     /// Tells that the default value of this key is none of its type.
-    fn tell_default<'x>(&self, key: &'x str, default: &'x str) {
+    fn tell_default(&self, key: &str) {
         let wrong = Wrong {
             key: key.as_bytes(),
-            value: Some(default.as_bytes()),
+            value: self.request.default.map(str::as_bytes),
             place: None,
         };
         let end = b"fatal: failed to format default config value: ";
@@ -226,18 +124,20 @@ impl<'t> Reading<'_, 't> {
 
     /// The settings that were kept, which are taken out.
     pub fn taken(&mut self) -> Vec<Setting<'t>> {
-        mem::replace(&mut self.found, Vec::new(self.rt.alloc()))
+        mem::replace(&mut self.found.settings, Vec::new(self.rt.alloc()))
     }
 
-    /// Appends the values of the key, or of the keys of a pattern. If one is refused, there is no output.
+    /// Appends the values of the key, or of the keys of a pattern, or the default under it as it was asked for. If one
+    /// is refused, there is no output.
     fn answer_key(&mut self, key: &str) -> Result<Ending, HostError> {
-        let found = self.taken();
-        self.writer.output.clear();
-        let values = values_of(self.rt, &self.homes, &self.sources, self.request);
-        let answer = self.writer.answer(&values, &found)?;
+        let settings = self.taken();
+        let Found { values, writer, .. } = &mut self.found;
+        writer.output.clear();
+        let default = self.request.default.map(str::as_bytes);
+        let answer = writer.answer_or(values, &settings, key.as_bytes(), default)?;
         match answer {
-            Answer::Written => {}
-            Answer::Absent => return self.answer_default(key),
+            Answer::Written | Answer::Absent => {}
+            Answer::NoDefault => self.tell_default(key),
             Answer::Refused(setting) => {
                 let key = setting.entry.key_text(self.rt.alloc())?;
                 self.tell_setting(self.request.shown, setting, &key);
@@ -256,46 +156,42 @@ impl<'t> Reading<'_, 't> {
             Subject::UsesColor(key, said) => self.answer_use(key, said),
         }
     }
-
-    /// Answers from the texts.
-    fn run(&mut self, surroundings: &mut Surroundings<'t>) -> Result<Ending, HostError> {
-        let mut ending = self.walk_all(surroundings)?;
-        if matches!(ending, Ending::Done) {
-            ending = self.answer()?;
-        }
-        self.write()?;
-        Ok(ending)
-    }
 }
 
-/// Answers the request for the wanted entries. The texts of the files are kept in `texts`. If a file is not
+/// Answers the request for the chosen entries. The texts of the files are kept in `texts`. If a file is not
 /// read completely, no value is printed, since a later line could have another one.
 fn answer_in<'r, 't>(
     rt: &'t HostRuntime,
     texts: &'t Bump,
     request: &'r Request<'r>,
-    wanted: Wanted<'r, 'r>,
+    choice: &mut Choice<'_, '_>,
     commands: &[u8],
 ) -> Result<Ending, HereError<'t>> {
     let Some(opened) = open_texts(rt, texts, request, commands)? else {
         return Ok(Ending::Refused);
     };
-    let Opened {
-        disk,
-        mut surroundings,
-        sources,
-    } = opened;
-    let mut reading = Reading {
-        rt,
-        homes: Homes::new(&disk, request.shown)?,
-        disk,
-        sources,
-        request,
-        wanted,
-        found: Vec::new(rt.alloc()),
-        writer: Writer::new(rt.alloc(), form_of(request)),
+    let shown = if request.shows_values {
+        request.shown
+    } else {
+        Shown::Text
     };
-    Ok(reading.run(&mut surroundings)?)
+    let mut found = Found {
+        values: Values {
+            host: System(rt),
+            homes: homes_of(&opened.disk, shown)?,
+            shown,
+        },
+        lists: request.lists(),
+        settings: Vec::new(rt.alloc()),
+        writer: Writer::new(rt.alloc(), form_of(request), unfiled(&opened.sources)),
+    };
+    let mut ending = read_all(rt, &opened, choice, &mut found)?;
+    let mut reading = Reading { rt, request, found };
+    if matches!(ending, Ending::Done) {
+        ending = reading.answer()?;
+    }
+    reading.found.write()?;
+    Ok(ending)
 }
 
 /// Answers the request, after all of whose texts these settings of the command line come.
@@ -313,12 +209,12 @@ pub fn run<'a>(
         Ok(patterns) => patterns,
         Err(why) => return Ok(why.tell(rt, &request.chosen)),
     };
-    let wanted = match Wanted::new(rt.alloc(), &request.chosen, &patterns) {
-        Ok(wanted) => wanted,
+    let mut choice = match choice_of(rt.alloc(), &request.chosen, &patterns) {
+        Ok(choice) => choice,
         Err(why) => return Ok(why.tell(rt, &request.chosen)),
     };
     let texts = Bump::new(rt.alloc());
-    match answer_in(rt, &texts, request, wanted, commands) {
+    match answer_in(rt, &texts, request, &mut choice, commands) {
         Ok(ending) => Ok(ending),
         Err(HereError::Host(error)) => Err(error),
         Err(stop) => {

@@ -2,7 +2,7 @@
 
 use crate::request::Request;
 pub use config_answers::answer::Ending;
-pub use config_answers::line::{Form, Name, Origin, Place};
+pub use config_answers::line::{Form, Name, Origin, Place, Unfiled};
 use config_host::HereError;
 use config_host::shown::line_of;
 use config_host::text::Text;

@@ -1,12 +1,13 @@
 //! The texts that a request reads.
 
-use crate::output::{Origin, Place, tell, tell_error, tell_here, tell_line};
+use crate::output::{Place, Unfiled, tell, tell_error, tell_here, tell_line};
 use crate::request::{Request, Texts};
 use bumpalo::Bump;
+use config_answers::line::{COMMAND, INPUT};
 use config_file::errors::FileFault;
 use config_file::{AddError, FilePlace, Scope};
 use config_host::disk::ReadError;
-use config_host::reading::seek_urls;
+use config_host::reading::{ask_for_conditions, seek_urls};
 use config_host::repository::find;
 use config_host::sources::{Named, Source, has_worktrees, is_there, names, sources, system_name};
 use config_host::surroundings::{Followed, FoundRepository, has_includes};
@@ -33,28 +34,19 @@ fn place_of(name: &'static [u8]) -> FilePlace<'static> {
     }
 }
 
-/// The name of the settings of a command.
-pub const COMMAND: &[u8] = b"command line";
-
-/// The name of the text of standard input.
-const INPUT: &[u8] = b"standard input";
-
-/// What an entry of a file of this scope and name is in. A file has the name of no other text: those of a
-/// command include files by whole paths.
-pub fn origin_of(sources: &[Source<'_>], scope: Scope, file: &[u8]) -> Origin {
-    if scope != Scope::Command {
-        return Origin::File;
-    }
+/// Which of these texts are no files.
+pub fn unfiled(sources: &[Source<'_>]) -> Unfiled {
+    let mut unfiled = Unfiled {
+        command: false,
+        input: false,
+    };
     for source in sources {
-        if !source.is_file && source.place.name == file {
-            return if file == COMMAND {
-                Origin::Command
-            } else {
-                Origin::Input
-            };
+        if !source.is_file {
+            unfiled.command |= source.place.name == COMMAND;
+            unfiled.input |= source.place.name == INPUT;
         }
     }
-    Origin::File
+    unfiled
 }
 
 /// Tells why Git stops in a text of this scope, among these texts.
@@ -66,7 +58,7 @@ pub fn tell_stop(rt: &HostRuntime, sources: &[Source<'_>], scope: Scope, stop: H
                 FileFault::Nul => b": a NUL byte outside a comment",
             };
             let place = Place {
-                origin: origin_of(sources, scope, file),
+                origin: unfiled(sources).origin(scope, file),
                 scope,
                 file,
                 line: error.line,
@@ -158,6 +150,15 @@ fn open_named<'t>(
 ) -> Result<Option<Opened<'t>>, HereError<'t>> {
     let mut opened = closed(rt, Disk::new(rt, texts), request)?;
     open(rt, request, &mut opened, Scope::Command, file.as_bytes())?;
+    if may_include(&opened, request)
+        && ask_for_conditions(&opened.disk, &opened.surroundings, &opened.sources)?
+    {
+        let repository = find(&opened.disk, b"")?.used()?;
+        opened
+            .surroundings
+            .set_repository(&opened.disk, repository)?;
+        seek(&mut opened)?;
+    }
     Ok(Some(opened))
 }
 

@@ -3,8 +3,8 @@
 use crate::output::{Ending, tell};
 use crate::posix::translated;
 use crate::request::{Chosen, Subject};
-use config_answers::choice::Choice;
-use config_file::{Entry, Key, KeyError, Scope, Setting};
+use config_answers::choice::{Choice, Keys};
+use config_file::{Key, KeyError};
 use regex::bytes::{Matcher, Regex};
 use regex::{Error, RegexBuilder};
 use std::alloc::{AllocError, Global};
@@ -137,35 +137,11 @@ impl Patterns {
     }
 }
 
-/// Which entries are asked for.
-#[derive(Drop)]
-pub struct Wanted<'k, 'p> {
-    /// What they are about, if it is no key and no pattern of keys.
-    about: Option<Subject<'k>>,
-    choice: Choice<'k, 'p>,
-    /// The key of the last entry that may be asked about, as it is listed.
-    listed: Vec<u8>,
-}
-
 /// The section and the name of what is asked about for a URL, which the first dot separates.
 pub fn section_and_name(text: &str) -> (&str, Option<&str>) {
     match text.split_once('.') {
         Some((section, name)) => (section, Some(name)),
         None => (text, None),
-    }
-}
-
-/// Whether a key as it is listed has this section, and this name if there is one. The case does not count.
-fn is_in_section(listed: &[u8], section: &str, name: Option<&str>) -> bool {
-    let Some(key) = Key::split(listed) else {
-        return false;
-    };
-    if !key.section().eq_ignore_ascii_case(section.as_bytes()) {
-        return false;
-    }
-    match name {
-        Some(name) => key.name().eq_ignore_ascii_case(name.as_bytes()),
-        None => true,
     }
 }
 
@@ -180,92 +156,50 @@ fn search<'p>(alloc: Global, pattern: &'p Option<Regex>) -> Result<Option<Matche
     }
 }
 
-/// Whether a key that is listed as this is asked about.
-fn is_about(subject: Subject<'_>, listed: &[u8]) -> bool {
-    match subject {
+/// Which keys are asked for.
+fn keys_of<'k, 'p>(
+    alloc: Global,
+    subject: Subject<'k>,
+    pattern: &'p Option<Regex>,
+) -> Result<Keys<'k, 'p>, Unclear> {
+    Ok(match subject {
+        Subject::Entries => Keys::All,
+        Subject::Key(key) => match Key::parse(key.as_bytes()) {
+            Ok(key) => Keys::One(key),
+            Err(error) => return Err(Unclear::Key(error)),
+        },
+        Subject::Pattern(_) => match search(alloc, pattern)? {
+            Some(matcher) => Keys::Found(matcher),
+            None => Keys::All,
+        },
         Subject::Url(text, _) => {
             let (section, name) = section_and_name(text);
-            is_in_section(listed, section, name)
+            Keys::Within(section.as_bytes(), name.map(str::as_bytes))
         }
-        Subject::Color(key) => listed == key.as_bytes(),
-        Subject::UsesColor(key, _) => {
-            listed == key.as_bytes()
-                || listed == b"diff.color".as_slice()
-                || listed == b"color.ui".as_slice()
-        }
-        _ => false,
-    }
+        Subject::Color(key) => Keys::Listed(key.as_bytes()),
+        Subject::UsesColor(key, _) => Keys::Colored(key.as_bytes()),
+    })
 }
 
-impl<'k, 'p> Wanted<'k, 'p> {
-    /// Which entries are asked for, with the patterns of that.
-    pub fn new(
-        alloc: Global,
-        chosen: &Chosen<'k>,
-        patterns: &'p Patterns,
-    ) -> Result<Wanted<'k, 'p>, Unclear> {
-        let fixed = match chosen.value {
+/// Which entries are asked for, with the patterns of that.
+pub fn choice_of<'k, 'p>(
+    alloc: Global,
+    chosen: &Chosen<'k>,
+    patterns: &'p Patterns,
+) -> Result<Choice<'k, 'p>, Unclear> {
+    Ok(Choice {
+        keys: keys_of(alloc, chosen.subject, &patterns.key)?,
+        fixed: match chosen.value {
             Some(value) if chosen.is_fixed => Some(value.as_bytes()),
             _ => None,
-        };
-        let (key, about) = match chosen.subject {
-            Subject::Key(key) => match Key::parse(key.as_bytes()) {
-                Ok(key) => (Some(key), None),
-                Err(error) => return Err(Unclear::Key(error)),
-            },
-            Subject::Entries | Subject::Pattern(_) => (None, None),
-            subject => (None, Some(subject)),
-        };
-        Ok(Wanted {
-            about,
-            choice: Choice {
-                key,
-                keys: search(alloc, &patterns.key)?,
-                fixed,
-                values: search(alloc, &patterns.value)?,
-                is_negated: patterns.is_negated,
-                listed: Vec::new(alloc),
-            },
-            listed: Vec::new(alloc),
-        })
-    }
+        },
+        values: search(alloc, &patterns.value)?,
+        is_negated: patterns.is_negated,
+        listed: Vec::new(alloc),
+    })
+}
 
-    /// Whether an entry has a wanted key.
-    #[inline]
-    pub fn has_key(&mut self, entry: &Entry<'_>) -> Result<bool, AllocError> {
-        match self.about {
-            Some(subject) => {
-                self.listed.clear();
-                entry.push_key(&mut self.listed)?;
-                Ok(is_about(subject, &self.listed))
-            }
-            None => self.choice.has_key(entry),
-        }
-    }
-
-    /// Whether an entry with this value is wanted.
-    pub fn has_value(&mut self, value: &[u8]) -> bool {
-        self.choice.has_value(value)
-    }
-
-    /// The setting of an entry, if it is wanted.
-    #[inline]
-    pub fn take<'t>(
-        &mut self,
-        alloc: Global,
-        scope: Scope,
-        file: &'t [u8],
-        entry: &Entry<'t>,
-    ) -> Result<Option<Setting<'t>>, AllocError> {
-        if self.about.is_some() && !self.has_key(entry)? {
-            return Ok(None);
-        }
-        self.choice.take(alloc, scope, file, entry)
-    }
-
-    /// Whether a change is also of an entry that is a key alone: as in Git, it meets each fixed value, and no
-    /// pattern.
-    pub fn fits_alone(&self) -> bool {
-        self.choice.values.is_none() || self.choice.is_negated
-    }
+/// Whether a change is also of an entry that is a key alone: as in Git, it meets each fixed value, and no pattern.
+pub fn fits_alone(choice: &Choice<'_, '_>) -> bool {
+    choice.values.is_none() || choice.is_negated
 }

@@ -1,0 +1,220 @@
+//! Hands on what is asked for in a text and in the files that it includes.
+ghost use Rattle.std.specs.Prelude.{◌≡◌, ◌++◌, ◌∷◌, [], OnOk, IfErr};
+ghost use Rattle.config_file.specs.Views.{entry_of};
+ghost use Rattle.config_file.specs.declared.settings.Setting as code;
+ghost use Rattle.config_answers.specs.Choices.{choice_of};
+ghost use Rattle.config_answers.specs.Given.{Gives, Reads};
+ghost use Rattle.config_answers.specs.Reading.{GivesNext, IsOfSystem};
+
+use crate::choice::Choice;
+use config_file::{
+    AddError, Entry, FilePlace, Files, IncludeFault, Known, Next, Scope, Setting, Step, Walk,
+    next_of,
+};
+use std::alloc::{AllocError, Global};
+use std::io;
+
+/// What gets the settings that are asked for, one after the other.
+///
+/// ```rust
+/// use config_answers::read::Receiver;
+/// use config_file::{Entries, Setting};
+///
+/// let entry = Entries::new(b"[a]b").next().expect(&rt, "an entry").expect(&rt, "no error");
+/// let mut found = Vec::new(alloc);
+/// found.receive(Setting::of_entry(alloc, b"config", entry)?)?;
+/// assert_eq!(rt; found.len(), 1);
+/// ```
+pub trait Receiver<'t> {
+    /// What it may become as it gets a setting.
+    ghost receives: { Self → code.Setting → Self → Type 0 };
+
+    /// Gets a setting. It fails only if memory or the system refuses it.
+    fn receive(&mut self, setting: Setting<'t>) -> io::Result<()>
+        ensures { OnOk result (receives self.old setting.entry self.new) };
+}
+
+impl<'t> Receiver<'t> for Vec<Setting<'t>> {
+    ghost receives = { λ old setting new. new.items ≡ old.items ++ setting ∷ [] };
+
+    fn receive(&mut self, setting: Setting<'t>) -> io::Result<()> {
+        Ok(self.push(setting)?)
+    }
+}
+
+/// A text that Git reads, and not because another one includes it.
+///
+/// ```rust
+/// use config_answers::read::Text;
+/// use config_file::{FilePlace, Scope};
+///
+/// let place = FilePlace { name: b".git/config", real_dir: b"/a/.git" };
+/// let text = Text { scope: Scope::Local, place, text: b"[core]\n\tbare\n" };
+/// assert_eq!(rt; text.scope.name(), "local");
+/// ```
+#[derive(Clone, Copy)]
+pub struct Text<'t> {
+    /// Where Git has it from.
+    pub scope: Scope,
+    /// Where its file is.
+    pub place: FilePlace<'t>,
+    /// The text.
+    pub text: &'t [u8],
+}
+
+/// Why not all of a text is read.
+///
+/// ```rust
+/// use config_answers::choice::{Choice, Keys};
+/// use config_answers::read::{Stopped, Text};
+/// use config_file::{AddError, Content, Directories, FilePlace, Files, Includes, Known, Scope};
+/// use std::alloc::{AllocError, Global};
+///
+/// #[derive(Drop)]
+/// struct NoFiles;
+///
+/// impl<'t> Files<'t> for NoFiles {
+///     ghost contents = { λ _ _ _. ⊤ };
+///
+///     fn read(&self, _alloc: Global, _name: &[u8]) -> Result<Content<'t>, AllocError> {
+///         Ok(Content::Missing)
+///     }
+/// }
+///
+/// let known = Known {
+///     directories: Directories { home: None, install_dir: None },
+///     includes: Includes::All,
+/// };
+/// let mut choice = Choice {
+///     keys: Keys::All,
+///     fixed: Some(b"1"),
+///     values: None,
+///     is_negated: false,
+///     listed: Vec::new(alloc),
+/// };
+/// let place = FilePlace { name: b"config", real_dir: b"/" };
+/// let text = Text { scope: Scope::Local, place, text: b"[a]\n\tb = 1\n\tc = 2\n[us er]" };
+/// let mut found = Vec::new(alloc);
+/// let end = choice.read(alloc, &NoFiles, &known, text, &mut found);
+/// assert!(rt; matches!(end, Err(Stopped::Git(AddError::Line { error, .. })) if error.line == 4));
+/// assert_eq!(rt; found.len(), 1); // of a.b
+/// ```
+#[derive(Drop)]
+pub enum Stopped<'t> {
+    /// Git stops there. What comes before is handed on.
+    Git(AddError<'t>),
+    /// Memory or the system refuses it.
+    System(io::Error),
+}
+
+/// Memory is refused.
+fn no_memory<'t>() -> Stopped<'t>
+    ensures { IsOfSystem result }
+{
+    Stopped::System(io::Error::from(AllocError))
+}
+
+impl Choice<'_, '_> {
+    /// Hands on the setting of an entry, if it is asked for.
+    #[inline(always)]
+    fn give<'t, R: Receiver<'t>>(
+        &mut self,
+        alloc: Global,
+        scope: Scope,
+        file: &'t [u8],
+        entry: &Entry<'t>,
+        receiver: &mut R,
+    ) -> Result<(), Stopped<'t>>
+        ensures gives { OnOk result
+            (Gives R.receives (choice_of self.old) scope (file.now, entry_of entry.now) receiver.old receiver.new) }
+        ensures same { choice_of self.new ≡ choice_of self.old }
+        ensures system { IfErr result IsOfSystem }
+    {
+        let setting = match self.take(alloc, scope, file, entry) {
+            Ok(Some(setting)) => setting,
+            Ok(None) => return Ok(()),
+            Err(_) => return Err(no_memory()),
+        };
+        match receiver.receive(setting) {
+            Ok(()) => Ok(()),
+            Err(error) => Err(Stopped::System(error)),
+        }
+    }
+
+    /// Hands on the next entry of a walk, if it is asked for, and enters the file that it includes. Returns false at
+    /// the end.
+    #[inline(always)]
+    fn give_next<'t, F: Files<'t>, R: Receiver<'t>>(
+        &mut self,
+        alloc: Global,
+        files: &F,
+        known: &Known<'_>,
+        scope: Scope,
+        walk: &mut Walk<'t>,
+        receiver: &mut R,
+    ) -> Result<bool, Stopped<'t>>
+        ensures gives { GivesNext (F.contents files.now) known.now R.receives (choice_of self.old) scope
+            walk.old.frames.items walk.new.frames.items receiver.old receiver.new result }
+        ensures same { choice_of self.new ≡ choice_of self.old }
+    {
+        let step = match walk.next(alloc, known) {
+            Ok(step) => step,
+            Err(_) => return Err(no_memory()),
+        };
+        let (place, entry, include) = match step {
+            Step::Entry(place, entry, include) => (place, entry, include),
+            Step::Line(place, error) => {
+                let file = place.name;
+                return Err(Stopped::Git(AddError::Line { file, error }));
+            }
+            Step::Ends => return Ok(false),
+        };
+        let (file, line) = (place.name, entry.line);
+        let next = match next_of(alloc, files, include) {
+            Ok(next) => next,
+            Err(_) => return Err(no_memory()),
+        };
+        match self.give(alloc, scope, file, &entry, receiver) {
+            Ok(()) => {}
+            Err(error) => return Err(error),
+        }
+        match next {
+            Next::Behind => Ok(true),
+            Next::In(place, text) if walk.enter(place, text) => Ok(true),
+            Next::In(_, _) => {
+                let fault = IncludeFault::TooDeep;
+                Err(Stopped::Git(AddError::Include { file, line, fault }))
+            }
+            Next::Stops(fault) => Err(Stopped::Git(AddError::Include { file, line, fault })),
+        }
+    }
+
+    /// Hands on what is asked for of the entries of a text and of the files that it includes, in Git's order, up to
+    /// where Git stops.
+    pub fn read<'t, F: Files<'t>, R: Receiver<'t>>(
+        &mut self,
+        alloc: Global,
+        files: &F,
+        known: &Known<'_>,
+        text: Text<'t>,
+        receiver: &mut R,
+    ) -> Result<(), Stopped<'t>>
+        ensures reads { Reads (F.contents files.now) known.now R.receives (choice_of self.old) text.entry
+            receiver.old receiver.new result }
+        ensures same { choice_of self.new ≡ choice_of self.old }
+    {
+        let mut walk = Walk::new(text.place, text.text);
+        'steps: for _ in 0..u64::MAX {
+            let goes_on = match self.give_next(
+                alloc, files, known, text.scope, &mut walk, receiver,
+            ) {
+                Ok(goes_on) => goes_on,
+                Err(error) => return Err(error),
+            };
+            if !goes_on {
+                return Ok(());
+            }
+        }
+        Err(no_memory())
+    }
+}
