@@ -30,7 +30,7 @@ CALLS = {
     "config_host": ("settings_here", "Locked"),
 }
 # the crates that use the library
-MORE = {"config_checks": ("check_file", "Options", "Setting", "Version"),
+MORE = {"config_checks": ("check_file", "Options", "Setting", "Version"), "config_answers": (),
         "uses": ("color_of_both", "default_warning", "is_bare", "path_at_home", "path_of_user", "preview",
                  "push_default", "read", "six_settings", "value_of")}
 FENCED = re.compile(r"^```(\w*)\n(.*?)^```$", re.MULTILINE | re.DOTALL)
