@@ -7,7 +7,7 @@ use config_checks::reason::Severity;
 use config_checks::version::Version;
 use config_file::key::Key;
 use config_host::options::{About, GENERAL, Given, Options, Row, Tables, Takes};
-use config_host::terminal;
+use config_host::terminal::{When, depth};
 use std::alloc::{AllocError, Global};
 use std::io::IsTerminal;
 
@@ -273,11 +273,12 @@ fn format_of(options: &Options<'_>) -> Format {
 
 /// Whether `--color` and standard output want colors.
 fn wants_color(rt: &HostRuntime, options: &Options<'_>) -> Result<bool, AllocError> {
-    match options.last("color") {
-        Some("always") => Ok(true),
-        Some("never") => Ok(false),
-        _ => Ok(terminal::depth(rt, &rt.stdout())?.is_some()),
-    }
+    let when = match options.last("color") {
+        Some("always") => When::Always,
+        Some("never") => When::Never,
+        _ => When::Auto,
+    };
+    Ok(depth(rt, &rt.stdout(), when)?.is_some())
 }
 
 /// The code of this name.

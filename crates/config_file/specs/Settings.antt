@@ -54,12 +54,14 @@ written_section None = []
 written_section (Some (name, None)) = name_shown name ++ codes "."
 written_section (Some (name, Some raw)) = name_shown name ++ codes "." ++ name_shown raw ++ codes "."
 
+-- where a setting is: `FILE:LINE`
+abbrev pub setting_place : Setting → List ℕ
+setting_place setting = name_shown setting.file.now ++ codes ":" ++ decimal (entry_of setting.entry).line
+
 -- how the place of a refusal is shown: `FILE:LINE: KEY: `, with the key as it is written
 abbrev pub place_shown : Setting → List ℕ
-place_shown setting =
-    let entry = entry_of setting.entry in
-    name_shown setting.file.now ++ codes ":" ++ decimal entry.line ++ codes ": " ++ written_section entry.section
-    ++ name_shown entry.key ++ codes ": "
+place_shown setting = let entry = entry_of setting.entry in
+    setting_place setting ++ codes ": " ++ written_section entry.section ++ name_shown entry.key ++ codes ": "
 
 -- `: ` and the text of a value in quotes, or nothing for a key alone
 abbrev pub text_shown : Option (List ℕ) → List ℕ
@@ -316,17 +318,36 @@ Gets grammar refusal settings text (Err (get.Refused refused)) = IsDecided setti
 Gets grammar refusal settings text (Err (get.Key error)) = RefusesKey text error
 Gets grammar refusal settings text (Err (get.NoWord _)) = ⊥
 
--- the text of the last setting that has this key, if it is one of these words, or its refusal
+-- the text of a setting, or the refusal of a key alone
+abbrev pub GivesText : Setting → Result (Bor (List ℕ)) GetError → Type 0
+GivesText setting (Ok text) = value_text setting ≡ Some text.now
+GivesText setting (Err (get.NoValue refused)) = (refused.now ≡ setting) × (value_text setting ≡ None)
+GivesText setting (Err _) = ⊥
+
+-- the text of a setting if it is one of these words, or its refusal
+abbrev pub GivesWord : List (List ℕ) → Setting → Result (Bor (List ℕ)) GetError → Type 0
+GivesWord words setting (Ok word) = (value_text setting ≡ Some word.now) × Contains words word.now
+GivesWord words setting (Err (get.NoWord refused)) = (refused.now ≡ setting)
+    × ((text : List ℕ) × (value_text setting ≡ Some text) × ¬ (Contains words text))
+GivesWord words setting (Err (get.NoValue refused)) = (refused.now ≡ setting) × (value_text setting ≡ None)
+GivesWord words setting (Err _) = ⊥
+
+-- what the last setting that has this key gives, or nothing if none has it
+abbrev pub GetsBy : {A : Type 0} → (Setting → Result A GetError → Type 0) → List Setting → List ℕ
+    → Result (Option A) GetError → Type 0
+GetsBy gives settings text (Ok None) = IsUnset settings text
+GetsBy gives settings text (Err (get.Key error)) = RefusesKey text error
+GetsBy gives settings text (Ok (Some a)) = (setting : Setting) × IsDecided settings text setting × gives setting (Ok a)
+GetsBy gives settings text (Err error) =
+    (setting : Setting) × IsDecided settings text setting × gives setting (Err error)
+
+-- the text of the last setting that has this key, or its refusal
+abbrev pub GetsText : List Setting → List ℕ → Result (Option (Bor (List ℕ))) GetError → Type 0
+GetsText = GetsBy GivesText
+
+-- the same, if the text is one of these words
 abbrev pub GetsWord : List (List ℕ) → List Setting → List ℕ → Result (Option (Bor (List ℕ))) GetError → Type 0
-GetsWord words settings text (Ok None) = IsUnset settings text
-GetsWord words settings text (Ok (Some word)) = (setting : Setting) × IsDecided settings text setting
-    × (value_text setting ≡ Some word.now) × Contains words word.now
-GetsWord words settings text (Err (get.NoValue setting)) =
-    IsDecided settings text setting.now × (value_text setting.now ≡ None)
-GetsWord words settings text (Err (get.NoWord setting)) = IsDecided settings text setting.now
-    × ((value : List ℕ) × (value_text setting.now ≡ Some value) × ¬ (Contains words value))
-GetsWord words settings text (Err (get.Key error)) = RefusesKey text error
-GetsWord words settings text (Err (get.Refused _)) = ⊥
+GetsWord words = GetsBy (GivesWord words)
 
 -- a text has at most one value, and is refused with at most one fault
 pub record HasOneReading {V : Type 0} (grammar : List ℕ → V → Type 0) (refusal : List ℕ → Fault → Type 0)

@@ -41,6 +41,7 @@ pub use crate::path::Directories;
 pub use crate::reader::Entries;
 pub use crate::scope::Scope;
 pub use crate::settings::{
-    AddError, GetError, IncludeFault, Next, RefusedSetting, Setting, Settings, next_of,
+    AddError, GetError, IncludeFault, Next, RefusedSetting, Setting, SettingPlace, Settings,
+    next_of,
 };
 pub use crate::walk::{FilePlace, Frame, Include, Known, Step, Walk};

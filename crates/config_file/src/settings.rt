@@ -7,7 +7,8 @@ ghost use Rattle.config_file.specs.Settings.{place_shown, text_shown, refused_sh
 ghost use Rattle.config_file.specs.Settings.{add_error_shown, include_fault_text, value_text, text_of};
 ghost use Rattle.config_file.specs.Settings.{path_bytes, IsSettingOf, IsRefusalOf, ReadsSetting};
 ghost use Rattle.config_file.specs.Settings.{IsPathOfSetting, AddsFile, AddsWalk, AddsInScope, IsNext};
-ghost use Rattle.config_file.specs.Settings.{AreListed, LacksKey, IsLast, AllWithKey, Gets, GetsWord};
+ghost use Rattle.config_file.specs.Settings.{AreListed, LacksKey, IsLast, AllWithKey, Gets, GetsText, GetsWord};
+ghost use Rattle.config_file.specs.Settings.{GivesText, GivesWord, setting_place};
 ghost use Rattle.config_file.specs.Settings.{HasSubsection, LacksSubsection, AreSubsections};
 ghost use Rattle.config_file.specs.Reading.Adds.{AddsEntry, AddsNext, AddsOnce, Decides};
 ghost use Rattle.config_file.specs.declared.scope.Scope.TheVariants.{Command};
@@ -80,7 +81,19 @@ pub struct RefusedSetting<'s, 't, F> {
     pub fault: F,
 }
 
-/// Displays as the place of a setting: `FILE:LINE: KEY: `.
+/// The place of a setting, which displays as `FILE:LINE`: [`Setting::place`].
+#[derive(Clone, Copy)]
+pub struct SettingPlace<'s, 't>(&'s Setting<'t>);
+
+impl fmt::Display for SettingPlace<'_, '_> {
+    ghost output = { λ place. Some (setting_place place.0.now) };
+
+    fn fmt<W: fmt::Write>(&self, f: &mut fmt::Formatter<W>) -> fmt::Result {
+        write!(f, "{}:{}", BStr::new(self.0.file), self.0.entry.line)
+    }
+}
+
+/// Displays as the place of a setting and its key: `FILE:LINE: KEY: `.
 #[derive(Clone, Copy)]
 struct PlaceOf<'s, 't>(&'s Setting<'t>);
 
@@ -88,8 +101,8 @@ impl fmt::Display for PlaceOf<'_, '_> {
     ghost output = { λ place. Some (place_shown place.0.now) };
 
     fn fmt<W: fmt::Write>(&self, f: &mut fmt::Formatter<W>) -> fmt::Result {
-        let Setting { file, entry, .. } = self.0;
-        write!(f, "{}:{}: ", BStr::new(file), entry.line)?;
+        let Setting { entry, .. } = self.0;
+        write!(f, "{}: ", self.0.place())?;
         if let Some(section) = &entry.section {
             write!(f, "{}.", BStr::new(section.name))?;
             if let Some(subsection) = &section.subsection {
@@ -318,6 +331,44 @@ impl<'t> Setting<'t> {
             Some(text) => text,
             None => b"true",
         }
+    }
+
+    /// The text of the value. A key alone has none, and is refused as `NoValue`: Git says "missing value" where
+    /// it needs a text.
+    pub fn own_text(&self) -> Result<&[u8], GetError<'_, 't>>
+        ensures { GivesText self.now result }
+    {
+        match &self.value {
+            Some(text) => Ok(text),
+            None => Err(GetError::NoValue(self)),
+        }
+    }
+
+    /// The text of the value, which has to be one of these words, byte by byte. Any other text is refused as
+    /// `NoWord`, and a key alone as `NoValue`.
+    pub fn one_of<'w>(&self, words: &[&'w str]) -> Result<&'w str, GetError<'_, 't>>
+        ensures { GivesWord (map (λ word. word.now) words.now) self.now result }
+    {
+        let text = self.own_text()?;
+        match word_of(words, text) {
+            Some(word) => Ok(word),
+            None => Err(GetError::NoWord(self)),
+        }
+    }
+
+    /// Where the setting is, which displays as `FILE:LINE`.
+    ///
+    /// ```rust
+    /// use config_file::Settings;
+    ///
+    /// let mut settings = Settings::new(alloc);
+    /// assert!(rt; settings.add_file(alloc, b".git/config", b"[core]\n\tbare").is_ok());
+    /// assert_eq!(rt; settings.entries[0].place().to_string(alloc)?.as_str(), ".git/config:2");
+    /// ```
+    pub fn place(&self) -> SettingPlace<'_, 't>
+        ensures { result.0.now ≡ self.now }
+    {
+        SettingPlace(self)
     }
 
     /// A refusal of this setting, with this fault.
@@ -690,6 +741,28 @@ impl<'t> Settings<'t> {
         }
     }
 
+    /// The text of the last entry of a key, or `None` if no entry has it. A key alone is refused, as by
+    /// [`Setting::own_text`].
+    ///
+    /// ```rust
+    /// use config_file::{GetError, Settings};
+    ///
+    /// let mut settings = Settings::new(alloc);
+    /// assert!(rt; settings.add_file(alloc, b"config", b"[user]\n\tname = A\n\temail").is_ok());
+    /// let name = settings.text("user.name").expect(&rt, "no refusal").expect(&rt, "a text");
+    /// assert_eq!(rt; name, b"A".as_slice());
+    /// assert!(rt; matches!(settings.text("user.email"), Err(GetError::NoValue(_))));
+    /// ```
+    pub fn text(&self, key: &str) -> Result<Option<&[u8]>, GetError<'_, 't>>
+        ensures { AreListed self.now.entries.items → GetsText self.now.entries.items key.now result }
+    {
+        match self.deciding(key) {
+            Ok(Some(setting)) => Ok(Some(setting.own_text()?)),
+            Ok(None) => Ok(None),
+            Err(error) => Err(GetError::Key(error)),
+        }
+    }
+
     /// The value of the last entry of a key, which has to be one of these words, byte by byte, or `None` if
     /// no entry has the key. Any other text is refused as `NoWord`, and a key alone as `NoValue`.
     ///
@@ -715,9 +788,7 @@ impl<'t> Settings<'t> {
             Ok(None) => return Ok(None),
             Err(error) => return Err(GetError::Key(error)),
         };
-        let Some(text) = &setting.value else {
-            return Err(GetError::NoValue(setting));
-        };
+        let text = setting.own_text()?;
         match word_of(words, text) {
             Some(word) => Ok(Some(word)),
             None => Err(GetError::NoWord(setting)),

@@ -30,6 +30,8 @@ pub struct Here<'t> {
     pub settings: Settings<'t>,
     /// The folder in which Git works: the top of the work tree, or the folder that was asked about.
     pub folder: &'t [u8],
+    /// The branch that is checked out, without `refs/heads/`: `None` if HEAD names none, or without a repository.
+    pub branch: Option<&'t [u8]>,
     /// Why Git uses no repository although one is there. It then reads none of its settings.
     pub refusal: Option<Refusal<'t>>,
 }
@@ -47,9 +49,14 @@ fn settings_in<'t>(
 /// What Git reads where it works.
 fn read_at<'t>(disk: &Disk<'t>, location: Location<'t>) -> Result<Here<'t>, HereError<'t>> {
     let (folder, refusal) = (location.folder, location.refusal);
+    let repository = location.used()?;
     Ok(Here {
-        settings: settings_in(disk, folder, location.used()?)?,
+        settings: settings_in(disk, folder, repository)?,
         folder,
+        branch: match repository {
+            Some(repository) => repository.branch,
+            None => None,
+        },
         refusal,
     })
 }
