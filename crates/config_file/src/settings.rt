@@ -82,6 +82,14 @@ pub struct RefusedSetting<'s, 't, F> {
 }
 
 /// The place of a setting, which displays as `FILE:LINE`: [`Setting::place`].
+///
+/// ```rust
+/// use config_file::Settings;
+///
+/// let mut settings = Settings::new(alloc);
+/// assert!(rt; settings.add_file(alloc, b".git/config", b"[core]\n\tbare").is_ok());
+/// assert_eq!(rt; settings.entries[0].place().to_string(alloc)?.as_str(), ".git/config:2");
+/// ```
 #[derive(Clone, Copy)]
 pub struct SettingPlace<'s, 't>(&'s Setting<'t>);
 
@@ -357,14 +365,6 @@ impl<'t> Setting<'t> {
     }
 
     /// Where the setting is, which displays as `FILE:LINE`.
-    ///
-    /// ```rust
-    /// use config_file::Settings;
-    ///
-    /// let mut settings = Settings::new(alloc);
-    /// assert!(rt; settings.add_file(alloc, b".git/config", b"[core]\n\tbare").is_ok());
-    /// assert_eq!(rt; settings.entries[0].place().to_string(alloc)?.as_str(), ".git/config:2");
-    /// ```
     pub fn place(&self) -> SettingPlace<'_, 't>
         ensures { result.0.now ≡ self.now }
     {

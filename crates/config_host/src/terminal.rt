@@ -9,6 +9,14 @@ use std::alloc::AllocError;
 use std::io::IsTerminal;
 
 /// When a program writes colors.
+///
+/// ```rust
+/// use config_host::terminal::When;
+///
+/// assert!(rt; matches!(When::read(b"Always"), Some(When::Always)));
+/// assert!(rt; matches!(When::read(b"yes"), Some(When::Auto)));
+/// assert!(rt; When::read(b"sometimes").is_none());
+/// ```
 #[derive(Clone, Copy, Debug)]
 pub enum When {
     /// Never.
@@ -29,14 +37,6 @@ const WORDS: &[(&[u8], When)] = &[
 impl When {
     /// What the text of a setting such as `color.ui` says: `never`, `auto`, `always`, or a boolean, of which true
     /// is `auto`. Any other text gives `None`.
-    ///
-    /// ```rust
-    /// use config_host::terminal::When;
-    ///
-    /// assert!(rt; matches!(When::read(b"Always"), Some(When::Always)));
-    /// assert!(rt; matches!(When::read(b"yes"), Some(When::Auto)));
-    /// assert!(rt; When::read(b"sometimes").is_none());
-    /// ```
     pub fn read(text: &[u8]) -> Option<When> {
         for (word, when) in WORDS {
             if text.eq_ignore_ascii_case(word) {
