@@ -6,6 +6,7 @@ use crate::error::Refusal;
 use crate::options::{About, Ends, Given, Misuse, Takes};
 use crate::sources::{Named, Source};
 use crate::surroundings::{Followed, FoundRepository};
+use crate::terminal::When;
 use crate::users::Users;
 
 /// Choices of includes are equal exactly if they are the same.
@@ -21,6 +22,7 @@ pub fn copies()
     ensures refusals { IsCopied ⟦<Refusal<'static> as Clone>⟧.is_clone ⟦<Refusal<'static> as Clone>⟧.is_infallible }
     ensures repositories { IsCopied ⟦<FoundRepository<'static> as Clone>⟧.is_clone ⟦<FoundRepository<'static> as Clone>⟧.is_infallible }
     ensures users { IsCopied ⟦<Users<'static> as Clone>⟧.is_clone ⟦<Users<'static> as Clone>⟧.is_infallible }
+    ensures times { IsCopied ⟦<When as Clone>⟧.is_clone ⟦<When as Clone>⟧.is_infallible }
 {}
 
 /// A clone of what options are and say is the same, and never fails.

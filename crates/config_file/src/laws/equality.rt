@@ -12,7 +12,7 @@ use crate::key::{Key, KeyError};
 use crate::path::{Directories, Expanded};
 use crate::scope::Scope;
 use crate::section::{Section, Subsection};
-use crate::settings::{AddError, GetError, IncludeFault, RefusedSetting};
+use crate::settings::{AddError, GetError, IncludeFault, RefusedSetting, SettingPlace};
 use crate::value::Value;
 use crate::walk::{FilePlace, Known};
 
@@ -88,7 +88,7 @@ pub fn walks()
         ⟦<Expanded<'static> as Clone>⟧.is_infallible }
 {}
 
-/// A clone of an error of settings is the same, and never fails.
+/// A clone of an error of settings, or of the place of one, is the same, and never fails.
 pub fn errors_of_settings()
     ensures added { IsCopied ⟦<AddError<'static> as Clone>⟧.is_clone
         ⟦<AddError<'static> as Clone>⟧.is_infallible }
@@ -96,6 +96,8 @@ pub fn errors_of_settings()
         ⟦<IncludeFault<'static> as Clone>⟧.is_infallible }
     ensures got { IsCopied ⟦<GetError<'static, 'static> as Clone>⟧.is_clone
         ⟦<GetError<'static, 'static> as Clone>⟧.is_infallible }
+    ensures places { IsCopied ⟦<SettingPlace<'static, 'static> as Clone>⟧.is_clone
+        ⟦<SettingPlace<'static, 'static> as Clone>⟧.is_infallible }
 {}
 
 /// A clone of a refusal is the same refusal, and never fails, if both are true of clones of its fault.
