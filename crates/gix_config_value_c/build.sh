@@ -63,10 +63,10 @@ if [ -z "$archive" ]; then
     archive=$here/out/libgix_config_value_c.a
 fi
 
-# one object, which exports only what the header declares, and one of the calls that look up users, which only programs
-# that call them need; CC and the flags may be several words
+# one object, which exports only what the header declares, and two that only some programs need: of the calls that look
+# up users, and of those that edit files; CC and the flags may be several words
 cc=${CC:-cc}
-for part in calls settings users; do
+for part in calls settings users locked; do
     # shellcheck disable=SC2086
     $cc -std=c99 -O2 -fPIC ${CFLAGS:-} -I"$here/include" -c -o "$work/$part.o" "$here/$part.c"
 done
@@ -74,10 +74,10 @@ done
 $cc -r -nostdlib -o "$work/gix_config_value.o" \
     -Wl,--whole-archive "$archive" "$heap" -Wl,--no-whole-archive "$work/calls.o" "$work/settings.o"
 objcopy --wildcard --keep-global-symbol='gcv_*' --localize-symbol='gcv_raw_*' "$work/gix_config_value.o"
-ar rcsD "$work/libgix_config_value.a" "$work/gix_config_value.o" "$work/users.o"
+ar rcsD "$work/libgix_config_value.a" "$work/gix_config_value.o" "$work/users.o" "$work/locked.o"
 # shellcheck disable=SC2086
 $cc -shared -o "$work/libgix_config_value.so.$version" -Wl,-soname,"$soname" -Wl,-z,defs -Wl,-z,noexecstack \
-    -Wl,-z,relro ${CFLAGS:-} "$work/gix_config_value.o" "$work/users.o" ${LDFLAGS:-}
+    -Wl,-z,relro ${CFLAGS:-} "$work/gix_config_value.o" "$work/users.o" "$work/locked.o" ${LDFLAGS:-}
 escaped() {
     printf '%s' "$1" | sed 's/[ \\]/\\&/g; s/[\\&|]/\\&/g'
 }

@@ -31,7 +31,7 @@ const char *gcv_status_text(gcv_status status)
     case GCV_OK:
         return "no error";
     case GCV_REFUSED:
-        return "the text has no value of its kind, or means no path, or a file is not read";
+        return "the text has no value of its kind, or means no path";
     case GCV_OVERFLOW:
         return "the product does not fit 64 bits";
     case GCV_NO_TEXT:
@@ -100,6 +100,14 @@ const char *gcv_status_text(gcv_status status)
         return "several entries have the key";
     case GCV_FORBIDDEN_URL:
         return "the URL of a remote is in a file that is included on a condition";
+    case GCV_NOT_READ:
+        return "the file is not read";
+    case GCV_RELATIVE:
+        return "relative config includes must come from files";
+    case GCV_LOCKED:
+        return "the lock is held";
+    case GCV_NOT_WRITTEN:
+        return "the file is not written";
     }
     return "unknown status";
 }
@@ -421,69 +429,32 @@ gcv_status gcv_command_text(gcv_get_variable *get, void *state, char *GCV_TO buf
     return status;
 }
 
-/* Call a proved edit, which takes no null pointer. */
-static gcv_status call_with_two(gcv_edit_by_two *edit, const char *text, size_t length, const char *first,
-                                size_t first_length, const char *second, size_t second_length, char *buffer,
-                                size_t capacity, size_t *size, size_t *line)
-{
-    size_t unused = 0;
-    return edit(bytes_of(text, length), length, bytes_of(first, first_length), first_length,
-                bytes_of(second, second_length), second_length, room_of(buffer, capacity), capacity, size,
-                line ? line : &unused);
-}
-
-static gcv_status call_with_one(gcv_edit_by_one *edit, const char *text, size_t length, const char *name,
-                                size_t name_length, char *buffer, size_t capacity, size_t *size, size_t *line)
-{
-    size_t unused = 0;
-    return edit(bytes_of(text, length), length, bytes_of(name, name_length), name_length,
-                room_of(buffer, capacity), capacity, size, line ? line : &unused);
-}
-
-gcv_status gcv_set(const char *text, size_t length, const char *key, size_t key_length, const char *value,
-                   size_t value_length, char *GCV_TO buffer, size_t capacity, size_t *size, size_t *line)
-{
-    return call_with_two(gcv_raw_set, text, length, key, key_length, value, value_length, buffer, capacity, size, line);
-}
-
-gcv_status gcv_replace_all(const char *text, size_t length, const char *key, size_t key_length, const char *value,
-                           size_t value_length, char *GCV_TO buffer, size_t capacity, size_t *size, size_t *line)
-{
-    return call_with_two(gcv_raw_replace_all, text, length, key, key_length, value, value_length, buffer, capacity,
-                         size, line);
-}
-
-gcv_status gcv_add(const char *text, size_t length, const char *key, size_t key_length, const char *value,
-                   size_t value_length, char *GCV_TO buffer, size_t capacity, size_t *size, size_t *line)
-{
-    return call_with_two(gcv_raw_add, text, length, key, key_length, value, value_length, buffer, capacity, size, line);
-}
-
-gcv_status gcv_unset(const char *text, size_t length, const char *key, size_t key_length, char *GCV_TO buffer,
-                     size_t capacity, size_t *size, size_t *line)
-{
-    return call_with_one(gcv_raw_unset, text, length, key, key_length, buffer, capacity, size, line);
-}
-
-gcv_status gcv_unset_all(const char *text, size_t length, const char *key, size_t key_length,
-                         char *GCV_TO buffer, size_t capacity, size_t *size, size_t *line)
-{
-    return call_with_one(gcv_raw_unset_all, text, length, key, key_length, buffer, capacity, size, line);
-}
-
-gcv_status gcv_rename_section(const char *text, size_t length, const char *old_name, size_t old_name_length,
-                              const char *new_name, size_t new_name_length, char *GCV_TO buffer,
-                              size_t capacity, size_t *size, size_t *line)
-{
-    return call_with_two(gcv_raw_rename_section, text, length, old_name, old_name_length, new_name, new_name_length,
-                         buffer, capacity, size, line);
-}
-
-gcv_status gcv_remove_section(const char *text, size_t length, const char *name, size_t name_length,
-                              char *GCV_TO buffer, size_t capacity, size_t *size, size_t *line)
-{
-    return call_with_one(gcv_raw_remove_section, text, length, name, name_length, buffer, capacity, size, line);
-}
+/* Edits, whose line may be null. */
+#define EDIT_BY_TWO(call, first, second)                                                                               \
+    gcv_status gcv_##call(const char *text, size_t length, const char *first, size_t first##_length,                   \
+                          const char *second, size_t second##_length, char *GCV_TO buffer, size_t capacity,            \
+                          size_t *size, size_t *line)                                                                  \
+    {                                                                                                                  \
+        size_t unused = 0;                                                                                             \
+        return gcv_raw_##call(bytes_of(text, length), length, bytes_of(first, first##_length), first##_length,         \
+                              bytes_of(second, second##_length), second##_length, room_of(buffer, capacity), capacity, \
+                              size, line ? line : &unused);                                                            \
+    }
+#define EDIT_BY_ONE(call, first)                                                                                       \
+    gcv_status gcv_##call(const char *text, size_t length, const char *first, size_t first##_length,                   \
+                          char *GCV_TO buffer, size_t capacity, size_t *size, size_t *line)                            \
+    {                                                                                                                  \
+        size_t unused = 0;                                                                                             \
+        return gcv_raw_##call(bytes_of(text, length), length, bytes_of(first, first##_length), first##_length,         \
+                              room_of(buffer, capacity), capacity, size, line ? line : &unused);                       \
+    }
+EDIT_BY_TWO(set, key, value)
+EDIT_BY_TWO(replace_all, key, value)
+EDIT_BY_TWO(add, key, value)
+EDIT_BY_ONE(unset, key)
+EDIT_BY_ONE(unset_all, key)
+EDIT_BY_TWO(rename_section, old_name, new_name)
+EDIT_BY_ONE(remove_section, name)
 
 gcv_status gcv_list_key(const char *key, size_t length, char *GCV_TO buffer, size_t capacity, size_t *size)
 {

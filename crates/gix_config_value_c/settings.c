@@ -3,9 +3,10 @@
 #include "gix_config_value.h"
 
 #include <errno.h>
-#include <stdio.h>
+#include <fcntl.h>
 #include <stdlib.h>
 #include <string.h>
+#include <unistd.h>
 
 /* A block of texts, which stay where they are. */
 typedef struct block {
@@ -143,58 +144,72 @@ void gcv_free_settings(gcv_settings *settings)
     *settings = none;
 }
 
-/* Reads to the end of a file. */
-static gcv_status read_all(FILE *file, gcv_file *out)
+/* Why the system has refused a call. */
+static gcv_status refusal(void)
 {
-    size_t capacity = 0;
+    return errno == ENOMEM ? GCV_NO_MEMORY : GCV_NOT_READ;
+}
+
+/* Reads to the end of a file. */
+static gcv_status read_all(int file, gcv_file *out)
+{
+    off_t known = lseek(file, 0, SEEK_END); /* that of a device or a folder says nothing */
+    size_t capacity = 0, wanted = known > 0 && known < LONGEST_FILE ? (size_t)known + 1 : LEAST_BLOCK;
+    (void)lseek(file, 0, SEEK_SET);
     for (;;) {
-        if (out->length == capacity) {
-            capacity = capacity == 0 ? LEAST_BLOCK : 2 * capacity;
-            char *more = realloc(out->text, capacity);
-            if (!more) {
-                return GCV_NO_MEMORY;
-            }
-            out->text = more;
+        char *text = wanted > capacity ? realloc(out->text, wanted) : out->text;
+        if (!text) {
+            return GCV_NO_MEMORY;
         }
-        size_t count = fread(out->text + out->length, 1, capacity - out->length, file);
-        out->length += count;
+        out->text = text;
+        capacity = wanted;
+        ssize_t count = read(file, text + out->length, capacity - out->length);
+        if (count < 0 && errno != EINTR) {
+            return refusal();
+        }
+        out->length += count > 0 ? (size_t)count : 0;
+        if (count == 0 || (count > 0 && (off_t)out->length == known)) {
+            return GCV_OK;
+        }
         if (out->length > LONGEST_FILE) {
-            return GCV_REFUSED;
+            errno = EFBIG;
+            return GCV_NOT_READ;
         }
-        if (count == 0) {
-            return ferror(file) ? GCV_REFUSED : GCV_OK;
+        if (out->length == capacity) {
+            wanted = capacity > LONGEST_FILE / 2 ? LONGEST_FILE + 1 : 2 * capacity;
         }
     }
 }
 
-/* The folder of a file as an absolute path without links, or null. */
-static char *real_dir_of(const char *name)
+/* Finds the folder of a file as an absolute path without links: null for a pipe, which is in none. */
+static gcv_status find_real_dir(const char *name, char **out)
 {
-    char *real = realpath(name, NULL), *end = real ? strrchr(real, '/') : NULL;
+    char *end = (*out = realpath(name, NULL)) ? strrchr(*out, '/') : NULL;
     if (end) {
         *end = '\0';
     }
-    return real;
+    return *out || errno == ENOENT ? GCV_OK : refusal();
 }
 
 gcv_status gcv_open_file(void *state, const char *name, gcv_file *out)
 {
-    FILE *file = fopen(name, "rb");
+    int file = open(name, O_RDONLY | O_CLOEXEC);
+    gcv_file opened = {NULL, 0, NULL};
     (void)state;
-    if (!file) {
-        return errno == ENOENT || errno == ENOTDIR ? GCV_ABSENT : GCV_REFUSED;
+    if (file < 0) {
+        return errno == ENOENT || errno == ENOTDIR ? GCV_ABSENT : refusal();
     }
-    out->text = NULL;
-    out->length = 0;
-    out->real_dir = NULL;
-    gcv_status status = read_all(file, out);
-    fclose(file);
-    if (status != GCV_OK) {
-        free(out->text);
-        return status;
+    gcv_status status = read_all(file, &opened);
+    status = status == GCV_OK ? find_real_dir(name, &opened.real_dir) : status;
+    int error = errno;
+    close(file);
+    if (status == GCV_OK) {
+        *out = opened;
+    } else {
+        free(opened.text);
     }
-    out->real_dir = real_dir_of(name);
-    return GCV_OK;
+    errno = error;
+    return status;
 }
 
 /* What is read. Files have memory by their depth. `urls` are those of remotes, if they are sought, and `refused` is the
@@ -215,13 +230,22 @@ typedef struct {
     size_t refused_line;
 } reading;
 
+/* The name of what has the settings of a command. */
+static const char command_line[] = "command line";
+
+/* Forgets a file. */
+static void forget_file(gcv_file *file)
+{
+    free(file->text);
+    free(file->real_dir);
+    memset(file, 0, sizeof *file);
+}
+
 /* Goes on in a file, whose name stays where it is. */
 static gcv_status enter(reading *to, const char *name)
 {
     gcv_file *file = &to->files[to->walk.count];
-    free(file->text);
-    free(file->real_dir);
-    memset(file, 0, sizeof *file);
+    forget_file(file);
     gcv_status status = to->open(to->state, name, file);
     if (status != GCV_OK) {
         memset(file, 0, sizeof *file);
@@ -229,6 +253,30 @@ static gcv_status enter(reading *to, const char *name)
     }
     return gcv_enter(&to->walk, name, strlen(name), file->real_dir, file->real_dir ? strlen(file->real_dir) : 0,
                      file->text, file->length);
+}
+
+/* A gcv_get_variable. */
+static const char *variable(void *state, const char *name)
+{
+    (void)state;
+    return getenv(name);
+}
+
+/* Goes on in the settings of the command, which are in no folder. */
+static gcv_status enter_command(reading *to)
+{
+    gcv_file *file = &to->files[0];
+    size_t size = 0;
+    forget_file(file);
+    gcv_status status = gcv_command_text(variable, NULL, NULL, 0, &size);
+    if (status == GCV_SHORT_BUFFER) {
+        file->text = malloc(size);
+        status = file->text ? gcv_command_text(variable, NULL, file->text, size, &file->length) : GCV_NO_MEMORY;
+    }
+    if (status != GCV_OK) {
+        return status;
+    }
+    return gcv_enter(&to->walk, command_line, sizeof command_line - 1, "\0", 1, file->text, file->length);
 }
 
 /* Takes the next entry into a block. */
@@ -316,16 +364,19 @@ static gcv_status take(reading *to, gcv_step *step)
     if (step->include != GCV_OK) {
         return step->include;
     }
+    if (step->file == command_line && *step->included != '/') {
+        return GCV_RELATIVE;
+    }
     return enter(to, step->included);
 }
 
-/* Reads a file and what it includes. */
+/* Reads a file, or for null the settings of the command, and what it includes. */
 static gcv_status read_file(reading *to, const char *name)
 {
     gcv_step step = {"", 0, 0, NULL, NULL, NULL, GCV_OK, GCV_PLAIN, 0};
-    const char *own = kept(to->memory, name);
+    const char *own = name ? kept(to->memory, name) : command_line;
     to->walk.count = 0;
-    gcv_status status = own ? enter(to, own) : GCV_NO_MEMORY;
+    gcv_status status = !own ? GCV_NO_MEMORY : name ? enter(to, own) : enter_command(to);
     step.file = own;
     while (status == GCV_OK && (status = next(to, &step)) == GCV_OK) {
         status = take(to, &step);
@@ -362,7 +413,7 @@ static gcv_status read_with_urls(reading *to, const char *const *names, size_t c
     if (to->asks_urls && to->refused_file) {
         to->settings->file = to->refused_file;
         to->settings->line = to->refused_line;
-        return GCV_REFUSED;
+        return GCV_FORBIDDEN_URL;
     }
     if (status != GCV_OK || !to->asks_urls) {
         return status;
@@ -393,12 +444,13 @@ gcv_status gcv_read_files(gcv_settings *settings, const char *const *names, size
     to->open = open;
     to->state = state;
     gcv_status status = read_with_urls(to, names, count);
+    int error = errno;
     for (size_t at = 0; at <= GCV_MOST_FRAMES; at++) {
-        free(to->files[at].text);
-        free(to->files[at].real_dir);
+        forget_file(&to->files[at]);
     }
     free(to->urls);
     free(to);
+    errno = error;
     if (status == GCV_OK) {
         settings->file = NULL;
         settings->line = 0;

@@ -22,7 +22,7 @@ int main(int argc, char **argv)
     snprintf(own, sizeof own, "%s/config", argv[1]);
     gcv_status status = gcv_read_files(&settings, names, 3, &known, gcv_open_file, NULL);
     if (status != GCV_OK) {
-        fprintf(stderr, "%s:%zu: %s\n", settings.file, settings.line, gcv_status_text(status));
+        fprintf(stderr, "%s:%zu: %s\n", settings.file ? settings.file : "", settings.line, gcv_status_text(status));
     }
     const gcv_setting *found = gcv_find_setting(&settings, argv[2]);
     if (found) {

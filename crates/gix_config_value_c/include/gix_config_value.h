@@ -55,7 +55,7 @@ extern "C" {
 /* What calls return. */
 typedef GCV_ENUM(gcv_status) {
     GCV_OK = 0,
-    GCV_REFUSED = 1,        /* a text has no value or means no path (see the fault), or a file is not read */
+    GCV_REFUSED = 1,        /* a text has no value, or means no path: see the fault */
     GCV_OVERFLOW = 2,       /* the product of an integer does not fit int64_t */
     GCV_NO_TEXT = 3,        /* one of the colors has no text */
     GCV_TOO_MANY_NAMES = 4, /* the two colors have more than two names together */
@@ -79,7 +79,10 @@ typedef GCV_ENUM(gcv_status) {
     GCV_NO_SECTION = 29, GCV_NO_KEY_NAME = 30, GCV_BAD_KEY = 31, GCV_KEY_LINE_FEED = 32,
     /* the value has a NUL, which no file can hold; no header can have the section; several entries have the key */
     GCV_BAD_VALUE = 33, GCV_BAD_SECTION = 34, GCV_SEVERAL = 35,
-    GCV_FORBIDDEN_URL = 36  /* the URL of a remote is in a file that is included on a condition */
+    GCV_FORBIDDEN_URL = 36, /* the URL of a remote is in a file that is included on a condition */
+    /* only of calls over files: one is not read, and errno says why; the settings of a command include a relative name;
+     * another program holds the lock of a file; the lock is not made or the new text not written, and errno says why */
+    GCV_NOT_READ = 64, GCV_RELATIVE = 65, GCV_LOCKED = 66, GCV_NOT_WRITTEN = 67
 } gcv_status;
 
 /* The kinds of values: k, m and g; a number with at most one suffix; the product of both; a truth value; the name of a
@@ -259,7 +262,7 @@ typedef struct gcv_known {
 typedef struct gcv_setting {
     const char *key; const char *value;
     const char *file; size_t line; /* the name of its file, and the line on which its entry ends, from 1 */
-    size_t source; /* the index in `names` of gcv_read_files of its file, or of the one that includes it */
+    size_t source; /* the index in `names` of gcv_read_files of what has it, or of what includes its file */
 } gcv_setting;
 
 /* The settings of files, in Git's order. Begin with GCV_NO_SETTINGS, and end with gcv_free_settings. */
@@ -273,17 +276,20 @@ typedef struct gcv_settings {
 /* Opens a file, whose name ends with NUL. Writes its text, and its directory for conditions with ./: an absolute path,
  * links resolved and no / at its end, which ends with NUL, or null. Both have memory of malloc, which gcv_read_files
  * frees. Returns GCV_OK, GCV_ABSENT if the file is not there, or why to stop. gcv_open_file opens those of the system,
- * and needs no state. It returns GCV_REFUSED for a file that cannot be read, or that is longer than 1 GiB. */
+ * and needs no state. It returns GCV_NOT_READ if the system does not read a file, or does not tell where it is; errno
+ * says why, and is EFBIG for one that is longer than 1 GiB. */
 typedef struct gcv_file { char *text; size_t length; char *real_dir; } gcv_file;
 typedef gcv_status gcv_open(void *state, const char *name, gcv_file *out);
 GCV_CALL((2, 3)) gcv_open_file(void *state, const char *name, gcv_file *out);
 
 /* Adds the settings of these files in order, each with what it includes, as Git reads them. The names end with NUL. A
- * null `known` means that no file is included. A file that is not there has no settings. If conditions ask about the
- * URLs of remotes and `known` has none, the files are read twice, first for the URLs. It allocates. The call stops
- * where Git stops, and adds nothing then: at GCV_BAD_LINE and GCV_NUL; at an include with GCV_NO_VALUE,
- * GCV_NO_DIRECTORY or GCV_TOO_DEEP; at a status of `open`; and, if conditions ask about URLs, with GCV_REFUSED at the
- * URL of a remote in a file that is included on a condition. */
+ * null name stands for the settings of the command, which Git reads last: those of `git -c` and of GIT_CONFIG_COUNT in
+ * the environment, as gcv_command_text has them, in a file of the name `command line`. A null `known` means that no
+ * file is included. A file that is not there has no settings. If conditions ask about the URLs of remotes and `known`
+ * has none, the files are read twice, first for the URLs. It allocates. The call stops where Git stops, and adds
+ * nothing then: at GCV_BAD_LINE and GCV_NUL; at an include with GCV_NO_VALUE, GCV_NO_DIRECTORY or GCV_TOO_DEEP, or from
+ * the command with GCV_RELATIVE; at a status of `open`, of which errno stays; at one of gcv_command_text; and, if
+ * conditions ask about URLs, with GCV_FORBIDDEN_URL. */
 GCV_CALL((1, 2, 5)) gcv_read_files(gcv_settings *settings, const char *const *names, size_t count,
                                    const gcv_known *known, gcv_open *open, void *state);
 
@@ -357,8 +363,8 @@ typedef const char *gcv_get_variable(void *state, const char *name);
 GCV_CALL((1, 5)) gcv_command_text(gcv_get_variable *get, void *state, char *GCV_TO buffer, size_t capacity,
                                   size_t *size);
 
-/* Edits of the text of a configuration file. Each writes the new text, in which all other bytes stay. `first` is a key,
- * or the name of a section as in a key ("branch.Main"), and `second` a value, or the new name.
+/* Edits of the text of a configuration file. Each writes the new text, in which all other bytes stay. A key is as Git
+ * takes it, and so is the name of a section ("branch.Main").
  * - gcv_set sets the one value of a key, as `git config KEY VALUE` does. If an entry has the key, only bytes of its
  *   value change: its indentation, the comment after it and its line end stay. Otherwise a new entry comes after the
  *   last one of its section, or in a new section at the end.
@@ -374,13 +380,38 @@ GCV_CALL((1, 5)) gcv_command_text(gcv_get_variable *get, void *state, char *GCV_
  * section to remove or rename; GCV_BAD_VALUE if a value has a NUL; GCV_NO_SECTION to GCV_KEY_LINE_FEED for a key that
  * Git refuses; and GCV_BAD_SECTION if no header can have the new name, or the subsection of the key, which has a NUL
  * then. At GCV_BAD_LINE and GCV_NUL, as in gcv_next, they also write the line to `*line`. They allocate. */
-typedef gcv_status gcv_edit_by_two(const char *text, size_t length, const char *first, size_t first_length,
-                                   const char *second, size_t second_length, char *GCV_TO buffer,
-                                   size_t capacity, size_t *size, size_t *line);
-typedef gcv_status gcv_edit_by_one(const char *text, size_t length, const char *first, size_t first_length,
-                                   char *GCV_TO buffer, size_t capacity, size_t *size, size_t *line);
-GCV_CHECKED GCV_NONNULL((9)) gcv_edit_by_two gcv_set, gcv_replace_all, gcv_add, gcv_rename_section;
-GCV_CHECKED GCV_NONNULL((7)) gcv_edit_by_one gcv_unset, gcv_unset_all, gcv_remove_section;
+GCV_CALL((9)) gcv_set(const char *text, size_t length, const char *key, size_t key_length, const char *value,
+                      size_t value_length, char *GCV_TO buffer, size_t capacity, size_t *size, size_t *line);
+GCV_CALL((9)) gcv_replace_all(const char *text, size_t length, const char *key, size_t key_length,
+                              const char *value, size_t value_length, char *GCV_TO buffer, size_t capacity,
+                              size_t *size, size_t *line);
+GCV_CALL((9)) gcv_add(const char *text, size_t length, const char *key, size_t key_length, const char *value,
+                      size_t value_length, char *GCV_TO buffer, size_t capacity, size_t *size, size_t *line);
+GCV_CALL((7)) gcv_unset(const char *text, size_t length, const char *key, size_t key_length,
+                        char *GCV_TO buffer, size_t capacity, size_t *size, size_t *line);
+GCV_CALL((7)) gcv_unset_all(const char *text, size_t length, const char *key, size_t key_length,
+                            char *GCV_TO buffer, size_t capacity, size_t *size, size_t *line);
+GCV_CALL((9)) gcv_rename_section(const char *text, size_t length, const char *old_name,
+                                 size_t old_name_length, const char *new_name, size_t new_name_length,
+                                 char *GCV_TO buffer, size_t capacity, size_t *size, size_t *line);
+GCV_CALL((7)) gcv_remove_section(const char *text, size_t length, const char *name, size_t name_length,
+                                 char *GCV_TO buffer, size_t capacity, size_t *size, size_t *line);
+
+/* Edits of files. The texts end with NUL, and each call does to the file of this name what the edit of a text does, as
+ * `git config --file NAME` would. It follows links to the file, makes the lock of the file, FILE.lock beside it, and
+ * reads the file, which need not be there. It writes the new text into the lock, with the mode of the file, and to the
+ * disk, and then the lock takes the place of the file: a reader finds the old text or the new one. Nothing is written
+ * if the text stays the same. After any other status than GCV_OK the file has its old text, and the lock is gone.
+ *
+ * They return the statuses of the edits; GCV_LOCKED if the lock is there, which a program holds, or has left if it was
+ * killed; GCV_NOT_READ, also if the file is not a regular one; and GCV_NOT_WRITTEN. They allocate. */
+GCV_CALL((1, 2, 3)) gcv_set_in_file(const char *name, const char *key, const char *value);
+GCV_CALL((1, 2, 3)) gcv_replace_all_in_file(const char *name, const char *key, const char *value);
+GCV_CALL((1, 2, 3)) gcv_add_in_file(const char *name, const char *key, const char *value);
+GCV_CALL((1, 2)) gcv_unset_in_file(const char *name, const char *key);
+GCV_CALL((1, 2)) gcv_unset_all_in_file(const char *name, const char *key);
+GCV_CALL((1, 2, 3)) gcv_rename_section_in_file(const char *name, const char *old_name, const char *new_name);
+GCV_CALL((1, 2)) gcv_remove_section_in_file(const char *name, const char *section);
 
 #ifdef __cplusplus
 }

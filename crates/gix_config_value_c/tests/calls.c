@@ -1,7 +1,10 @@
 /* Tests each status of each call on bad input, and what it leaves alone; compositions, files, edits, fault texts. */
 #include "guarded.h"
+#include <errno.h>
+#include <fcntl.h>
 #include <pthread.h>
 #include <pwd.h>
+#include <sys/stat.h>
 #include <time.h>
 
 static area buffer_area, text_area, name_area, dir_area, walk_area;
@@ -375,13 +378,13 @@ static void status_texts(void)
 {
     const char *unknown = gcv_status_text((gcv_status)11);
     count(strcmp(unknown, "unknown status") == 0 && gcv_status_text((gcv_status)UINT32_MAX) == unknown, unknown);
-    for (uint32_t status = GCV_OK; status <= GCV_FORBIDDEN_URL; status++) {
+    for (uint32_t status = GCV_OK; status <= GCV_NOT_WRITTEN; status++) {
         const char *text = gcv_status_text((gcv_status)status);
-        int differs = strlen(text) > 0;
-        for (uint32_t other = status + 1; other <= GCV_FORBIDDEN_URL + 1; other++) {
-            differs = differs && (status == 11 || other == 11 || strcmp(text, gcv_status_text((gcv_status)other)) != 0);
+        int is_none = status == 11 || (status > GCV_FORBIDDEN_URL && status < GCV_NOT_READ), differs = strlen(text) > 0;
+        for (uint32_t other = status + 1; other <= GCV_NOT_WRITTEN + 1; other++) {
+            differs = differs && (is_none || strcmp(text, gcv_status_text((gcv_status)other)) != 0);
         }
-        count(differs, text);
+        count(differs && is_none == (text == unknown), text);
     }
     count(strcmp(gcv_version(), GCV_VERSION) == 0, "gcv_version");
 }
@@ -634,11 +637,11 @@ static void included_files(void)
               asking.opened == 5,
           "files that are included for a URL");
     gcv_free_settings(&settings);
-    count(gcv_read_files(&settings, names, 1, &known, open_in_memory, &refused) == GCV_REFUSED && settings.line == 3 &&
+    count(gcv_read_files(&settings, names, 1, &known, open_in_memory, &refused) == GCV_FORBIDDEN_URL && settings.line == 3 &&
               strcmp(settings.file, "some") == 0 && settings.count == 0,
           "a URL in a file that is included for URLs");
     gcv_free_settings(&settings);
-    count(gcv_read_files(&settings, names, 1, &known, open_in_memory, &by_gitdir) == GCV_REFUSED && settings.line == 2 &&
+    count(gcv_read_files(&settings, names, 1, &known, open_in_memory, &by_gitdir) == GCV_FORBIDDEN_URL && settings.line == 2 &&
               strcmp(settings.file, "some") == 0,
           "a URL in a file that is included on another condition");
     gcv_free_settings(&settings);
@@ -706,7 +709,12 @@ static void opened_files(void)
     free(file.text);
     free(file.real_dir);
     count(gcv_open_file(NULL, "/no/such/file", &file) == GCV_ABSENT, "no file");
-    count(gcv_open_file(NULL, "/", &file) == GCV_REFUSED, "a folder");
+    count(gcv_open_file(NULL, "/", &file) == GCV_NOT_READ && errno == EISDIR, "a folder");
+    names[0] = "/";
+    count(gcv_read_files(&settings, names, 1, NULL, gcv_open_file, NULL) == GCV_NOT_READ && errno == EISDIR &&
+              strcmp(settings.file, "/") == 0 && settings.line == 0,
+          "a folder is not read as a file, and the system says why");
+    names[0] = name;
     count(gcv_read_files(&settings, names, 1, &nothing, gcv_open_file, NULL) == GCV_OK && settings.count == 2, "a file is read");
     gcv_free_settings(&settings);
     close(made);
@@ -1055,6 +1063,43 @@ static void commands(void)
     }
 }
 
+/* The settings of a command after those of a file: the variables, and what the call then says, as Git 2.55.0. */
+static void command_after_files(void)
+{
+    static const struct {
+        const char *parameters, *count_of;
+        gcv_status status;
+        size_t settings;
+        const char *key, *file;
+    } rows[] = {
+        {NULL, NULL, GCV_OK, 2, "includeif.hasconfig:remote.*.url:u.path", "main"},
+        {"'remote.o.url'='u' 'a.b'", NULL, GCV_OK, 5, "a.b", "command line"},
+        {"'include.path'='/more'", NULL, GCV_OK, 4, "a.k", "/more"},
+        {"'a.b' 'include.path'='more'", NULL, GCV_RELATIVE, 0, NULL, "command line"},
+        {"'includeIf.gitdir:./.path'='/more'", NULL, GCV_OK, 3, "includeif.gitdir:./.path", "command line"},
+        {NULL, "x", GCV_BAD_COUNT, 0, NULL, "command line"},
+        {"'a.b'=c", NULL, GCV_BAD_PARAMETERS, 0, NULL, "command line"},
+    };
+    static const char *const names[] = {"main", NULL};
+    static const gcv_known known = {NULL, 0, NULL, 0, NULL, 0, "/real/.git", 10, NULL, 0, NULL, 0, NULL, 0, 0};
+    for (size_t at = 0; at < sizeof rows / sizeof rows[0]; at++) {
+        in_memory both = {{{"main", "[a]k=main\n[includeIf \"hasconfig:remote.*.url:u\"]path=/more", 0}, {"/more", "[a]k=more", 0}}, 0};
+        gcv_settings settings = GCV_NO_SETTINGS;
+        (void)(rows[at].parameters ? setenv("GIT_CONFIG_PARAMETERS", rows[at].parameters, 1) : unsetenv("GIT_CONFIG_PARAMETERS"));
+        (void)(rows[at].count_of ? setenv("GIT_CONFIG_COUNT", rows[at].count_of, 1) : unsetenv("GIT_CONFIG_COUNT"));
+        gcv_status status = gcv_read_files(&settings, names, 2, &known, open_in_memory, &both);
+        const gcv_setting *last = settings.count > 0 ? &settings.list[settings.count - 1] : NULL;
+        count(status == rows[at].status && settings.count == rows[at].settings, "the settings of a command and of a file");
+        count(last ? strcmp(last->key, rows[at].key) == 0 && strcmp(last->file, rows[at].file) == 0 &&
+                         last->source == (strcmp(last->file, "main") != 0)
+                   : strcmp(settings.file, rows[at].file) == 0,
+              "where the last setting is, or why there is none");
+        gcv_free_settings(&settings);
+    }
+    unsetenv("GIT_CONFIG_PARAMETERS");
+    unsetenv("GIT_CONFIG_COUNT");
+}
+
 typedef gcv_status edit_by_two(const char *, size_t, const char *, size_t, const char *, size_t, char *, size_t, size_t *, size_t *);
 typedef gcv_status edit_by_one(const char *, size_t, const char *, size_t, char *, size_t, size_t *, size_t *);
 
@@ -1149,6 +1194,80 @@ static void edits(void)
                                    : writes_nothing(buffer_area, edited, of, of->status),
               of->old.bytes);
     }
+}
+
+/* The file of this name has this text, or is not there for null. */
+static int has(const char *name, const char *text)
+{
+    char found[256];
+    int file = open(name, O_RDONLY);
+    ssize_t size = file < 0 ? -1 : read(file, found, sizeof found);
+    (void)(file < 0 ? 0 : close(file));
+    return text ? size == (ssize_t)strlen(text) && memcmp(found, text, strlen(text)) == 0 : file < 0;
+}
+
+/* Makes a file of this text and this mode. */
+static void make(const char *name, const char *text, mode_t mode)
+{
+    int file = open(name, O_WRONLY | O_CREAT | O_TRUNC, 0600);
+    count(file >= 0 && write(file, text, strlen(text)) == (ssize_t)strlen(text) && fchmod(file, mode) == 0 && close(file) == 0, name);
+}
+
+/* Edits of files in a folder: through links, by mode, beside a held lock, and where the system refuses one. */
+static void edited_files(void)
+{
+    char folder[] = "/tmp/gcv_XXXXXX", many[5000];
+    struct stat known;
+    count(mkdtemp(folder) && chdir(folder) == 0, "a folder");
+    mode_t mask = umask(027);
+    count(gcv_set_in_file("new", "user.name", "A") == GCV_OK && has("new", "[user]\n\tname = A\n") && stat("new", &known) == 0 &&
+              (known.st_mode & 07777) == 0640 && has("new.lock", NULL),
+          "a file is made");
+    umask(mask);
+    make("main", "[a]\n\tb = 1\n", 0604);
+    count(mkdir("s", 0700) == 0 && symlink("../main", "s/far") == 0 && symlink("s/far", "link") == 0 && symlink("s/none", "away") == 0 &&
+              symlink("loop", "loop") == 0,
+          "links");
+    count(gcv_add_in_file("link", "a.b", "2") == GCV_OK && has("main", "[a]\n\tb = 1\n\tb = 2\n") && stat("main", &known) == 0 &&
+              (known.st_mode & 07777) == 0604 && lstat("link", &known) == 0 && S_ISLNK(known.st_mode),
+          "an edit through links");
+    count(gcv_set_in_file("away", "a.b", "1") == GCV_OK && has("s/none", "[a]\n\tb = 1\n"), "an edit through a link to no file");
+    count(gcv_set_in_file("main", "a.b", "3") == GCV_SEVERAL && gcv_unset_in_file("main", "a.b") == GCV_SEVERAL &&
+              gcv_set_in_file("main", "ab", "3") == GCV_NO_SECTION && gcv_unset_all_in_file("main", "a.c") == GCV_ABSENT &&
+              gcv_rename_section_in_file("main", "a", "b_") == GCV_BAD_SECTION && gcv_remove_section_in_file("main", "x") == GCV_ABSENT &&
+              has("main", "[a]\n\tb = 1\n\tb = 2\n") && has("main.lock", NULL),
+          "edits that are refused");
+    count(gcv_replace_all_in_file("main", "a.b", "3") == GCV_OK && has("main", "[a]\n\tb = 3\n"), "replace_all");
+    count(gcv_rename_section_in_file("main", "a", "c.D") == GCV_OK && has("main", "[c \"D\"]\n\tb = 3\n"), "rename_section");
+    count(gcv_add_in_file("main", "a.b", "") == GCV_OK && gcv_unset_in_file("main", "c.D.b") == GCV_OK && has("main", "[a]\n\tb = \n"), "unset");
+    memset(many, '"', sizeof many - 1);
+    many[sizeof many - 1] = '\0';
+    count(gcv_set_in_file("main", "a.b", many) == GCV_OK && stat("main", &known) == 0 && known.st_size > 9000, "a value with many quotes");
+    count(gcv_unset_all_in_file("main", "a.b") == GCV_OK && has("main", ""), "unset_all");
+    make("main", "[a]\n\tb = 1\n[c]\n", 0400);
+    count(gcv_remove_section_in_file("main", "c") == GCV_OK && has("main", "[a]\n\tb = 1\n"), "remove_section");
+    struct timespec old[2] = {{5, 0}, {5, 0}};
+    count(utimensat(AT_FDCWD, "main", old, 0) == 0 && gcv_set_in_file("main", "a.b", "1") == GCV_OK && stat("main", &known) == 0 &&
+              known.st_mtime == 5 && has("main.lock", NULL),
+          "nothing is written if nothing changes");
+    make("main.lock", "theirs", 0600);
+    count(gcv_set_in_file("main", "a.b", "2") == GCV_LOCKED && gcv_set_in_file("link", "a.b", "2") == GCV_LOCKED &&
+              has("main", "[a]\n\tb = 1\n") && has("main.lock", "theirs"),
+          "a lock that is held");
+    make("bad", "[a]\n[b\n", 0600);
+    count(gcv_set_in_file("bad", "a.b", "1") == GCV_BAD_LINE && has("bad", "[a]\n[b\n") && has("bad.lock", NULL), "no configuration");
+    count(gcv_set_in_file("s", "a.b", "1") == GCV_NOT_READ && errno == EISDIR && has("s.lock", NULL), "a folder is no file");
+    count(mkfifo("pipe", 0600) == 0 && gcv_set_in_file("pipe", "a.b", "1") == GCV_NOT_READ && errno == EINVAL && has("pipe.lock", NULL),
+          "a pipe is no file");
+    count(gcv_set_in_file("loop", "a.b", "1") == GCV_NOT_READ && errno == ELOOP, "links in a circle");
+    memset(many, 'x', sizeof many - 1);
+    count(gcv_set_in_file(many, "a.b", "1") == GCV_NOT_READ && errno == ENAMETOOLONG, "a name that is too long");
+    count(gcv_set_in_file("none/x", "a.b", "1") == GCV_NOT_WRITTEN && errno == ENOENT, "no folder for the lock");
+    static const char *const made[] = {"new", "main", "main.lock", "s/far", "s/none", "link", "away", "loop", "bad", "pipe"};
+    for (size_t at = 0; at < sizeof made / sizeof made[0]; at++) {
+        count(unlink(made[at]) == 0, made[at]);
+    }
+    count(rmdir("s") == 0 && chdir("/") == 0 && rmdir(folder) == 0, "no file is left");
 }
 
 /* The text of a file, what conditions are about, and what a thread finds out. */
@@ -1299,7 +1418,9 @@ int main(void)
     depth();
     overwritten();
     commands();
+    command_after_files();
     edits();
+    edited_files();
     patterns();
     threads();
     return finish();

@@ -77,6 +77,8 @@ ENUMS = {
 }
 # the constants that are 0: the fault of a refused suffix, an integer without a suffix, no colors, a color without a name
 ZEROS = ("GCV_FAULT_NONE", "GCV_NO_SUFFIX", "GCV_NO_COLORS", "GCV_NO_NAME")
+# from this number on a status is one of calls over files
+OF_FILES = 64
 OTHER_NAMES = {"GCV_FAULT_ILL_FORMED_WHOLE": "GCV_FAULT_ILL_FORMED_PATH"}
 # the types of C for those of Rattle, and their sizes
 TYPES = {"i64": "int64_t", "u32": "uint32_t", "u8": "uint8_t", "usize": "size_t"}
@@ -114,9 +116,10 @@ def enum_of(first):
 
 
 def numbers():
-    """Each number of an enum of the header: in the header, and in each sort of file that has it."""
+    """Each number of an enum of the header: in the header, and in each sort of file that has it. A proved call returns
+    no status of the calls over files."""
     for first, places in ENUMS.items():
-        here = enum_of(first)
+        here = {name: number for name, number in enum_of(first).items() if first != "GCV_OK" or number < OF_FILES}
         found = {path.suffix: {} for _, path, *_ in places}
         for beginning, path, pattern, value in places:
             for it in re.finditer(pattern, text_of(path), re.MULTILINE):

@@ -1,6 +1,10 @@
-/* Refuses memory to each call that takes some: one request after the other. It is linked with malloc, calloc, realloc
- * and free wrapped. */
+/* Refuses memory to each call that takes some, and the system's calls to those over files: one request after the other.
+ * It is linked with what is named here wrapped. */
 #include "guarded.h"
+#include <errno.h>
+#include <fcntl.h>
+#include <stdarg.h>
+#include <sys/stat.h>
 
 void *__real_malloc(size_t size);
 void *__real_calloc(size_t count, size_t size);
@@ -10,11 +14,56 @@ void *__wrap_malloc(size_t size);
 void *__wrap_calloc(size_t count, size_t size);
 void *__wrap_realloc(void *block, size_t size);
 void __wrap_free(void *block);
+int __real_open(const char *name, int flags, ...);
+char *__real_realpath(const char *name, char *to);
+int __wrap_open(const char *name, int flags, ...);
+char *__wrap_realpath(const char *name, char *to);
 
 static unsigned long requests, blocks, refused_at;
+static size_t largest;
+/* with which error the system refuses a call, and whether it was one that was refused */
+static int error = ENOMEM, is_of_system;
+
+/* Whether the system refuses this request. */
+static int refuses(void)
+{
+    is_of_system = ++requests == refused_at;
+    errno = is_of_system ? error : errno;
+    return is_of_system;
+}
+
+#define REFUSES(result, call, parameters, arguments) \
+    result __real_##call parameters;                 \
+    result __wrap_##call parameters;                 \
+    result __wrap_##call parameters { return refuses() ? -1 : __real_##call arguments; }
+
+REFUSES(ssize_t, readlink, (const char *name, char *to, size_t size), (name, to, size))
+REFUSES(ssize_t, read, (int file, void *to, size_t size), (file, to, size))
+REFUSES(ssize_t, write, (int file, const void *text, size_t size), (file, text, size))
+REFUSES(int, stat, (const char *name, struct stat *to), (name, to))
+REFUSES(int, fchmod, (int file, mode_t mode), (file, mode))
+REFUSES(int, fsync, (int file), (file))
+REFUSES(int, rename, (const char *name, const char *to), (name, to))
+
+int __wrap_open(const char *name, int flags, ...)
+{
+    va_list more;
+    va_start(more, flags);
+    int mode = flags & O_CREAT ? va_arg(more, int) : 0;
+    va_end(more);
+    return refuses() ? -1 : __real_open(name, flags, mode);
+}
+
+char *__wrap_realpath(const char *name, char *to)
+{
+    char *real = refuses() ? NULL : __real_realpath(name, to);
+    blocks += real != NULL;
+    return real;
+}
 
 void *__wrap_malloc(size_t size)
 {
+    is_of_system = 0;
     if (++requests == refused_at) {
         return NULL;
     }
@@ -24,6 +73,7 @@ void *__wrap_malloc(size_t size)
 
 void *__wrap_calloc(size_t count, size_t size)
 {
+    is_of_system = 0;
     if (++requests == refused_at) {
         return NULL;
     }
@@ -33,6 +83,8 @@ void *__wrap_calloc(size_t count, size_t size)
 
 void *__wrap_realloc(void *block, size_t size)
 {
+    largest = size > largest ? size : largest;
+    is_of_system = 0;
     if (++requests == refused_at) {
         return NULL;
     }
@@ -135,10 +187,49 @@ static gcv_status open_file(const void *state, char *buffer, size_t capacity, si
         *size = file.length;
         memcpy(buffer, file.text, capacity);
         free(file.text);
-        blocks += file.real_dir != NULL; /* from realpath, which is not wrapped */
         free(file.real_dir);
     }
     return status;
+}
+
+/* Reads it with the settings of the command, of which there are none here. The text is its first key. */
+static gcv_status read_system_file(const void *state, char *buffer, size_t capacity, size_t *size)
+{
+    const char *names[] = {file_name, NULL};
+    gcv_settings settings = GCV_NO_SETTINGS;
+    (void)state;
+    gcv_status status = gcv_read_files(&settings, names, 2, NULL, gcv_open_file, NULL);
+    if (status == GCV_OK) {
+        *size = strlen(settings.list[0].key);
+        memcpy(buffer, settings.list[0].key, capacity);
+    }
+    int was = errno;
+    gcv_free_settings(&settings);
+    errno = was;
+    return status;
+}
+
+/* Sets a key in this file. The text is its new one; after a refusal it has to have its old one, and no lock. */
+static gcv_status set_in_file(const void *state, char *buffer, size_t capacity, size_t *size)
+{
+    static const char old[] = "[a]\n\tb = 1\n";
+    char found[64], lock[sizeof file_name + 5];
+    (void)state;
+    FILE *file = fopen(file_name, "w");
+    int is_right = file && fputs(old, file) >= 0 && fclose(file) == 0;
+    gcv_status status = gcv_set_in_file(file_name, "a.b", "2");
+    int was = errno;
+    file = fopen(file_name, "r");
+    size_t count = file ? fread(found, 1, sizeof found, file) : 0;
+    is_right = is_right && file && fclose(file) == 0 && access(strcat(strcpy(lock, file_name), ".lock"), F_OK) != 0;
+    if (status == GCV_OK) {
+        *size = count;
+        memcpy(buffer, found, capacity);
+    } else {
+        is_right = is_right && count == sizeof old - 1 && memcmp(found, old, count) == 0;
+    }
+    errno = was;
+    return is_right ? status : UNTOUCHED;
 }
 
 /* Takes the first step of a walk, at an entry that includes a file. */
@@ -193,8 +284,8 @@ EDIT(unset_all, TEXT("[a]\n\tb = 1\n\tc = 2\n\tb = 3\n"), TEXT("a.b"))
 EDIT(rename_section, TEXT("[a]\n\tb = 1\n"), TEXT("a"), TEXT("c.D"))
 EDIT(remove_section, TEXT("[a]\n\tb = 1\n[c]\n\td\n"), TEXT("a"))
 
-/* The call asks for memory this many times. If one of these requests is refused, the call writes nothing, and frees
- * what it took. */
+/* The call asks for memory, or something of the system, this many times. If one of these requests is refused, the call
+ * says which, writes nothing, and frees what it took. */
 static int asks(writer call, const char *text, size_t length, unsigned long wanted)
 {
     size_t size;
@@ -202,12 +293,15 @@ static int asks(writer call, const char *text, size_t length, unsigned long want
     HOLDS(call_at(buffer_area, call, NULL, length, &size) == GCV_OK && size == length);
     HOLDS(memcmp(buffer_area.end - size, text, size) == 0);
     HOLDS(requests == wanted && blocks == 0);
-    for (unsigned long at = 1; at <= wanted; at++) {
+    for (unsigned long at = 2; at < 2 * wanted + 2; at++) {
         requests = 0;
-        refused_at = at;
-        HOLDS(call_at(buffer_area, call, NULL, length, &size) == GCV_NO_MEMORY);
+        refused_at = at / 2;
+        error = at % 2 ? EIO : ENOMEM;
+        gcv_status status = call_at(buffer_area, call, NULL, length, &size);
+        HOLDS(is_of_system && error == EIO ? (status == GCV_NOT_READ || status == GCV_NOT_WRITTEN) && errno == EIO
+                                           : status == GCV_NO_MEMORY);
         HOLDS(size == UNTOUCHED && is_untouched(buffer_area, length, 0));
-        HOLDS(requests == at && blocks == 0);
+        HOLDS(requests == at / 2 && blocks == 0);
     }
     refused_at = 0;
     return 1;
@@ -227,7 +321,13 @@ int main(void)
     ASKS(read_files, "a.b", 36);
     int made = mkstemp(file_name);
     count(made >= 0 && write(made, "[a]\n", 4) == 4, "a file");
-    ASKS(open_file, "[a]\n", 1);
+    ASKS(open_file, "[a]\n", 4);
+    ASKS(set_in_file, "[a]\n\tb = 2\n", 13);
+    ASKS(read_system_file, "a.b", 10);
+    gcv_file zeros;
+    largest = 0;
+    count(gcv_open_file(NULL, "/dev/zero", &zeros) == GCV_NOT_READ && errno == EFBIG && largest <= ((size_t)1 << 30) + 1 && blocks == 0,
+          "a file without an end takes no more than 1 GiB");
     close(made);
     unlink(file_name);
     static gcv_user room;

@@ -80,15 +80,14 @@ holds "the header" python3 "$tests/header.py" "$prefix"
 {
     sed -nE '/^typedef/d; s/^(GCV_CALL|GCV_NONNULL|gcv_depth|const char).*[ *](gcv_[a-z0-9_]+)\(.*/\2/p' \
         "$prefix/include/gix_config_value.h"
-    sed -n 's/^GCV_CHECKED .* gcv_edit_by_[a-z]* \(.*\);$/\1/p' "$prefix/include/gix_config_value.h" | tr -d ' ' | tr , '\n'
 } | sort > "$work/declared"
 nm -g --defined-only "$archive" | sed -n 's/.* [A-Z] //p' | sort > "$work/shown"
 holds "the archive shows the calls of the header" diff "$work/declared" "$work/shown"
 nm -D --defined-only "$prefix/lib/libgix_config_value.so" | sed -n 's/.* [A-Z] //p' | sort > "$work/shown"
 holds "the shared library shows the calls of the header" diff "$work/declared" "$work/shown"
-printf '%s\n' __errno_location calloc fclose ferror fopen fread free getpwnam_r malloc memchr memcmp memcpy memmove memset \
-    realloc realpath strcmp strlen strncmp strrchr > "$work/known"
-nm -u "$archive" | sed -n 's/^ *U //p' | sort -u > "$work/needed"
+printf '%s\n' __errno_location calloc close fchmod free fsync getenv getpwnam_r lseek malloc memchr memcmp memcpy memmove \
+    memset open read readlink realloc realpath rename stat strcat strcmp strcpy strlen strncmp strrchr unlink write > "$work/known"
+nm -u "$archive" | sed -n 's/^ *U //p' | grep -v '^gcv_\|^_GLOBAL_OFFSET_TABLE_$' | sort -u > "$work/needed"
 holds "the archive needs no more than docs/C.md says" test -z "$(comm -13 "$work/known" "$work/needed")"
 holds "the shared library is small" test "$(wc -c < "$prefix/lib/libgix_config_value.so")" -lt 250000
 # instructions that processors of x86-64 before 2008 do not have
@@ -224,7 +223,10 @@ for compiler in gcc clang g++ clang++; do
         # shellcheck disable=SC2086
         holds "the page's example $by" "$compiler" $language $warnings -I"$prefix/include" -o "$work/edit" "$work/edit.c" \
             -x none "$@"
-        holds "the page's example $by, edits" answers 0 '.name = B C # me$' "$work/edit"
+        printf '[user]\n\tname = A # me\n' > "$work/edited"
+        holds "the page's example $by, edits" "$work/edit" "$work/edited"
+        holds "the page's example $by, edited" grep -qx '.name = B C # me' "$work/edited"
+        holds "the page's example $by, refuses" answers 1 '.*: Is a directory$' "$work/edit" "$work"
         holds "theme $by, runs" answers 0 '#ffffff bold ul$' "$work/theme" 'bold red' 'ul #fff'
         holds "theme $by, refuses" answers 1 '' "$work/theme" red 'green yellow blue'
         holds "check $by, runs" answers 0 '16k$' "$work/check" integer 0x10k
@@ -353,7 +355,7 @@ for test in calls lines paths; do
 done
 # shellcheck disable=SC2086
 holds "memory by $compiler" $compiler -std=c99 $warnings -I"$prefix/include" \
-    -Wl,--wrap=malloc,--wrap=calloc,--wrap=realloc,--wrap=free -o "$work/memory" "$tests/memory.c" "$archive"
+    "-Wl$(printf ',--wrap=%s' malloc calloc realloc free open realpath readlink read write stat fchmod fsync rename)" -o "$work/memory" "$tests/memory.c" "$archive"
 counted "each status" "$work/calls"
 counted "memory refused" "$work/memory"
 counted "upstream's answers" "$work/lines" "$root/compare/lines.txt" "$root/compare/answers.txt"
