@@ -42,8 +42,8 @@ PyObject *refuse_file(const State *state, const char *code, gcv_status status, P
 /* Returns the state of the module that has made this type, or null with an exception. */
 State *state_of(PyObject *type);
 
-/* The flag of a type that cannot be changed, which older versions do not look at. */
-enum { IMMUTABLE = 1 << 8 };
+/* The flags of a type that is a sequence for `match`, and that cannot be changed, which older versions do not look at. */
+enum { SEQUENCE = 1 << 5, IMMUTABLE = 1 << 8 };
 
 /* The type of the entries of files, and that of their texts by their keys. */
 extern PyType_Spec entries_spec, texts_spec;

@@ -456,10 +456,11 @@ static int add_entry(Entries *self, PyObject *given)
     return is_added;
 }
 
-static PyObject *entries_new(PyTypeObject *type, PyObject *args, PyObject *Py_UNUSED(keywords))
+static PyObject *entries_new(PyTypeObject *type, PyObject *args, PyObject *keywords)
 {
+    static char *names[] = {"entries", NULL};
     PyObject *given = NULL, *iterator = NULL, *row;
-    if (!PyArg_ParseTuple(args, "|O:Entries", &given))
+    if (!PyArg_ParseTupleAndKeywords(args, keywords, "|O:Entries", names, &given))
         return NULL;
     State *state = state_of((PyObject *)type);
     Entries *self = state ? (Entries *)PyType_GenericAlloc(type, 0) : NULL;
@@ -661,7 +662,7 @@ static PyMethodDef entries_methods[] = {
 };
 
 static PyType_Slot entries_slots[] = {
-    {Py_tp_doc, "Entries in order: a sequence that makes each Entry when it is asked for."},
+    {Py_tp_doc, "Entries(entries=())\n--\n\nEntries in order: a sequence that makes each Entry when it is asked for."},
     {Py_tp_new, entries_new},
     {Py_tp_dealloc, entries_free},
     {Py_tp_repr, entries_repr},
@@ -675,8 +676,8 @@ static PyType_Slot entries_slots[] = {
     {0, NULL},
 };
 
-PyType_Spec entries_spec = {"gix_config_value.Entries", (int)sizeof(Entries), 0, Py_TPFLAGS_DEFAULT | IMMUTABLE,
-                            entries_slots};
+PyType_Spec entries_spec = {"gix_config_value.Entries", (int)sizeof(Entries), 0,
+                            Py_TPFLAGS_DEFAULT | SEQUENCE | IMMUTABLE, entries_slots};
 
 /* The texts of entries by their keys, which Configuration is made of. `texts` keeps those that were asked for, by their
  * keys as they were spelled, since making a text takes longer than finding it. */

@@ -2,6 +2,7 @@
 import errno
 import os
 import stat
+from _thread import RLock
 from contextlib import contextmanager
 
 from . import _core, _walk
@@ -12,6 +13,8 @@ class EditedFile:
 
     A key is as Git takes it, `branch.Main.rebase`, and so is the name of a section, `branch.Main`. A key, a value and a
     name are a `str`, or `bytes` or another buffer of bytes.
+
+    Threads may edit at the same time. A process that was forked meanwhile cannot: there each edit raises `ValueError`.
 
     An edit that raises an exception has changed nothing. `InvalidFile` names the line if the text is no configuration
     file. `Refused` has the key, the value or the name as its `input`, and one of these codes:
@@ -24,11 +27,13 @@ class EditedFile:
     """
 
     __module__ = "gix_config_value"
-    __slots__ = ("_file", "_text")
+    __slots__ = ("_file", "_text", "_lock", "_process")
 
     def __init__(self, file):
         self._file = file
         self._text = None
+        self._lock = RLock()
+        self._process = os.getpid()
 
     @property
     def text(self):
@@ -37,8 +42,21 @@ class EditedFile:
             raise ValueError(f"{self._file} is not being edited")
         return self._text
 
+    def _is_own(self):
+        """Whether this is the process that edits the file, and not one that was forked from it."""
+        return os.getpid() == self._process
+
     def _edit(self, name, *words):
-        self._text = _core.edit(name, self._file, self.text, *words)
+        if not self._is_own():
+            raise ValueError(f"{self._file} is being edited by another process")
+        with self._lock:
+            self._text = _core.edit(name, self._file, self.text, *words)
+
+    def _end(self):
+        """Returns the text, after which there are no more edits."""
+        with self._lock:
+            text, self._text = self.text, None
+        return text
 
     def set(self, key, value):
         """Gives the one entry of a key this value, or adds an entry if there is none."""
@@ -70,9 +88,9 @@ class EditedFile:
 
 
 def _opened_lock(name):
-    """Makes the lock of this name, and opens it."""
+    """Makes the lock of this name, and opens it, without a buffer that a forked process would write too."""
     try:
-        return open(os.fsdecode(name), "xb")
+        return open(os.fsdecode(name), "xb", buffering=0)
     except FileExistsError as error:
         raise FileExistsError(errno.EEXIST, "the lock is held", error.filename) from None
 
@@ -92,8 +110,9 @@ def _write(file, text, mode):
     # whoever may not read the old file reads no text of its lock
     if mode is not None:
         os.fchmod(file.fileno(), mode)
-    file.write(text)
-    file.flush()
+    text = memoryview(text)
+    while text:
+        text = text[file.write(text):]
     os.fsync(file.fileno())
 
 
@@ -107,7 +126,8 @@ def edit(path):
     As Git does, it takes the lock of the file, `config.lock` beside `config`, and then reads the file, which need not
     be there. At the end of the `with` the new text is written into the lock, which replaces the file, so that others
     read the old text or the new one. Nothing is written if nothing has changed, or after an exception, which leaves the
-    file as it was. A link is followed to its file, and the file keeps its mode.
+    file as it was. A link is followed to its file, and the file keeps its mode. A process that is forked meanwhile leaves
+    the file and the lock alone, however it leaves the `with`.
 
     Raises `FileExistsError`, which names the lock, if another program holds it, or was killed while it did. Raises
     another `OSError` if the lock is not made, the file is no regular one, or it is not read or not written.
@@ -121,11 +141,11 @@ def edit(path):
             text, mode = _read(shown, name)
             edited._text = text
             yield edited
-            if edited.text != text:
-                _write(made, edited.text, mode)
+            if edited._is_own() and (new := edited._end()) != text:
+                _write(made, new, mode)
                 os.rename(lock, name)
                 is_held = False
         finally:
             edited._text = None
-            if is_held:
+            if is_held and edited._is_own():
                 os.unlink(lock)

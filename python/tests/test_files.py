@@ -6,6 +6,7 @@ import concurrent.futures
 import copy
 import errno
 import getpass
+import inspect
 import json
 import os
 import pathlib
@@ -24,7 +25,7 @@ import unittest
 from collections.abc import Mapping, Sequence
 from unittest import mock
 
-from gix_config_value import (Color, Configuration, Entry, InvalidFile, Refused, boolean, edit, integer, lookup, path,
+from gix_config_value import (Color, Configuration, Entries, Entry, InvalidFile, Refused, boolean, edit, integer, lookup, path,
                               read, read_repository)
 
 TYPED = """[core]
@@ -448,6 +449,12 @@ class Configurations(Files):
         self.assertEqual((entries.index(rows[3]), entries.count(rows[0]), rows[3] in entries, list(reversed(entries))),
                          (3, 1, True, rows[::-1]))
         self.assertEqual(repr(entries), repr(rows))
+        self.assertEqual(list(Entries(entries=rows)), rows)
+        if sys.version_info >= (3, 10):
+            self.assertEqual(str(inspect.signature(Entries)), "(entries=())")
+            found = {"entries": entries}
+            exec("match entries:\n case [first, *rest]: pass", found)
+            self.assertEqual((found["first"], found["rest"]), (rows[0], rows[1:]))
         for call in (lambda: entries[8], lambda: entries[-9]):
             self.assertRaises(IndexError, call)
         for call in (lambda: entries["a"], lambda: hash(entries), lambda: Configuration([("f", 1, "a.b", b"1", None, 1)]),
@@ -766,6 +773,53 @@ class Edits(Files):
                 self.assertEqual(self.fails(OSError, self.edit, "main", "set", "a.k", value).errno, errno.EFBIG)
         finally:
             resource.setrlimit(resource.RLIMIT_FSIZE, limits)
+
+    def test_forks(self):
+        def in_child(leave):
+            with edit("main") as file:
+                file.set("a.k", "w")
+                if os.fork() == 0:
+                    return leave(file)
+                _, status = os.wait()
+                # the lock is still there, and is still this process's
+                self.assertEqual((status, self.texts("main", "main.lock")), (0, ["[a]k=v", ""]))
+                file.add("a.j", "x")
+
+        own = os.getpid()
+        for leave in (lambda file: None, lambda file: sys.exit(), lambda file: self.fails_in(file)):
+            self.write({"main": "[a]k=v"})
+            try:
+                in_child(leave)
+            except SystemExit:
+                pass
+            finally:
+                if os.getpid() != own:
+                    os._exit(sys.exc_info()[0] is not None)
+            self.assertEqual(self.texts("main", "main.lock"), ["[a]k=w\n\tj = x\n", None])
+
+    def fails_in(self, file):
+        """An edit in a process that was forked, which is refused there."""
+        self.assertRaises(ValueError, file.set, "a.k", "theirs")
+        raise SystemExit
+
+    def test_threads(self):
+        # an edit of a long text lets other threads run
+        self.write({"main": "[b]\n" + "\tk = v\n" * 1000})
+        before = sys.getswitchinterval()
+        self.addCleanup(sys.setswitchinterval, before)
+        sys.setswitchinterval(1e-6)
+        with edit("main") as file, concurrent.futures.ThreadPoolExecutor(4) as pool:
+            list(pool.map(lambda at: file.set(f"a.k{at}", str(at)), range(200)))
+        self.assertEqual(len([key for key in read("main") if key.startswith("a.k")]), 200)
+
+    def test_signals(self):
+        # as docs/C.md says, so that the signal unwinds
+        self.write({"main": "[a]k=v"})
+        code = ("import os, signal, sys\nfrom gix_config_value import edit\n"
+                "signal.signal(signal.SIGTERM, lambda *_: sys.exit(143))\n"
+                "with edit('main') as file:\n file.set('a.k', 'w')\n os.kill(os.getpid(), signal.SIGTERM)")
+        done = subprocess.run([sys.executable, "-B", "-c", code], env={**os.environ, "PYTHONPATH": ":".join(sys.path)}, check=False)
+        self.assertEqual((done.returncode, self.texts("main", "main.lock")), (143, ["[a]k=v", None]))
 
     def test_no_files(self):
         os.mkdir("s")
