@@ -37,7 +37,7 @@ PLACES = {VERSION: "crates/gix_config_value_c/VERSION"}
 def _said(key):
     """The value of a key of pyproject.toml."""
     text = (HERE / "pyproject.toml").read_text(encoding="utf-8")
-    return re.search(rf'^{key} = "(.*)"$', text, re.MULTILINE).group(1)
+    return re.search(rf'^{key} = (?:\[{{name = )?"(.*)"(?:}}\])?$', text, re.MULTILINE).group(1)
 
 
 def _shared(name):
@@ -104,7 +104,7 @@ def _metadata():
                    "Typing :: Typed")
     return "".join([
         f"Metadata-Version: 2.4\nName: {_said('name')}\nVersion: {_version()}\n",
-        f"Summary: {_said('description')}\nLicense-Expression: {_said('license')}\n",
+        f"Summary: {_said('description')}\nAuthor: {_said('authors')}\nLicense-Expression: {_said('license')}\n",
         *(f"License-File: {name}\n" for name in LICENSES),
         *(f"Classifier: {classifier}\n" for classifier in classifiers),
         f"Requires-Python: {_said('requires-python')}\nDescription-Content-Type: text/plain\n\n{description}",
@@ -115,6 +115,10 @@ def _package():
     """The files of the package, by their names, without files that Python or a compiler left there."""
     return {f"{PACKAGE}/{file.name}": file.read_bytes() for file in sorted((HERE / PACKAGE).iterdir())
             if file.suffix in (".py", ".pyi", ".typed")}
+
+
+def _tests():
+    return {f"tests/{file.name}": file.read_bytes() for file in sorted((HERE / "tests").glob("*.py"))}
 
 
 def _time():
@@ -150,7 +154,7 @@ def build_wheel(wheel_directory, config_settings=None, metadata_directory=None):
 def build_sdist(sdist_directory, config_settings=None):
     """Writes an archive of the sources, and returns its name. From it a wheel can be made if the C library is there."""
     name = f"{_said('name')}-{_version()}"
-    files = {**_package(), **{source: (HERE / source).read_bytes() for source in SOURCES},
+    files = {**_package(), **_tests(), **{source: (HERE / source).read_bytes() for source in SOURCES},
              **{name: _shared(name) for name in (*LICENSES, VERSION)}, "PKG-INFO": _metadata()}
     with (open(pathlib.Path(sdist_directory, f"{name}.tar.gz"), "wb") as file,
           gzip.GzipFile("", "wb", fileobj=file, mtime=_time()) as packed,

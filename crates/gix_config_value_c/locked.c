@@ -1,15 +1,12 @@
 /* Edits of files. They have an object of their own, since only programs that edit files need what they call. */
 #define _DEFAULT_SOURCE
 #include "gix_config_value.h"
+#include "system.h"
 
-#include <errno.h>
-#include <fcntl.h>
 #include <limits.h>
 #include <stdio.h>
 #include <stdlib.h>
 #include <string.h>
-#include <sys/stat.h>
-#include <unistd.h>
 
 typedef gcv_status by_two(const char *text, size_t length, const char *first, size_t first_length, const char *second,
                           size_t second_length, char *GCV_TO buffer, size_t capacity, size_t *size, size_t *line);
@@ -26,12 +23,6 @@ typedef struct {
 /* The system follows as many links. */
 enum { MOST_LINKS = 40, EDIT_ROOM = 64, MODE = 07777 };
 #define LOCK ".lock"
-
-/* Why the system has refused a call. */
-static gcv_status refusal(gcv_status status)
-{
-    return errno == ENOMEM ? GCV_NO_MEMORY : status;
-}
 
 /* Writes the name of the file to which the links from a name lead, which need not be there. */
 static gcv_status follow(const char *name, char to[PATH_MAX])
@@ -63,7 +54,7 @@ static gcv_status follow(const char *name, char to[PATH_MAX])
 static gcv_status read_old(const char *name, mode_t *mode, gcv_file *out)
 {
     struct stat known;
-    if (stat(name, &known) != 0) {
+    if (!is_known(name, 0, &known)) {
         return errno == ENOENT ? GCV_OK : refusal(GCV_NOT_READ);
     }
     if (!S_ISREG(known.st_mode)) {

@@ -1,12 +1,10 @@
 /* The settings of files: a list, its texts, and a table in which a key leads to its last setting. */
 #define _DEFAULT_SOURCE
 #include "gix_config_value.h"
+#include "system.h"
 
-#include <errno.h>
-#include <fcntl.h>
 #include <stdlib.h>
 #include <string.h>
-#include <unistd.h>
 
 /* A block of texts, which stay where they are. */
 typedef struct block {
@@ -144,12 +142,6 @@ void gcv_free_settings(gcv_settings *settings)
     *settings = none;
 }
 
-/* Why the system has refused a call. */
-static gcv_status refusal(void)
-{
-    return errno == ENOMEM ? GCV_NO_MEMORY : GCV_NOT_READ;
-}
-
 /* Reads to the end of a file. */
 static gcv_status read_all(int file, gcv_file *out)
 {
@@ -165,7 +157,7 @@ static gcv_status read_all(int file, gcv_file *out)
         capacity = wanted;
         ssize_t count = read(file, text + out->length, capacity - out->length);
         if (count < 0 && errno != EINTR) {
-            return refusal();
+            return refusal(GCV_NOT_READ);
         }
         out->length += count > 0 ? (size_t)count : 0;
         if (count == 0 || (count > 0 && (off_t)out->length == known)) {
@@ -188,7 +180,7 @@ static gcv_status find_real_dir(const char *name, char **out)
     if (end) {
         *end = '\0';
     }
-    return *out || errno == ENOENT ? GCV_OK : refusal();
+    return *out || errno == ENOENT ? GCV_OK : refusal(GCV_NOT_READ);
 }
 
 gcv_status gcv_open_file(void *state, const char *name, gcv_file *out)
@@ -197,7 +189,7 @@ gcv_status gcv_open_file(void *state, const char *name, gcv_file *out)
     gcv_file opened = {NULL, 0, NULL};
     (void)state;
     if (file < 0) {
-        return errno == ENOENT || errno == ENOTDIR ? GCV_ABSENT : refusal();
+        return errno == ENOENT || errno == ENOTDIR ? GCV_ABSENT : refusal(GCV_NOT_READ);
     }
     gcv_status status = read_all(file, &opened);
     status = status == GCV_OK ? find_real_dir(name, &opened.real_dir) : status;

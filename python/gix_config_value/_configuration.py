@@ -40,15 +40,27 @@ class Configuration(_core.Texts, Mapping):
     """
 
     __module__ = "gix_config_value"
-    __slots__ = ("_refusal",)
+    __slots__ = ("_refusal", "_branch", "_files")
 
-    def __init__(self, entries=(), refusal=None):
+    def __init__(self, entries=(), refusal=None, branch=None, files=()):
         self._refusal = refusal
+        self._branch = branch
+        self._files = tuple(files)
 
     @property
     def refusal(self):
         """Why Git uses no repository although one is there, in Git's words; `None` if it uses one, or none is there."""
         return self._refusal
+
+    @property
+    def branch(self):
+        """The branch that is checked out in the repository, or `None`."""
+        return self._branch
+
+    @property
+    def files(self):
+        """The files that Git reads, if they are there: pairs of a scope and a name, in its order."""
+        return self._files
 
     def __iter__(self):
         return iter(self.entries._keys())
@@ -61,7 +73,7 @@ class Configuration(_core.Texts, Mapping):
         return f"Configuration({self.entries!r}{more})"
 
     def __reduce__(self):
-        return Configuration, (self.entries, self._refusal)
+        return Configuration, (self.entries, self._refusal, self._branch, self._files)
 
     def value(self, key, read, default=None):
         """What a reader makes of the text of the last entry with a key, or the default if there is no such entry.
@@ -101,7 +113,8 @@ class Configuration(_core.Texts, Mapping):
 
     def in_scope(self, *scopes):
         """The configuration of the entries that have one of these scopes."""
-        return Configuration((entry for entry in self.entries if entry.scope in scopes), self._refusal)
+        return Configuration((entry for entry in self.entries if entry.scope in scopes), self._refusal, self._branch,
+                             (file for file in self._files if file[0] in scopes))
 
 
 def read(*paths, includes=False, repository=None):
@@ -126,10 +139,11 @@ def read_repository(path="."):
     It has the settings of the system, of the user, of the repository, of its worktree and of the command, in this
     order; outside a repository there are only the first two and the last. Git's variables count, such as
     GIT_CONFIG_GLOBAL, GIT_DIR and GIT_CONFIG_COUNT. If Git uses no repository although one is there, `refusal` of the
-    configuration says why.
+    configuration says why. Its `branch` is the one that is checked out, and its `files` are what Git looks for.
 
     Raises the errors of `read`, but skips a file that does not exist. Raises `InvalidFile` also where Git stops at a
     setting of the repository's format, or of the command.
     """
     place = _repository.find(os.fsdecode(path))
-    return Configuration(_repository.entries(place), place.refusal)
+    branch = place.repository and place.repository.branch
+    return Configuration(_repository.entries(place), place.refusal, branch and os.fsdecode(branch), place.files)

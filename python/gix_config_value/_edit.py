@@ -5,7 +5,7 @@ import stat
 from _thread import RLock
 from contextlib import contextmanager
 
-from . import _core, _walk
+from . import _core, _repository, _walk
 
 
 class EditedFile:
@@ -149,3 +149,15 @@ def edit(path):
             edited._text = None
             if is_held and edited._is_own():
                 os.unlink(lock)
+
+
+def edit_repository(path=".", scope="local"):
+    """Changes settings in the file of a scope that Git reads in a folder, as `git -C path config --local` does.
+
+        with edit_repository() as file:
+            file.set("user.name", "A")
+
+    The scope is `local`, `worktree`, `global` or `system`. Raises `FileNotFoundError` if Git reads no file of the scope
+    there, since no repository is there or Git does not use it, and otherwise the errors of `edit` and `read_repository`.
+    """
+    return edit(_repository.file_of(os.fsdecode(path), scope))

@@ -1,4 +1,5 @@
 """Finds the repository of a folder and the files that Git reads there, as Git does."""
+import errno
 import os
 from collections import namedtuple
 
@@ -15,12 +16,14 @@ Folder = namedtuple("Folder", "name path")
 Found = namedtuple("Found", "folder name named form")
 # what conditions ask about a repository, and the files of its settings
 Repository = namedtuple("Repository", "path real_path branch files")
-# where Git works: a folder, the repository, and why Git uses none although one is there
-Place = namedtuple("Place", "folder repository refusal")
+# where Git works: a folder, the repository, why Git uses none although one is there, and what Git reads: the scope and
+# the name of each file
+Place = namedtuple("Place", "folder repository refusal files", defaults=[()])
 
 # how references are stored, and where, if they are in a place of their own
 Store = namedtuple("Store", "form place")
 
+SCOPES = ("system", "global", "local", "worktree")
 HASHES, STORES = ("sha1", "sha256"), ("files", "reftable")
 # the extensions that count in each version, and those that need version 1, with what Git asks of their values
 EARLY = {"noop": "any", "preciousobjects": "boolean", "worktreeconfig": "boolean", "partialclone": "text"}
@@ -427,7 +430,7 @@ def _located(asked, found, shared, told):
     return Place(place, Repository(path, _real(found.name) or path, _branch(found.name, told.store), files), None)
 
 
-def find(name):
+def _place(name):
     """Where Git works if it is started in the folder of this name, and the repository that it uses."""
     asked = folder = _folder(name)
     given = _given_store()
@@ -442,6 +445,13 @@ def find(name):
         return _located(asked, found, shared, told)
     except NotUsed as refused:
         return Place(folder, None, str(refused))
+
+
+def find(name):
+    """Where Git works if it is started in the folder of this name, and what it reads there."""
+    place = _place(name)
+    files = _protected_files() + (place.repository.files if place.repository else [])
+    return place._replace(files=[(scope, file and _join(place.folder.name, file)) for scope, file in files])
 
 
 # ---- files
@@ -481,5 +491,16 @@ def _protected(asked):
 
 def entries(place):
     """All entries that Git reads in a place, in its order."""
-    files = _protected_files() + (place.repository.files if place.repository else [])
-    return _walk.entries(list(_sources(place.folder, files)), _walk.known_in(place.repository))
+    return _walk.entries(list(_sources(Folder("", ""), place.files)), _walk.known_in(place.repository))
+
+
+def file_of(name, scope):
+    """The name of the file of a scope that `git config` changes in the folder of this name."""
+    if scope not in SCOPES:
+        raise ValueError(f"no file has the scope {scope!r}: {', '.join(SCOPES)}")
+    place = find(name)
+    files = [file for its, file in place.files if its == scope and file]
+    if not files:
+        raise FileNotFoundError(errno.ENOENT, place.refusal or f"Git reads no file of the scope {scope} there", name)
+    # of the two of a user Git takes the first one only if the second one is not there
+    return files[0] if os.access(files[0], os.R_OK) and not os.access(files[-1], os.R_OK) else files[-1]

@@ -25,8 +25,8 @@ import unittest
 from collections.abc import Mapping, Sequence
 from unittest import mock
 
-from gix_config_value import (Color, Configuration, Entries, Entry, InvalidFile, Refused, boolean, edit, integer, lookup, path,
-                              read, read_repository)
+from gix_config_value import (Color, Configuration, Entries, Entry, InvalidFile, Refused, boolean, edit, edit_repository,
+                              integer, lookup, path, read, read_repository)
 
 TYPED = """[core]
     bare
@@ -276,6 +276,44 @@ class AsGit(Files):
         for ceilings in (f"{self.root}/r", f":{self.root}/r/"):
             os.environ["GIT_CEILING_DIRECTORIES"] = ceilings
             self.assertEqual(len(self.repository("deep/er", same_names=False)), 2, ceilings)
+
+    def test_scopes_edited(self):
+        # what Git changes in the same folder, and where it finds nothing to change
+        self.write({"home/.config/git/config": "[a]k=xdg\n", "system": "", "other/x": ""})
+        self.git("init", "-q", "-b", "topic/x", "r")
+        self.git("-C", "r", "config", "extensions.worktreeConfig", "true")
+        os.environ["GIT_CONFIG_SYSTEM"] = f"{self.root}/system"
+        os.environ["GIT_CONFIG_NOSYSTEM"] = "0"
+        os.makedirs("r/deep")
+        for folder in ("r", "r/deep", "."):
+            self.enter(folder)
+            for scope in ("local", "worktree", "global", "system"):
+                if folder == "." and scope in ("local", "worktree"):
+                    self.assertRaises(FileNotFoundError, edit_repository, ".", scope)
+                    continue
+                with edit_repository(scope=scope) as file:
+                    file.set("a.k", f"{folder} {scope}")
+                self.assertEqual(self.git("config", f"--{scope}", "--get", "a.k").decode(), f"{folder} {scope}\n")
+                self.git("config", f"--{scope}", "a.k", "git")
+        self.assertEqual(self.texts("home/.gitconfig", "system", "home/.config/git/config"),
+                         [None, "[a]\n\tk = git\n", "[a]\n\tk = git\n"])
+        self.write({"home/.gitconfig": ""})
+        with edit_repository("r", "global") as file:
+            file.set("a.k", "2")
+        self.assertEqual(self.texts("home/.gitconfig"), ["[a]\n\tk = 2\n"])
+        config = read_repository("r")
+        self.assertEqual((config.branch, read_repository().branch), ("topic/x", None))
+        self.assertEqual([scope for scope, _ in config.files], ["system", "global", "global", "local", "worktree"])
+        self.assertEqual([os.path.realpath(name) for _, name in config.files[-2:]],
+                         [f"{self.root}/r/.git/config", f"{self.root}/r/.git/config.worktree"])
+        for again in (copy.copy(config), pickle.loads(pickle.dumps(config)), config.in_scope("local", "worktree")):
+            self.assertEqual((again.branch, again.files[-2:]), (config.branch, config.files[-2:]))
+        self.assertRaises(ValueError, edit_repository, "r", "command")
+        self.assertRaises(FileNotFoundError, edit_repository, "none")
+        self.write({"r/.git/config": UNUSED[0][0]})
+        with self.assertRaises(FileNotFoundError) as caught:
+            edit_repository("r")
+        self.assertEqual(caught.exception.strerror, UNUSED[0][1])
 
     def test_edits(self):
         for text, edits in AS_GIT:

@@ -40,10 +40,16 @@ static int refuses(void)
 REFUSES(ssize_t, readlink, (const char *name, char *to, size_t size), (name, to, size))
 REFUSES(ssize_t, read, (int file, void *to, size_t size), (file, to, size))
 REFUSES(ssize_t, write, (int file, const void *text, size_t size), (file, text, size))
-REFUSES(int, stat, (const char *name, struct stat *to), (name, to))
 REFUSES(int, fchmod, (int file, mode_t mode), (file, mode))
 REFUSES(int, fsync, (int file), (file))
 REFUSES(int, rename, (const char *name, const char *to), (name, to))
+
+long __wrap_syscall(long number, int folder, const char *name, struct stat *to, int flags);
+long __real_syscall(long number, ...);
+long __wrap_syscall(long number, int folder, const char *name, struct stat *to, int flags)
+{
+    return refuses() ? -1 : __real_syscall(number, folder, name, to, flags);
+}
 
 int __wrap_open(const char *name, int flags, ...)
 {

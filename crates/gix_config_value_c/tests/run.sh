@@ -86,7 +86,7 @@ holds "the archive shows the calls of the header" diff "$work/declared" "$work/s
 nm -D --defined-only "$prefix/lib/libgix_config_value.so" | sed -n 's/.* [A-Z] //p' | sort > "$work/shown"
 holds "the shared library shows the calls of the header" diff "$work/declared" "$work/shown"
 printf '%s\n' __errno_location calloc close fchmod free fsync getenv getpwnam_r lseek malloc memchr memcmp memcpy memmove \
-    memset open read readlink realloc realpath rename stat strcat strcmp strcpy strlen strncmp strrchr unlink write > "$work/known"
+    memset open read readlink realloc realpath rename strcat strcmp strcpy strlen strncmp strrchr syscall unlink write > "$work/known"
 nm -u "$archive" | sed -n 's/^ *U //p' | grep -v '^gcv_\|^_GLOBAL_OFFSET_TABLE_$' | sort -u > "$work/needed"
 holds "the archive needs no more than docs/C.md says" test -z "$(comm -13 "$work/known" "$work/needed")"
 holds "the shared library is small" test "$(wc -c < "$prefix/lib/libgix_config_value.so")" -lt 250000
@@ -309,6 +309,7 @@ if [ -n "$pythons" ]; then
     sleep 1
     holds "an archive of the sources, again" sources "$work/sources_again"
     holds "the archive of the sources is reproducible" diff -r "$work/sources" "$work/sources_again"
+    holds "the archive of the sources has the tests" sh -c "tar -tzf '$work'/sources/*.tar.gz | grep -q /tests/test_files.py"
     holds "pip builds the package of its sources" by_pip
     export PKG_CONFIG_PATH="$work/none"
     by_pip > "$work/told" 2>&1
@@ -355,7 +356,7 @@ for test in calls lines paths; do
 done
 # shellcheck disable=SC2086
 holds "memory by $compiler" $compiler -std=c99 $warnings -I"$prefix/include" \
-    "-Wl$(printf ',--wrap=%s' malloc calloc realloc free open realpath readlink read write stat fchmod fsync rename)" -o "$work/memory" "$tests/memory.c" "$archive"
+    "-Wl$(printf ',--wrap=%s' malloc calloc realloc free open realpath readlink read write syscall fchmod fsync rename)" -o "$work/memory" "$tests/memory.c" "$archive"
 counted "each status" "$work/calls"
 counted "memory refused" "$work/memory"
 counted "upstream's answers" "$work/lines" "$root/compare/lines.txt" "$root/compare/answers.txt"
