@@ -79,12 +79,14 @@ program() {
         skipped "$1, since there is no $built: \`(cd crates/$crate && rt run < /dev/null)\` proves and builds it"
         return
     fi
-    mkdir -p -- "$stage$prefix/bin" "$share/man/man1" "$share/bash-completion/completions" "$share/zsh/site-functions"
+    mkdir -p -- "$stage$prefix/bin" "$share/man/man1" "$share/bash-completion/completions" "$share/zsh/site-functions" \
+        "$share/fish/vendor_completions.d"
     install -m 755 "$built" "$stage$prefix/bin/$1"
     # config_value has no options to complete
     if [ "$1" != config_value ]; then
         install -m 644 "$root/packaging/completions/bash" "$share/bash-completion/completions/$1"
         install -m 644 "$root/packaging/completions/zsh" "$share/zsh/site-functions/_$1"
+        install -m 644 "$root/packaging/completions/fish" "$share/fish/vendor_completions.d/$1.fish"
     fi
     if has help2man; then
         pages "$@"
@@ -95,6 +97,7 @@ program() {
         ln -s config_check "$stage$prefix/bin/git-config-check"
         ln -s config_check "$share/bash-completion/completions/git-config-check"
         ln -s _config_check "$share/zsh/site-functions/_git-config-check"
+        ln -s config_check.fish "$share/fish/vendor_completions.d/git-config-check.fish"
         ! has help2man || ln -s config_check.1 "$share/man/man1/git-config-check.1"
     fi
 }

@@ -28,11 +28,25 @@ machine=$(dpkg --print-architecture)
 libdir=/usr/lib/$(dpkg-architecture -qDEB_HOST_MULTIARCH)
 python=/usr/lib/python3/dist-packages
 
+# the flags of Debian's packages: a library is bound as it is loaded
+flags() {
+    DEB_BUILD_MAINT_OPTIONS=hardening=+bindnow dpkg-buildflags --get "$1"
+}
+CFLAGS="$(flags CPPFLAGS) $(flags CFLAGS) ${CFLAGS:-}"
+LDFLAGS="$(flags LDFLAGS) ${LDFLAGS:-}"
+export CFLAGS LDFLAGS
 env DESTDIR="$work/all" LIBDIR="$libdir" PYTHONDIR="$python" sh "$root/install.sh" /usr > "$work/said"
 grep -e '^skipped' "$work/said" || true
 cd "$work"
 mkdir debian
 printf 'Source: gix-config-value\n\nPackage: any\nArchitecture: any\n' > debian/control
+# the versions of the changelog, the newest first, and the year of the oldest
+sed -n 's/^## \[\([0-9.]*\)\] - \([0-9-]*\)$/\1 \2/p' "$root/CHANGELOG.md" > released
+while read -r number day; do
+    printf 'gix-config-value (%s-1) unstable; urgency=medium\n\n  * changelog.gz has what changed.\n\n -- %s  %s\n\n' \
+        "$number" "$maintainer" "$(LC_ALL=C date -u -R -d "$day")"
+done < released > versions
+first_year=$(tail -n 1 released | sed 's/.* \(....\).*/\1/')
 # build.sh names the shared library by its version and by a shorter number, of which the package has its name
 library=libgix_config_value.so.$version
 soname=$(find all -path "all$libdir/*" -lname "$library" | sed 's,.*/,,')
@@ -57,19 +71,18 @@ package() {
     mkdir -p -- "$1/DEBIAN" "$doc"
     {
         printf 'Format: https://www.debian.org/doc/packaging-manuals/copyright-format/1.0/\n'
-        printf 'Upstream-Name: gix_config_value\n\nFiles: *\nCopyright: '
-        sed -n 's/^Copyright (c) //p' "$root/LICENSE-MIT" | sed '2,$s/^/ /'
+        printf 'Upstream-Name: gix_config_value\n\nFiles: *\nCopyright: %s ' "$first_year"
+        sed -n 's/^Copyright (c) //p' "$root/LICENSE-MIT" | tac | sed '2,$s/^/ /'
         printf 'License: Expat or Apache-2.0\n\nLicense: Expat\n'
         sed -e '1,/^Copyright.*repository/d' "$root/LICENSE-MIT" | sed -e 1d -e 's/^$/./' -e 's/^/ /'
         printf '\nLicense: Apache-2.0\n On Debian systems the text is in /usr/share/common-licenses/Apache-2.0.\n'
     } > "$doc/copyright"
-    printf '%s (%s-1) unstable; urgency=medium\n\n  * changelog.gz has what changed.\n\n -- %s  %s\n' gix-config-value \
-        "$version" "$maintainer" "$(LC_ALL=C date -u -R -d "@$SOURCE_DATE_EPOCH")" |
-        gzip -9n > "$doc/changelog.Debian.gz"
+    gzip -9n < versions > "$doc/changelog.Debian.gz"
     gzip -9n < "$root/CHANGELOG.md" > "$doc/changelog.gz"
     depends=$3
     # the programs and shared libraries, without what debuggers and linkers read
     find "$1" -type f \( -path '*/bin/*' -o -name '*.so' -o -name '*.so.*' \) > binaries
+    find "$1" -name '*.a' -exec strip --strip-debug --remove-section=.comment {} +
     if [ -s binaries ]; then
         xargs strip --strip-unneeded --remove-section=.comment < binaries
         # shellcheck disable=SC2046
@@ -97,7 +110,8 @@ if [ -d all/usr/share/man ]; then
     find all/usr/share/man -type l -exec sh -c 'ln -s "$(readlink "$1").gz" "$1.gz" && rm -- "$1"' - {} \;
 fi
 
-if of gix-config-value-tools /usr/bin /usr/share/man /usr/share/bash-completion /usr/share/zsh; then
+if of gix-config-value-tools /usr/bin /usr/share/man /usr/share/bash-completion /usr/share/zsh \
+    /usr/share/fish; then
     package gix-config-value-tools vcs "" "programs that read and check configuration files of Git" << 'END'
 git-settings prints, lists and changes settings, as git config does.
 config_check, which is also git-config-check, reports values that Git
@@ -111,17 +125,24 @@ if [ -n "$soname" ]; then
     mkdir "$shared/DEBIAN"
     echo "libgix_config_value ${soname#libgix_config_value.so.} $shared (>= $version)" > "$shared/DEBIAN/shlibs"
     echo "activate-noawait ldconfig" > "$shared/DEBIAN/triggers"
+    {
+        echo "$soname $shared #MINVER#"
+        nm -D --defined-only "$shared$libdir/$library" | sed -n "s/.* \(gcv_.*\)$/ \1@Base $version/p"
+    } > "$shared/DEBIAN/symbols"
     package "$shared" libs "" "readers of configuration values of Git, a shared library" << 'END'
 Booleans, integers with suffixes, colors, paths and whole files are read as
 Git reads them, by code that is proved to keep its contracts.
 END
     of libgix-config-value-dev "$libdir/libgix_config_value.so" "$libdir/libgix_config_value.a" "$libdir/pkgconfig" \
-        /usr/include
+        "$libdir/cmake" /usr/include
+    mkdir -p libgix-config-value-dev/usr/share/doc/libgix-config-value-dev
+    cp -R all/usr/share/doc/gix_config_value/C.md all/usr/share/doc/gix_config_value/examples \
+        libgix-config-value-dev/usr/share/doc/libgix-config-value-dev
     package libgix-config-value-dev libdevel "$shared (= $version-1)" \
         "readers of configuration values of Git, for C" << 'END'
-The header, the static library, and the file for pkg-config. Booleans,
-integers with suffixes, colors, paths and whole files are read as Git reads
-them, by code that is proved to keep its contracts.
+The header, the static library, the files for pkg-config and CMake, and a
+page with examples. Booleans, integers with suffixes, colors, paths and whole
+files are read as Git reads them, by code that is proved to keep its contracts.
 END
 fi
 if of python3-gix-config-value "$python"; then

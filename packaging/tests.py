@@ -42,6 +42,11 @@ COMP_WORDS=("$@"); COMP_CWORD=$(($# - 1))
 cur=${@: -1} prev=${@: -2:1}
 if [[ $1 == git ]]; then "_git_${2//-/_}"; else _gix_config_value "$1" "$cur" "$prev"; fi
 printf '%s\\n' "${COMPREPLY[@]}" | sort"""
+# what fish offers for a line
+OFFERED = [("config_check --fail-on ", ["error", "note", "warning"]), ("config_check --format=j", ["--format=json"]),
+           ("git-config-check --col", ["--color"]), ("git-settings get --type suf", ["suffix"]),
+           ("git-settings get --def", ["--default"]), ("git-settings re", ["remove-section", "rename-section"]),
+           ("git-settings get my.", ["my.key", "my.other-key", "my.sub section.key"])]
 # what zsh is told of the words of a line: the beginning and the end of some of the descriptions
 DESCRIBED = [
     (["config_check", "-"], "--canonical[Report", "canonically]"),
@@ -122,8 +127,15 @@ def completions(prefix):
         said = run("zsh", "-f", "-c", DESCRIBE, "-", file, *words, cwd=prefix, PATH=path, GIT_CONFIG_GLOBAL=settings,
                    GIT_CONFIG_NOSYSTEM=1).splitlines()
         holds(f"{words} in zsh, {said}", any(it.startswith(begin) and it.endswith(end) for it in said), True)
-    if not shutil.which("zsh"):
-        print("skipped: completions of zsh, without zsh")
+    for line, offered in OFFERED if shutil.which("fish") else ():
+        with tempfile.TemporaryDirectory() as home:
+            said = run("fish", "--no-config", "-c", "set -p fish_complete_path $argv[1]; complete -C $argv[2]",
+                       prefix / "share/fish/vendor_completions.d", line, cwd=prefix, HOME=home, PATH=path,
+                       GIT_CONFIG_GLOBAL=settings, GIT_CONFIG_NOSYSTEM=1).splitlines()
+        holds(f"fish completes {line}", sorted(it.partition("\t")[0] for it in said), offered)
+    for shell in ("zsh", "fish"):
+        if not shutil.which(shell):
+            print(f"skipped: completions of {shell}, without {shell}")
     settings.unlink()
 
 

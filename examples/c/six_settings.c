@@ -9,31 +9,16 @@
 
 static const char *const keys[] = {"core.bare",    "core.editor", "user.name",
                                    "push.default", "pull.rebase", "remote.origin.url"};
-static const char command[] = "command line:/"; /* what begins so is a relative name that the command includes */
 static char texts[6][4096];
-static const char *const names[] = {texts[0], texts[1], texts[2], texts[3], texts[4], texts[5]}, *scopes[6];
+static const char *names[6], *scopes[6];
 static size_t count;
 
 static void add(const char *scope, const char *folder, const char *name)
 {
     if (folder && snprintf(texts[count], sizeof texts[0], "%s%s", folder, name) > 0) {
+        names[count] = texts[count];
         scopes[count++] = scope;
     }
-}
-
-static const char *variable(void *state, const char *name) { return state ? NULL : getenv(name); }
-
-static gcv_status open_source(void *state, const char *name, gcv_file *out)
-{
-    if (strncmp(name, command, sizeof command - 1) != 0) {
-        return gcv_open_file(state, name, out);
-    }
-    gcv_status status = strcmp(name, command) ? GCV_REFUSED : gcv_command_text(variable, NULL, NULL, 0, &out->length);
-    if (status == GCV_SHORT_BUFFER) {
-        out->text = (char *)malloc(out->length);
-        status = out->text ? gcv_command_text(variable, NULL, out->text, out->length, &out->length) : GCV_NO_MEMORY;
-    }
-    return status;
 }
 
 int main(int argc, char **argv)
@@ -60,8 +45,8 @@ int main(int argc, char **argv)
         add("worktree", ".git/config.worktree", "");
     }
     gcv_free_settings(&settings);
-    add("command", command, "");
-    status = gcv_read_files(&settings, names, count, &known, open_source, NULL);
+    scopes[count++] = "command"; /* its name is null */
+    status = gcv_read_files(&settings, names, count, &known, gcv_open_file, NULL);
     if (status != GCV_OK) {
         fprintf(stderr, "%s:%zu: %s\n", settings.file ? settings.file : "", settings.line, gcv_status_text(status));
     }
@@ -70,8 +55,8 @@ int main(int argc, char **argv)
             printf("%s is not set\n", keys[at]);
             continue;
         }
-        const char *name = strcmp(found->file, command) == 0 ? "command line" : found->file, *value = found->value;
-        printf("%s\t%s:%zu\t%s = %s\n", scopes[found->source], name, found->line, keys[at], value ? value : "true");
+        const char *scope = scopes[found->source], *value = found->value;
+        printf("%s\t%s:%zu\t%s = %s\n", scope, found->file, found->line, keys[at], value ? value : "true");
     }
     gcv_free_settings(&settings);
     free(head.text);

@@ -135,6 +135,26 @@ else
     fi
 fi
 
+# the same for CMake, also after a move
+if ! command -v cmake > /dev/null; then
+    echo "skipped: the files for CMake, which is not there"
+else
+    mkdir "$work/cmake"
+    printf '%s\n' 'cmake_minimum_required(VERSION 3.10)' 'project(theme C)' \
+        "find_package(gix_config_value $(cut -d . -f 1,2 "$root/crates/gix_config_value_c/VERSION") REQUIRED)" \
+        "add_executable(theme $root/examples/c/theme.c)" 'target_link_libraries(theme gix_config_value::gix_config_value)' \
+        > "$work/cmake/CMakeLists.txt"
+    [ -d "$work/moved" ] || cp -R "$prefix" "$work/moved"
+    for place in "$prefix" "$work/moved"; do
+        rm -rf "$work/cmake/built"
+        # shellcheck disable=SC2016
+        holds "the files for CMake in $place" sh -c 'cmake -S "$1" -B "$1/built" -DCMAKE_PREFIX_PATH="$2" &&
+            cmake --build "$1/built" && "$1/built/theme" red' - "$work/cmake" "$place"
+    done
+    sed -i 's/\(find_package.* \)[0-9.]* /\199 /' "$work/cmake/CMakeLists.txt"
+    holds "another version for CMake" sh -c "! cmake -S '$work/cmake' -B '$work/cmake/other' -DCMAKE_PREFIX_PATH='$prefix'"
+fi
+
 # the examples, with that of docs/C.md, by each compiler as C99 and as C++, over the shared library and over the archive
 sed -n '/^```c$/,/^```$/{/^```/!p;}' "$root/docs/C.md" > "$work/edit.c"
 warnings="-Wall -Wextra -Wconversion -Wsign-conversion -Wcast-qual -Wpedantic -Werror"
