@@ -229,7 +229,10 @@ def packages(work, archive):
     if not shutil.which("lintian"):
         print("skipped: lintian, which is not there")
     else:
-        holds("lintian", run("lintian", "--allow-root", "--fail-on", "error", *made).count("E: "), 0)
+        # without help2man there are no man pages
+        told = [line for line in run("lintian", "--allow-root", "--fail-on", "error", *made).splitlines()
+                if shutil.which("help2man") or "no-manual-page" not in line]
+        holds("lintian", told, [])
     (work / "copy").mkdir()
     if subprocess.run(["unshare", "-m", "sh", "-c", COPY, "-", work / "copy", work, "true"], capture_output=True,
                       check=False).returncode != 0:
