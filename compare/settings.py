@@ -301,13 +301,16 @@ WIDER = set("""core.abbrev branch.sort tag.sort gc.logExpiry gc.pruneExpire gc.w
 diff.colorMovedWS push.recurseSubmodules repack.cruftWindow repack.cruftDepth repack.cruftThreads http.sslVersion
 http.*.sslVersion http.sslBackend http.*.sslBackend receive.maxInputSize diff.dirstat log.graphColors hook.jobs
 sideband.allowControlCharacters status.compareBranches pack.allowPackReuse""".split())
+# the kinds of texts of which a command asks more than their form
+FURTHER = ("text", "path", "fetch-refspec", "push-refspec", "branch", "command")
 # the classes by their names: whether a difference is in the class
 CLASSES = {
     "Git ignores the value without a word": lambda case: (case.ours, case.git) == ("warns", "takes"),
     "a number of 2^63 and more": lambda case: case.question.value == str(2 ** 63) and case.git == "takes",
     "Git warns of a missing value, or of a number: an error": lambda case: (case.ours, case.git) == ("dies", "warns"),
     "Git stops at some wrong values only: a warning": lambda case: (case.ours, case.git) == ("warns", "dies"),
-    "a text that the command reads further": lambda case: case.kind in ("text", "path") and case.ours == "takes",
+    "a text that the command reads further": lambda case: case.kind in FURTHER and case.ours == "takes",
+    "a ref at which only git notes stops": lambda case: case.question.row == "core.notesRef" and case.git == "takes",
     "the mark of a path, which Git knows since 2.52": lambda case: (case.question.value or "").startswith(":(optional)"),
     "a right value with an effect that fails": lambda case: case.question.row in EFFECTS and case.ours == "takes",
     "a kind that takes more than Git": lambda case: case.question.row in WIDER and case.ours == "takes",

@@ -14,7 +14,7 @@ use bumpalo::Bump;
 use config_checks::check::{Counts, Receiver, check_file};
 use config_checks::code::Code;
 use config_checks::finding::{Finding, key_text};
-use config_checks::git::SETTINGS;
+use config_checks::git::{MODULES, SETTINGS};
 use config_checks::key::covers;
 use config_checks::options::Options;
 use config_checks::outcome::Outcome;
@@ -169,6 +169,11 @@ struct Looked {
     changes: Vec<Mended>,
 }
 
+/// Whether a file is one of those in which Git reads about submodules.
+fn is_modules(file: &str) -> bool {
+    file == ".gitmodules" || file.ends_with("/.gitmodules")
+}
+
 /// Whether a path that an entry includes begins at the root or in a home directory, and not in the folder of
 /// the file.
 fn is_from_root(alloc: Global, entry: &Entry<'_>) -> Result<bool, AllocError> {
@@ -311,17 +316,47 @@ impl<'c, 't> Checking<'c, 't> {
         Ok(Looked { counts, changes })
     }
 
-    /// Does the same as [`Checking::look`] by all rows, which are read if they are not yet.
+    /// All rows, which are read if they are not yet.
+    fn all_rows(&mut self) -> Result<Vec<Row<'c>>, Failure<'static>> {
+        match self.rows.take() {
+            Some(rows) => Ok(rows),
+            None => built_in(self.rt.alloc(), self.asked.git, SETTINGS.as_bytes()),
+        }
+    }
+
+    /// Does the same as [`Checking::look`] by the rows for files `.gitmodules`, and all others behind them.
+    fn look_as_modules(
+        &mut self,
+        file: &'t str,
+        text: &'t [u8],
+        mends: bool,
+    ) -> Result<Looked, Failure<'static>> {
+        let alloc = self.rt.alloc();
+        let mut rows = built_in(alloc, self.asked.git, MODULES.as_bytes())?;
+        let count = rows.len();
+        for row in self.all_rows()? {
+            add(&mut rows, row)?;
+        }
+        let looked = self.look(&rows, file, text, mends);
+        let mut others = Vec::new(alloc);
+        for row in rows.into_iter().skip(count) {
+            add(&mut others, row)?;
+        }
+        self.rows = Some(others);
+        looked
+    }
+
+    /// Does the same as [`Checking::look`] by all rows.
     fn look_by_all(
         &mut self,
         file: &'t str,
         text: &'t [u8],
         mends: bool,
     ) -> Result<Looked, Failure<'static>> {
-        let rows = match self.rows.take() {
-            Some(rows) => rows,
-            None => built_in(self.rt.alloc(), self.asked.git, SETTINGS.as_bytes())?,
-        };
+        if is_modules(file) {
+            return self.look_as_modules(file, text, mends);
+        }
+        let rows = self.all_rows()?;
         let looked = self.look(&rows, file, text, mends);
         self.rows = Some(rows);
         looked
@@ -356,7 +391,7 @@ impl<'c, 't> Checking<'c, 't> {
 
     /// Checks the text of a file, and writes its findings.
     fn judge(&mut self, file: &'t str, text: &'t [u8]) -> Result<Counts, Failure<'static>> {
-        if self.is_by_sections(text) {
+        if !is_modules(file) && self.is_by_sections(text) {
             if let Some(settings) = settings_for(self.rt.alloc(), text)? {
                 if let Some(counts) = self.judge_by(&settings, file, text)? {
                     return Ok(counts);

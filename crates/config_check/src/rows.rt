@@ -32,7 +32,8 @@ const BUILT_IN: &str = "the built-in settings";
 /// The names of kinds, of which the nearest one is suggested.
 const KINDS: &str = "\
 text bool int bool-or-int color path word word-any-case bool-or-word bool-or-word-any-case int-or-word \
-int-or-word-any-case words words-any-case date date-any-case sort-key sort-key-any-case";
+int-or-word-any-case words words-any-case date date-any-case sort-key sort-key-any-case fetch-refspec push-refspec \
+branch command no-option";
 
 /// Why a line is not a row, and the name of the nearest kind, if it has another name that is near.
 fn why(alloc: Global, fault: RowFault<'_>) -> Result<String, AllocError> {

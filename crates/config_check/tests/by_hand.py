@@ -258,6 +258,17 @@ def musts(group, program):
     group.expect(both, (1, lines[2, 1]), (came.status, b"".join(line for line in came.output.splitlines(True) if b"missing" in line)))
 
 
+def modules(group, program):
+    """Files .gitmodules, which Git reads by rules of their own."""
+    file = program.folder / "modules" / ".gitmodules"
+    file.parent.mkdir()
+    for line, severity in rows.MODULES:
+        file.write_bytes(b'[submodule "x"]\n\t' + line + b"\n")
+        came = program.run(["-q", str(file)])
+        told = came.output.removeprefix(f"{file}:2:2: ".encode()).partition(b":")[0].decode() or None
+        group.expect(("in .gitmodules", line), (severity, int(severity is not None)), (told, came.status))
+
+
 def wrong_and_other_arguments(group, program):
     for more, message in rows.WRONG_ARGUMENTS:
         group.expect(more, Ended(2, b"", f"config_check: {message}\n".encode()), program.run(more, b""))
@@ -281,5 +292,6 @@ def wrong_and_other_arguments(group, program):
 
 
 def check(group, program):
-    for part in (values, escapes, keys, slots, files, as_json, fail_on, built_in, settings_files, musts, wrong_and_other_arguments):
+    for part in (values, escapes, keys, slots, files, as_json, fail_on, built_in, settings_files, musts, modules,
+                 wrong_and_other_arguments):
         part(group, program)

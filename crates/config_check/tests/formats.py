@@ -52,12 +52,13 @@ def codes_of(program, text):
             for number in range(2, 12):
                 (folder / f"f{number}").write_text(f"[include]\n\tpath = f{number + 1}\n")
             (folder / "f12").write_text("")
-        (folder / "a").write_text(text)
+        file = ".gitmodules" if text.startswith("# in .gitmodules") else "a"
+        (folder / file).write_text(text)
         row = re.match("# with a row `(.*)`\n", text)
         (folder / "rows").write_text(row[1] if row else "")
         how = ["--settings", "rows"] if row else [
             word for line in text.splitlines() if line.startswith("# with ") for word in line.removeprefix("# with ").split()]
-        came = program.run(["--format", "json", *how, "a"], cwd=folder, env=os.environ | {"HOME": name})
+        came = program.run(["--format", "json", *how, file], cwd=folder, env=os.environ | {"HOME": name})
         return [json.loads(line)["code"] for line in came.output.splitlines()]
 
 

@@ -4,12 +4,14 @@
 """
 import base64
 import collections
+import contextlib
 import functools
 import hashlib
 import itertools
 import os
 import pwd
 import re
+import shlex
 import sys
 
 BOOLEAN_FAULT = b"Booleans need to be 'no', 'off', 'false', '' or 'yes', 'on', 'true' or any number"
@@ -344,8 +346,55 @@ def of_words(kind, words, text):
     return spelling
 
 
+# texts that Git reads by rules of their own
+
+def is_ref(text):
+    """Whether a text is the name of a ref, or a pattern with one `*`, by git-check-ref-format(1)."""
+    return (text != b"@" and re.search(rb"[\0- \x7f~^:?[\\]|\.\.|@\{|\.\Z", text) is None and text.count(b"*") < 2
+            and all(part and not part.startswith(b".") and not part.endswith(b".lock") for part in text.split(b"/")))
+
+
+def is_refspec(text, is_fetch):
+    """Whether Git takes a refspec, by parse_refspec of its refspec.c as git-fetch(1) and git-push(1) tell it."""
+    if text.startswith(b"^"):
+        return text[1:] == b"@" or is_ref(text[1:])
+    source, colon, target = text.removeprefix(b"+").rpartition(b":")
+    source, target = (source, target) if colon else (target, None)
+    is_source = source == b"@" or is_ref(source)
+    if target is None:
+        return (not source or is_source and b"*" not in source) if is_fetch else is_source
+    if source.count(b"*") != target.count(b"*"):
+        return False
+    if is_fetch:
+        return (not source or is_source) and (not target or is_ref(target))
+    return source == target == b"" or is_ref(target) and (b"*" not in source or is_source)
+
+
+def is_command(text):
+    """Whether an alias is for the shell, or has a word and no open quote."""
+    with contextlib.suppress(ValueError):
+        return text.startswith(b"!") or bool(shlex.split(text.decode("latin-1")) or text.strip(b" \t\n\v\f\r"))
+    return False
+
+
+SHAPES = {b"fetch-refspec": (lambda text: is_refspec(text, True), b"not a refspec"),
+          b"push-refspec": (lambda text: is_refspec(text, False), b"not a refspec"),
+          b"branch": (lambda text: b"*" not in text and is_ref(b"refs/heads/" + text), b"not the name of a branch"),
+          b"command": (is_command, b"not a command: it is empty, or a quote or a backslash is open at its end"),
+          b"no-option": (lambda text: not text.startswith(b"-"), b"begins with -, as an option")}
+
+
+def of_shape(kind):
+    def spelled(_, text):
+        is_right, why = SHAPES[kind]
+        if not is_right(text):
+            raise Refused(why)
+        return text
+    return spelled
+
+
 ANY_CASE = b"-any-case"
-KINDS = {b"text": of_text, b"path": of_path, b"bool": of_bool, b"int": of_int, b"bool-or-int": of_bool_or_int, b"color": of_color}
+KINDS = {**{kind: of_shape(kind) for kind in SHAPES}, b"text": of_text, b"path": of_path, b"bool": of_bool, b"int": of_int, b"bool-or-int": of_bool_or_int, b"color": of_color}
 WITH_WORDS = [*FORMS, *(form + ANY_CASE for form in FORMS)]
 RIGHT_ALONE = [b"bool", b"bool-or-int", b"bool-or-word", b"bool-or-word" + ANY_CASE]
 
@@ -751,7 +800,8 @@ def named(rows, key):
 # the code of a finding, by what its reason begins with
 CODES = {
     BOOLEAN_FAULT: "bad-boolean", INTEGER_FAULT: "bad-integer", COLOR_FAULT: "bad-color", OVERFLOW_FAULT: "out-of-range",
-    b"out of range: ": "out-of-range", b"not ": "not-a-word", b"no value": "no-value", b"unknown key": "unknown-key",
+    b"not a refspec": "bad-refspec", b"not the name of a branch": "bad-branch", b"not a command": "bad-command",
+    b"begins with -": "like-an-option", b"out of range: ": "out-of-range", b"not ": "not-a-word", b"no value": "no-value", b"unknown key": "unknown-key",
     b"Git reads it only since ": "too-new", b"Git reads it only before ": "gone", b"deprecated: use ": "deprecated",
     b"should be ": "not-canonical", b"has to be ": "other-value", NO_HOME: "no-home", b"Git cannot read this line": "invalid-line", b"a NUL byte ": "invalid-line",
 }

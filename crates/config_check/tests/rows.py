@@ -23,6 +23,11 @@ test.words words one Two -three tab=* l*
 test.words-any-case words-any-case one tab=*
 test.date date-any-case now ja* \\\\  # two backslashes are the word of one
 test.sort-key sort-key name date
+test.fetch fetch-refspec
+test.push warn push-refspec
+test.branch branch
+test.command command
+test.no-option no-option
 test.hash word a#b \\# \\#c # no-word \\d
 
 # marks
@@ -153,6 +158,22 @@ PATHS = [b"", b":(optional)", b"/x", b"x", b" ", b"~", b"~/", b"~/x", b"~//x", b
 NO_PATHS = [b"~no-such-user", b"~no-such-user/", b"~no-such-user/x", b":(optional)~no-such-user/x", b"~ROOT/x", b"~~/x", b"~ /x",
             b"~root:/x", b"~root /x", b"~\xc3\xa9/x"]
 
+# refspecs that Git 2.55.0 takes or refuses in remote.NAME.fetch, at `git status`, and in remote.NAME.push, at `git push`
+BOTH = [b"+refs/heads/*:refs/remotes/o/*", b"@", b"@:refs/x", b"^refs/x", b"^*", b"^@", b":", b"+:", b":x", b"a", b"a*b:c*d", b"a*:*", b"-a",
+        b"\xc3\xbc", b"+a:b", b"1234567890123456789012345678901234567890:x", b"a-b/c.d"]
+FETCHED = [b"", b"+", b"HEAD:"]
+PUSHED = [b"main^:x", b"a b:c", b"refs/*", b"a:b:c", b"~a:b"]
+NO_FETCHED = [b"refs/*", b"a:b:c", b"a b:c", b"main^:x", b"~a:b"]
+NO_PUSHED = [b"", b"+", b"HEAD:"]
+NEITHER = [b"+refs/heads/*:refs/remotes/o", b"refs/heads/**:refs/remotes/o/**", b"a : b", b"a b", b"refs/heads/x.lock", b"^refs/x:refs/y",
+           b"^", b"a..b", b".a", b"a/.b", b"a.", b"a@{b", b"a//b", b"/a", b"a/", b"a?b", b"+^a", b"~a", b"a\\b", b"a:b c", b"a:@", b"x\x7f",
+           b"a.lock/b", b"*:x", b"a[b"]
+# what it takes and refuses in init.defaultBranch, at `git init`, and in an alias: status 128, or 1 if it is empty
+BRANCHES = [b"main", b"@", b"-x", b"HEAD", b"x/y", b"\xc3\xbc", b"refs/heads/x"]
+NO_BRANCHES = [b"my branch", b"feature/", b"", b"a.lock", b"a..b", b"a*"]
+COMMANDS = [b"!sh -c \"x", b"!", b"log --format='%h'", b"log \\\"", b"log 'a\\'", b"-c x=y log", b"log \"a 'b\""]
+NO_COMMANDS = [b"log \"a", b"log 'a", b"log a\\", b"", b"   ", b"log \"a\\\""]
+
 # key, and the values that are right
 ACCEPTED = [
     (b"test.bool", [None, *WORDS, *SMALL_NUMBERS]),
@@ -180,6 +201,8 @@ ACCEPTED = [
     (b"test.hash", [b"a#b", b"#", b"#c"]),
     (b"test.date", [b"now", b"NOW", b"x.now.y", b"7", b"x7y", b"January", b"in ja", b"\\", b"no-NOW"]),
     (b"test.sort-key", [b"name", b"-name", b"version:name", b"-v:*name", b"*date", b"name:short", b"date:", b"version:v:date"]),
+    (b"test.fetch", [*FETCHED, *BOTH]), (b"test.push", [*PUSHED, *BOTH]), (b"test.branch", BRANCHES), (b"test.command", COMMANDS),
+    (b"test.no-option", [b"", b"x-", b" -x", b"./-x"]),
     (b"mark.alone", [None, b"", b"x"]),
     (b"want.bool", [None, b"true", b"yes", b"1", b"On", b"2k"]), (b"want.off", [b"no", b"", b"0"]),
     (b"want.int", [b"1k", b"1024", b"0x400", b"+1K"]), (b"want.bool-or-int", [b"1", b"01"]),
@@ -217,6 +240,10 @@ REPORTED = [
     (b"test.word", NO_VALUE, [None]),
     (b"test.word", NO_WORD, [b"", b"one Two", b"one, Two", b"yes", b"1", b"ow", b"oen ", b"thr---3-"]),
     (b"test.alone", b"error: not one of: alone", [b"", b"al"]),
+    (b"test.fetch", b"error: not a refspec", [*NO_FETCHED, *NEITHER]), (b"test.push", b"warning: not a refspec", [*NO_PUSHED, *NEITHER]),
+    (b"test.branch", b"error: not the name of a branch", NO_BRANCHES), (b"test.fetch", NO_VALUE, [None]),
+    (b"test.command", b"error: not a command: it is empty, or a quote or a backslash is open at its end", NO_COMMANDS),
+    (b"test.no-option", b"error: begins with -, as an option", [b"-", b"-x", b"--upload-pack=x"]),
     (b"test.word-any-case", NO_VALUE, [None]),
     (b"test.word-any-case", NO_WORD_ANY_CASE, [b"", b"yes", b"1", KELVIN + b"ilo"]),
     (b"test.bool-or-word", NO_BOOL_OR_WORD, [*NO_BOOLEANS, *NO_NUMBERS, *MIDDLE_NUMBERS, *LARGE_PRODUCTS]),
@@ -477,6 +504,21 @@ BUILT_IN = [
     (b"core.fsmonitor", b"~no-such-user/x", NO_HOME), (b"gpg.program", b"~no-such-user/x", NO_HOME), (b"core.editor", b"~no-such-user/x", None),
     (b"core.whitespace", b"incomplete-line", None), (b"pull.autostash", None, None), (b"http.maxretries", b"3", None),
     (b"maintenance.strategy", b"incrementl", b"error: not one of: "), (b"core.fsyncobjectfiles", b"true", b"warning: deprecated: use core.fsync"),
+    (b"remote.x.fetch", b"+refs/heads/*:refs/remotes/x", b"error: not a refspec"), (b"remote.x.push", b"HEAD:", b"error: not a refspec"),
+    (b"init.defaultBranch", b"my branch", b"error: not the name of a branch"), (b"alias.x", b"log \"a", b"error: not a command: "),
+    (b"alias.\xc3\xbc.command", b"", b"error: not a command: "), (b"core.notesRef", b"commits", b"error: not one of: refs/notes/*"),
+    (b"core.notesRef", b"refs/notes/x", None), (b"fsck.missingEmail", b"ignore", None), (b"receive.fsck.badDate", b"WARN", b"error: not one of: error, warn, ignore"),
+    (b"color.blame.highlightRecent", b"bleu", b"error: not a list of: "), (b"sendemail.smtpEncryption", b"starttls", b"warning: not one of: ssl, tls"),
+    # 2.55.0 takes these, or Git for Windows or an older credential manager does
+    (b"http.uploadarchive", b"true", None), (b"fetch.hideRefs", b"refs/x", None), (b"gitcvs.authdb", b"/x", None), (b"user.signature", b"x", None),
+    (b"http.schannelCheckRevoke", b"best-effort", None), (b"credential.interactive", b"auto", None), (b"credential.validate", b"x", None),
+    # what git-config(1) of 2.55.0 calls deprecated
+    (b"add.ignore-errors", b"true", b"warning: deprecated: use add.ignoreErrors"), (b"pack.writeBitmaps", b"true", b"warning: deprecated: use repack.writeBitmaps"),
+    (b"commitGraph.readChangedPaths", b"true", b"warning: deprecated: use commitGraph.changedPathsVersion"),
+    (b"sendemail.signedOffCc", b"true", b"warning: deprecated: use sendemail.signedOffByCc"),
+    (b"remote.x.skipDefaultUpdate", b"true", b"warning: deprecated: use remote.NAME.skipFetchAll"),
+    (b"trailer.x.command", b"y", b"warning: deprecated: use trailer.NAME.cmd"),
+    (b"versionsort.prereleaseSuffix", b"-rc", b"warning: deprecated: use versionsort.suffix"),
     (b"core.bare", b"2g", NO_INT), (b"add.interactive.usebuiltin", b"true", b"warning: Git reads it only before 2.40"),
 ]
 
@@ -555,6 +597,12 @@ FAIL_ON = [
     (b"[mark]\nwarn = x\n", ["note", "warning"]), (b"[test]\nin = 1\n", ["note", "warning"]),
     (b"[test]\nbool = yes\n", ["note"]), (b"[test]\nbool = true\n[other]x\n", []),
 ]
+
+# lines below `[submodule "x"]` in a file .gitmodules, and what Git 2.55.0 does at `git status`: it stops, goes on with a
+# warning, or takes them
+MODULES = [(b"update = !cmd", "error"), (b"update = foo", "error"), (b"update = rebase", None), (b"path = -x", "warning"), (b"url = -y", "warning"),
+           (b"ignore = foo", "warning"), (b"ignore", "error"), (b"path = x", None), (b"url = ./-y", None), (b"branch = -x", None),
+           (b"fetchRecurseSubmodules = foo", "error"), (b"shallow = foo", "error"), (b"path", "error"), (b"branch", "error")]
 
 # arguments that are wrong
 WRONG_ARGUMENTS = [

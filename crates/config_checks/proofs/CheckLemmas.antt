@@ -17,7 +17,7 @@ use Rattle.config_checks.specs.Rows.{IsUnknown}
 use Rattle.config_checks.specs.Settings.{IsSettingOf}
 use Rattle.config_checks.specs.Reasons.{severity_of}
 use Rattle.config_checks.specs.declared.reason.Severity.{Severity}
-use Rattle.config_checks.specs.declared.reason.Severity.TheVariants.{Warning}
+use Rattle.config_checks.specs.Suggestions.{unknown_severity}
 use Rattle.config_file.specs.declared.entry.Entry as code
 use Rattle.config_file.specs.declared.reader.Entries.{Entries}
 use Rattle.config_file.specs.File.{Entry, IsFile, Begins}
@@ -53,11 +53,15 @@ pub record AddsOne (s s' : Counts) : Type 0 where
 counted_one : (severity : Severity) (s : Counts) → AddsOne s (counted severity (record s { entries = s.entries + 1 }))
 counted_one severity s = grind arith
 
+unknown_one : (severity : Severity) (s : Counts)
+    → AddsOne s (counted severity (record s { entries = s.entries + 1; unknown = s.unknown + 1 }))
+unknown_one severity s = grind arith
+
 pub adds_one : (rows : List Row) (options : Options) (setting : Setting) (s s' : Counts) (x x' : Option (List Finding))
     → Reports rows options setting s s' x x' → AddsOne s s'
 adds_one rows options setting s s' x x' (line, adds, appended) = elim adds [
   | unknown is passed none after ↦ rw after (omega arith)
-  | misspelled key is line after ↦ rw after (omega arith)
+  | misspelled key is line after ↦ rw after (unknown_one (unknown_severity setting.key.items) s)
   | right row decides is none after ↦ rw after (omega arith)
   | found row reason decides is line after ↦ rw after (counted_one (severity_of row.goes_on reason) s)
 ]
@@ -209,7 +213,7 @@ module _ (rows : List Row) (options : Options) (setting : Setting) (s : Counts) 
   -- the key is reported
   pub said_something : (reason meant : Option (List ℕ)) → IsSaidAs rows setting.key.items reason meant → is_some reason ≡ true
       → ReportsSetting rows options setting s (findings_as s.entries setting reason meant)
-      (counted Warning (record s { entries = s.entries + 1; unknown = s.unknown + 1 }))
+      (counted (unknown_severity setting.key.items) (record s { entries = s.entries + 1; unknown = s.unknown + 1 }))
   said_something None meant said some = absurd (cc)
   said_something (Some text) meant (key, is, texts, meants) some = misspelled key is (rw (texts, meants)) refl
 

@@ -6,6 +6,7 @@ mod LackLemmas
 mod RunLemmas
 mod WordLemmas
 mod ShownLemmas
+mod ShapeLemmas
 mod SuggestionLemmas
 mod CheckLemmas
 mod TableLemmas

@@ -26,13 +26,12 @@ use Rattle.config_checks.specs.declared.setting.Setting.{Setting}
 use Rattle.config_checks.specs.declared.reason.Reason.{Reason}
 use Rattle.config_checks.specs.declared.reason.Reason.TheVariants.{NotCanonical, NoWord}
 use Rattle.config_checks.specs.declared.reason.Severity.{Severity}
-use Rattle.config_checks.specs.declared.reason.Severity.TheVariants.{Warning}
 use Rattle.config_checks.specs.declared.check.Counts.{Counts}
 use Rattle.config_checks.specs.declared.suggestion.UnknownKey.{UnknownKey}
 use Rattle.config_checks.specs.Rows.{Decides, IsUnknown}
 use Rattle.config_file.specs.Settings.{IsValueOf}
 use Rattle.config_checks.specs.Settings.{IsSettingOf, value_of}
-use Rattle.config_checks.specs.Suggestions.{IsPassed, IsUnknownKey, suggestion_text, nearest_of}
+use Rattle.config_checks.specs.Suggestions.{IsPassed, IsUnknownKey, unknown_severity, suggestion_text, nearest_of}
 use Rattle.config_checks.specs.Reasons.{HasFinding, IsSameFinding, severity_of}
 use Rattle.config_checks.specs.Codes.{code_of}
 use Rattle.config_checks.specs.Findings.{Finding, reason_text}
@@ -130,8 +129,9 @@ counted_unknown s = record s { entries = s.entries + 1; unknown = s.unknown + 1 
 -- what is said of a setting with these facts, for which this key is suggested, and the counts after it
 abbrev by_key : Counts → Facts → Option Key → List Finding × Counts
 by_key s f key = (
-  found_for s.entries (f.0, f.1, f.2, None) kind.UnknownKey None Warning (suggestion_text key) None (option_map written key) None ∷ [],
-  counted Warning (counted_unknown s),
+  found_for s.entries (f.0, f.1, f.2, None) kind.UnknownKey None (unknown_severity f.2) (suggestion_text key) None
+      (option_map written key) None ∷ [],
+  counted (unknown_severity f.2) (counted_unknown s),
 )
 
 -- what is said of a setting with these facts, for a reason, and the counts after it

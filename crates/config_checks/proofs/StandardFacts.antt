@@ -21,15 +21,18 @@ use Rattle.config_checks.specs.Findings.{Finding}
 use Rattle.config_checks.specs.Json.{finding_json, fingerprint_of, severity_name}
 use Rattle.config_checks.specs.Outcome.{IsStatus}
 use Rattle.config_checks.specs.Reasons.{severity_of}
+use Rattle.std.specs.List.{list_all, list_any, fold}
+use Rattle.config_checks.specs.declared.shape.Quote.TheVariants.{Outside, Double, Escaped}
+use Rattle.config_checks.specs.Shapes.{is_no_ref_byte, quote_after}
 
 -- ---- codes and severities
 
 pub codes_are_named : map code_name (kind.BadBoolean ∷ kind.BadInteger ∷ kind.BadColor ∷ kind.OutOfRange
-    ∷ kind.NotAWord ∷ kind.NoHome ∷ kind.OtherValue ∷ kind.NoValue ∷ kind.MissingSetting ∷ kind.UnknownKey
+    ∷ kind.NotAWord ∷ kind.NoHome ∷ kind.BadRefspec ∷ kind.BadBranch ∷ kind.BadCommand ∷ kind.LikeAnOption ∷ kind.OtherValue ∷ kind.NoValue ∷ kind.MissingSetting ∷ kind.UnknownKey
     ∷ kind.TooNew ∷ kind.Gone ∷ kind.Deprecated ∷ kind.NotCanonical ∷ kind.InvalidLine ∷ kind.IncludeLoop
     ∷ kind.IncludeDepth ∷ kind.IncludePath ∷ kind.MissingFile ∷ kind.UnknownCondition ∷ [])
     ≡ map (λ t. codes t) ("bad-boolean" ∷ "bad-integer" ∷ "bad-color" ∷ "out-of-range"
-    ∷ "not-a-word" ∷ "no-home" ∷ "other-value" ∷ "no-value" ∷ "missing-setting" ∷ "unknown-key"
+    ∷ "not-a-word" ∷ "no-home" ∷ "bad-refspec" ∷ "bad-branch" ∷ "bad-command" ∷ "like-an-option" ∷ "other-value" ∷ "no-value" ∷ "missing-setting" ∷ "unknown-key"
     ∷ "too-new" ∷ "gone" ∷ "deprecated" ∷ "not-canonical" ∷ "invalid-line" ∷ "include-loop"
     ∷ "include-depth" ∷ "include-path" ∷ "missing-file" ∷ "unknown-condition" ∷ [])
 codes_are_named = refl
@@ -51,6 +54,20 @@ severities_are_named goes_on v word = refl
 pub wrong_values_are_errors : (severity_of false (Refused faults.Color) ≡ Error)
     × (severity_of true (Refused faults.Color) ≡ Warning)
 wrong_values_are_errors = (refl, refl)
+
+-- ---- names of refs, and quotes
+
+-- "They cannot have ASCII control characters (i.e. bytes whose values are lower than \040, or \177 DEL), space, tilde
+-- ~, caret ^, or colon : anywhere", nor "question-mark ?", "open bracket [" and \
+pub refs_lack_these : (list_all is_no_ref_byte (0 ∷ 31 ∷ 127 ∷ 32 ∷ 126 ∷ 94 ∷ 58 ∷ 63 ∷ 91 ∷ 92 ∷ []) ≡ true)
+    × (list_any is_no_ref_byte (33 ∷ 42 ∷ 45 ∷ 46 ∷ 47 ∷ 57 ∷ 64 ∷ 65 ∷ 93 ∷ 123 ∷ 128 ∷ 255 ∷ []) ≡ false)
+refs_lack_these = (refl, refl)
+
+-- `'\'` is closed, and `"\"` and `\` are not: a backslash escapes but within single quotes
+pub quotes_close : (fold quote_after Outside (39 ∷ 92 ∷ 39 ∷ []) ≡ Outside)
+    × (fold quote_after Outside (34 ∷ 92 ∷ 34 ∷ []) ≡ Double)
+    × (fold quote_after Outside (92 ∷ []) ≡ Escaped)
+quotes_close = (refl, refl, refl)
 
 -- ---- JSON
 

@@ -18,8 +18,9 @@ use Rattle.config_checks.specs.declared.kind.Form.TheVariants as forms
 use Rattle.config_checks.specs.declared.kind.WordList.{WordList}
 use Rattle.config_checks.specs.declared.reason.Reason.{Reason}
 use Rattle.config_checks.specs.declared.reason.Reason.TheVariants.{NoValue, Refused, OutOfRange, NoWord}
-use Rattle.config_checks.specs.declared.reason.Reason.TheVariants.{NoHome, IsNot, TooNew, Gone, Deprecated}
+use Rattle.config_checks.specs.declared.reason.Reason.TheVariants.{NoHome, Misshapen, IsNot, TooNew, Gone, Deprecated}
 use Rattle.config_checks.specs.declared.reason.Reason.TheVariants.{NotCanonical, OtherCase}
+use Rattle.config_checks.specs.Shapes.{shape_fault}
 use Rattle.config_checks.specs.declared.version.Version.{Version}
 use Rattle.config_checks.specs.declared.reason.Severity.{Severity}
 
@@ -102,6 +103,7 @@ reason_text (Refused fault) = fault_text fault
 reason_text (OutOfRange low high) = range_text low high
 reason_text (NoWord list meant) = no_word_text list.now meant
 reason_text NoHome = codes "no such user or no home directory"
+reason_text (Misshapen shape) = shape_fault shape
 reason_text (IsNot wanted) = codes "has to be " ++ shown wanted.now
 reason_text (TooNew since) = version_text (codes "Git reads it only since ") since
 reason_text (Gone until) = version_text (codes "Git reads it only before ") until

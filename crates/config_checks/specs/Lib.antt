@@ -3,6 +3,7 @@ pub mod Kinds
 pub mod Versions
 pub mod Nearest
 pub mod Paths
+pub mod Shapes
 pub mod Reasons
 pub mod Rows
 pub mod Codes

@@ -21,13 +21,15 @@ use Rattle.config_checks.specs.declared.options.Options.{Options}
 use Rattle.config_checks.specs.declared.paths.KnownUsers.{KnownUsers}
 use Rattle.config_checks.specs.declared.row.Row.{Row}
 use Rattle.config_checks.specs.declared.reason.Reason.{Reason}
-use Rattle.config_checks.specs.declared.reason.Reason.TheVariants.{NoValue, Refused, OutOfRange, NoWord, NoHome, IsNot}
+use Rattle.config_checks.specs.declared.reason.Reason.TheVariants.{NoValue, Refused, OutOfRange, NoWord, NoHome, Misshapen, IsNot}
 use Rattle.config_checks.specs.declared.reason.Reason.TheVariants.{TooNew, Gone, Deprecated, NotCanonical, OtherCase}
 use Rattle.config_checks.specs.declared.reason.Severity.{Severity}
 use Rattle.config_checks.specs.declared.reason.Severity.TheVariants.{Error, Warning, Note}
 use Rattle.config_checks.specs.Kinds.{IsPattern, IsSame, HasWord, IsNoWord, IsFirstWord, AreWords, HasDate, IsSortKey}
 use Rattle.config_checks.specs.Nearest.{FewEdits, AreFar, IsNearest}
 use Rattle.config_checks.specs.Paths.{IsHomeless}
+use Rattle.config_checks.specs.declared.shape.Shape.{Shape}
+use Rattle.config_checks.specs.Shapes.{HasShape}
 use Rattle.config_checks.specs.declared.version.Version.{Version}
 use Rattle.config_checks.specs.Versions.{IsBefore, IsTooNew, IsOf}
 
@@ -107,6 +109,12 @@ IsJudgedPath users t None = ¬ (IsHomeless users t)
 IsJudgedPath users t (Some NoHome) = IsHomeless users t
 IsJudgedPath users t (Some _) = ⊥
 
+-- no reason if the text has the shape
+abbrev pub IsJudgedShape : Shape → List ℕ → Option Reason → Type 0
+IsJudgedShape shape t None = HasShape shape t
+IsJudgedShape shape t (Some (Misshapen s)) = (s ≡ shape) × ¬ (HasShape shape t)
+IsJudgedShape shape t (Some _) = ⊥
+
 -- ---- why a setting is wrong by its row, if it is wrong
 
 abbrev pub IsJudgedText : Option KnownUsers → SettingKind → List ℕ → Option Reason → Type 0
@@ -116,6 +124,7 @@ IsJudgedText users (kinds.Int low high) t r = IsJudgedWithin low high t r
 IsJudgedText users kinds.BoolOrInt t r = IsJudgedBool t r
 IsJudgedText users kinds.Color t r = IsJudged ColorText (OnlyFault faults.Color) t r
 IsJudgedText users kinds.Path t r = IsJudgedPath users t r
+IsJudgedText users (kinds.Shaped shape) t r = IsJudgedShape shape t r
 IsJudgedText users (kinds.Word list) t r = IsJudgedByWords list t r
 
 -- the grammar gives both texts the same value
@@ -145,6 +154,7 @@ MeanSame (kinds.Int low high) t u = HaveSameValue AmountText t u
 MeanSame kinds.BoolOrInt t u = AreSameBoolOrInt t u
 MeanSame kinds.Color t u = HaveSameValue ColorText t u
 MeanSame kinds.Path t u = t ≡ u
+MeanSame (kinds.Shaped shape) t u = t ≡ u
 MeanSame (kinds.Word list) t u = AreSameByWords list t u
 
 -- a value that its kind takes has to mean what the row wants, if it wants one meaning
@@ -218,6 +228,7 @@ HasSpelling (kinds.Int low high) (Some t) r = IsRespelled IntegerText CanonicalI
 HasSpelling kinds.BoolOrInt (Some t) r = IsRespelledBoolOrInt t r
 HasSpelling kinds.Color (Some t) r = IsRespelled ColorText CanonicalColor t r
 HasSpelling kinds.Path (Some t) r = r ≡ None
+HasSpelling (kinds.Shaped shape) (Some t) r = r ≡ None
 HasSpelling (kinds.Word list) (Some t) r = IsRespelledByWords list t r
 
 -- ---- what is found

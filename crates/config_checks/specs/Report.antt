@@ -28,7 +28,7 @@ use Rattle.config_checks.specs.Settings.{IsSettingOf, value_of}
 use Rattle.config_checks.specs.Reasons.{HasFinding, severity_of}
 use Rattle.config_checks.specs.Codes.{code_of}
 use Rattle.config_checks.specs.Findings.{Finding, reason_text}
-use Rattle.config_checks.specs.Suggestions.{IsPassed, IsUnknownKey, nearest_of, unknown_text}
+use Rattle.config_checks.specs.Suggestions.{IsPassed, IsUnknownKey, unknown_severity, nearest_of, unknown_text}
 
 -- ---- a finding
 
@@ -89,7 +89,7 @@ unknown_finding before setting unknown = record {
   line = setting.line;
   entry = Some before;
   code = kind.UnknownKey;
-  severity = Warning;
+  severity = unknown_severity setting.key.items;
   key = Some setting.key.items;
   row = None;
   value = None;
@@ -139,7 +139,7 @@ pub data ReportsSetting (rows : List Row) (options : Options) (setting : Setting
       → s' ≡ record s { entries = s.entries + 1; unknown = s.unknown + 1 }
       → ReportsSetting rows options setting s said s'
   misspelled : (key : UnknownKey) → IsUnknownKey rows setting.key.items key → said ≡ unknown_finding s.entries setting key ∷ []
-      → s' ≡ counted Warning (record s { entries = s.entries + 1; unknown = s.unknown + 1 })
+      → s' ≡ counted (unknown_severity setting.key.items) (record s { entries = s.entries + 1; unknown = s.unknown + 1 })
       → ReportsSetting rows options setting s said s'
   right : (row : Row) → Decides rows setting.key.items row
       → HasFinding options row (value_of setting) None → said ≡ []

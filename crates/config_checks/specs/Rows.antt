@@ -13,6 +13,7 @@ use Rattle.config_checks.specs.declared.row.Row.{Row}
 use Rattle.config_checks.specs.declared.row.Run.{Run}
 use Rattle.config_checks.specs.declared.kind.SettingKind.{SettingKind}
 use Rattle.config_checks.specs.declared.kind.SettingKind.TheVariants as kinds
+use Rattle.config_checks.specs.declared.shape.Shape.TheVariants as shapes
 use Rattle.config_checks.specs.declared.table.RowFault.{RowFault}
 use Rattle.config_checks.specs.declared.table.BadRow.{BadRow}
 use Rattle.config_checks.specs.declared.table.Marks.{Marks}
@@ -135,6 +136,11 @@ plain_name kinds.Bool = Some (codes "bool")
 plain_name kinds.BoolOrInt = Some (codes "bool-or-int")
 plain_name kinds.Color = Some (codes "color")
 plain_name kinds.Path = Some (codes "path")
+plain_name (kinds.Shaped shapes.FetchRefspec) = Some (codes "fetch-refspec")
+plain_name (kinds.Shaped shapes.PushRefspec) = Some (codes "push-refspec")
+plain_name (kinds.Shaped shapes.Branch) = Some (codes "branch")
+plain_name (kinds.Shaped shapes.Command) = Some (codes "command")
+plain_name (kinds.Shaped shapes.NoOption) = Some (codes "no-option")
 plain_name _ = None
 
 abbrev pub form_name : Form → List ℕ

@@ -1,13 +1,16 @@
 -- Keys that no row covers, and the nearest key of the rows, which is suggested for them.
 use Rattle.std.specs.Prelude.{◌<◌, length, take, slice_index_or, All}
 use Rattle.std.specs.Prelude.{◌≡◌, ◌≢◌, ◌⊎◌, ℕ, List, [], ◌∷◌, ◌++◌, codes, Option, None, Some, true, option_map}
-use Rattle.std.specs.List.{Any, list_all}
+use Rattle.std.specs.Prelude.{◌||◌, nat_eq, if◌then◌else◌}
+use Rattle.std.specs.List.{Any, list_all, starts_with}
 use Rattle.config_text.specs.SameWord.{SameWord}
 use Rattle.config_file.specs.Bytes.{dot}
 use Rattle.config_file.specs.Key.{Key, IsCut, is_no_dot}
 use Rattle.config_file.specs.KeyView.{key_of}
 use Rattle.config_checks.specs.declared.row.Row.{Row}
 use Rattle.config_checks.specs.declared.suggestion.UnknownKey.{UnknownKey}
+use Rattle.config_checks.specs.declared.reason.Severity.{Severity}
+use Rattle.config_checks.specs.declared.reason.Severity.TheVariants.{Error, Warning}
 use Rattle.config_checks.specs.Findings.{shown}
 use Rattle.config_checks.specs.Keys.{CoversSubsection, CoversName}
 use Rattle.config_checks.specs.Nearest.{FewEdits, LacksRun, AreFar, IsNearest}
@@ -91,6 +94,11 @@ HasSlots rows t =
 pub data IsOwn (rows : List Row) (key : Key) : Type 0 where
   alone : key.subsection ≡ None → ¬ (IsShared key.section) → HasSection rows key.section → IsOwn rows key
   slot : (t : List ℕ) → key.subsection ≡ Some t → SameWord (codes "color") key.section → HasSlots rows t → IsOwn rows key
+
+-- Git stops at an unknown message of git-fsck(1) and at an unknown slot of git-grep(1), and ignores all other unknown keys
+abbrev pub unknown_severity : (listed : List ℕ) → Severity
+unknown_severity key =
+    if starts_with nat_eq key (codes "fsck.") || starts_with nat_eq key (codes "color.grep.") then Error else Warning
 
 -- ---- a name in another section
 

@@ -20,7 +20,9 @@ use crate::options::Options;
 use crate::reason::{Reason, Severity, find};
 use crate::row::{Row, Run};
 use crate::setting::Setting;
-use crate::suggestion::{SectionFacts, push_unknown, recalled_section, unknown_in};
+use crate::suggestion::{
+    SectionFacts, push_unknown, recalled_section, unknown_in, unknown_severity,
+};
 use config_file::errors::FileError;
 use config_file::key::Key;
 use config_file::reader::Entries;
@@ -302,7 +304,7 @@ fn give_said<'f, R: Receiver>(
         line: setting.line,
         entry: Some(before),
         code: Code::UnknownKey,
-        severity: Severity::Warning,
+        severity: unknown_severity(&setting.key),
         key: Some(&setting.key),
         row: None,
         value: None,
@@ -350,8 +352,9 @@ fn report<R: Receiver>(
             Ok(said) => said,
             Err(error) => return Err(CheckError::Memory(error)),
         };
+        let severity = unknown_severity(&setting.key);
         if give_said(before, setting, &said, receiver)? {
-            counts = counts.with(Severity::Warning);
+            counts = counts.with(severity);
         }
         return Ok(Progress {
             counts,

@@ -1,8 +1,9 @@
 //! The codes of findings.
 ghost use Rattle.std.specs.Prelude.{◌≡◌};
-ghost use Rattle.config_checks.specs.Codes.{code_name, code_of_fault, code_of};
+ghost use Rattle.config_checks.specs.Codes.{code_name, code_of_fault, code_of_shape, code_of};
 
 use crate::reason::Reason;
+use crate::shape::Shape;
 use gix_config_value::Fault;
 
 /// What kind of finding one is. Each has a short name, which no later version changes.
@@ -26,6 +27,14 @@ pub enum Code {
     NotAWord,
     /// The value is a path that begins with a home directory which is not there.
     NoHome,
+    /// The value is no refspec.
+    BadRefspec,
+    /// The value is no name of a branch.
+    BadBranch,
+    /// The value is no command of Git with its arguments.
+    BadCommand,
+    /// The value looks like an option, so that Git ignores it.
+    LikeAnOption,
     /// The value means something other than the row asks for.
     OtherValue,
     /// The setting has no value, and needs one.
@@ -68,6 +77,10 @@ impl Code {
             Code::OutOfRange => "out-of-range",
             Code::NotAWord => "not-a-word",
             Code::NoHome => "no-home",
+            Code::BadRefspec => "bad-refspec",
+            Code::BadBranch => "bad-branch",
+            Code::BadCommand => "bad-command",
+            Code::LikeAnOption => "like-an-option",
             Code::OtherValue => "other-value",
             Code::NoValue => "no-value",
             Code::MissingSetting => "missing-setting",
@@ -141,6 +154,30 @@ pub const EXPLAINED: &[Explained] = &[
         meaning: "the value is a path that begins with a home directory which is not there",
         wrong: "[core]\n\texcludesFile = ~nobody-here/ignore\n",
         right: "[core]\n\texcludesFile = ~/ignore\n",
+    },
+    Explained {
+        code: Code::BadRefspec,
+        meaning: "the value is no refspec",
+        wrong: "[remote \"origin\"]\n\tfetch = +refs/heads/*:refs/remotes/origin\n",
+        right: "[remote \"origin\"]\n\tfetch = +refs/heads/*:refs/remotes/origin/*\n",
+    },
+    Explained {
+        code: Code::BadBranch,
+        meaning: "the value is no name of a branch",
+        wrong: "[init]\n\tdefaultBranch = my branch\n",
+        right: "[init]\n\tdefaultBranch = my-branch\n",
+    },
+    Explained {
+        code: Code::BadCommand,
+        meaning: "the value is no command of Git with its arguments",
+        wrong: "[alias]\n\tlast = log \\\"-1\n",
+        right: "[alias]\n\tlast = log -1\n",
+    },
+    Explained {
+        code: Code::LikeAnOption,
+        meaning: "the value looks like an option, so that Git ignores it",
+        wrong: "# in .gitmodules\n[submodule \"x\"]\n\turl = -x\n",
+        right: "[submodule \"x\"]\n\turl = ./-x\n",
     },
     Explained {
         code: Code::OtherValue,
@@ -240,6 +277,18 @@ fn code_of_fault(fault: Fault) -> Code
     }
 }
 
+/// The code of a text that has not this shape.
+fn code_of_shape(shape: Shape) -> Code
+    ensures { result ≡ code_of_shape shape }
+{
+    match shape {
+        Shape::FetchRefspec | Shape::PushRefspec => Code::BadRefspec,
+        Shape::Branch => Code::BadBranch,
+        Shape::Command => Code::BadCommand,
+        Shape::NoOption => Code::LikeAnOption,
+    }
+}
+
 impl Reason<'_, '_> {
     /// The code of this reason.
     pub fn code(&self) -> Code
@@ -251,6 +300,7 @@ impl Reason<'_, '_> {
             Reason::OutOfRange { .. } => Code::OutOfRange,
             Reason::NoWord { .. } => Code::NotAWord,
             Reason::NoHome => Code::NoHome,
+            Reason::Misshapen(shape) => code_of_shape(*shape),
             Reason::IsNot(_) => Code::OtherValue,
             Reason::TooNew(_) => Code::TooNew,
             Reason::Gone(_) => Code::Gone,

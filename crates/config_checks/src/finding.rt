@@ -246,6 +246,7 @@ pub fn push_reason(out: &mut Vec<u8>, reason: &Reason<'_, '_>) -> Result<(), All
         Reason::OutOfRange { low, high } => push_range(out, *low, *high),
         Reason::NoWord { list, meant } => push_no_word(out, list, *meant),
         Reason::NoHome => out.extend_from_slice(b"no such user or no home directory"),
+        Reason::Misshapen(shape) => out.extend_from_slice(shape.fault().as_bytes()),
         Reason::IsNot(wanted) => push_word(out, "has to be ", wanted),
         Reason::TooNew(since) => push_version(out, "Git reads it only since ", *since),
         Reason::Gone(until) => push_version(out, "Git reads it only before ", *until),

@@ -110,12 +110,11 @@ core.fsync                          warn words loose-object -loose-object pack -
     -pack-metadata commit-graph -commit-graph index -index objects -objects reference -reference \
     derived-metadata -derived-metadata committed -committed added -added all -all none
 core.unsetenvvars                   text
-core.notesRef                       text
 core.abbrev                         until=2.47 words-any-case auto no off false 4 5 6 7 8 9 10 11 12 13 14 \
     15 16 17 18 19 20 21 22 23 24 25 26 27 28 29 30 31 32 33 34 35 36 37 38 39 40 41 42 43 44 45 46 47 48 \
     49 50 51 52 53 54 55 56 57 58 59 60 61 62 63 64 04 05 06 07 01* 0x* +*
 add.ignoreErrors                    bool
-add.ignore-errors                   bool
+add.ignore-errors                   instead=add.ignoreErrors bool
 add.interactive.useBuiltin          until=2.40 bool
 am.keepcr                           bool
 am.threeWay                         bool
@@ -232,7 +231,7 @@ color.status.unmerged               color
 color.transport                     needs-value bool-or-word-any-case always never auto
 color.transport.rejected            color
 color.ui                            bool-or-word-any-case always never auto
-color.blame.highlightRecent         warn words-any-case normal default black red green yellow blue \
+color.blame.highlightRecent         words-any-case normal default black red green yellow blue \
     magenta cyan white bright* bold dim italic ul blink reverse strike reset no* -1 0* 1* 2* 3* 4* 5* 6* 7* \
     8* 9* \\#* sec* min* hour* day* week* month* year* ago now yesterday noon midnight tea never last jan* \
     feb* mar* apr* may jun* jul* aug* sep* oct* nov* dec* sun* mon* tue* wed* thu* fri* sat*
@@ -243,7 +242,7 @@ commit.template                     path
 commit.verbose                      bool-or-int
 commitGraph.generationVersion       int
 commitGraph.maxNewFilters           int
-commitGraph.readChangedPaths        bool
+commitGraph.readChangedPaths        until=2.46 bool
 credential.useHttpPath              needs-value bool
 credential.sanitizePrompt           needs-value bool
 credential.*.useHttpPath            needs-value bool
@@ -294,7 +293,6 @@ feature.manyFiles                   bool
 fetch.recurseSubmodules             bool-or-word on-demand
 fetch.fsckObjects                   bool
 fetch.fsck.skipList                 path
-fetch.fsck.*                        word error warn ignore
 fetch.unpackLimit                   int
 fetch.prune                         bool
 fetch.pruneTags                     bool
@@ -329,7 +327,6 @@ filter.*.clean                      text
 filter.*.smudge                     text
 filter.*.process                    text
 fsck.skipList                       path
-fsck.*                              word error warn ignore
 fsmonitor.allowRemote               bool
 fsmonitor.socketDir                 alone text
 gc.aggressiveDepth                  int
@@ -403,7 +400,6 @@ gpg.program                         until=2.51 text
 gpg.ssh.defaultKeyCommand           text
 gpg.ssh.allowedSignersFile          path
 gpg.ssh.revocationFile              path
-gpg.*.program                       until=2.51 text
 gui.commitMsgWidth                  alone warn int
 gui.diffContext                     alone warn int
 gui.displayUntracked                warn bool
@@ -430,7 +426,6 @@ http.version                        warn word HTTP/2 HTTP/1.1
 http.sslVersion                     warn words sslv2 sslv3 tlsv1 tlsv1.0 tlsv1.1 tlsv1.2 tlsv1.3
 http.sslVerify                      bool
 http.sslCAPath                      path
-http.schannelCheckRevoke            bool
 http.sslTry                         bool
 http.maxRequests                    int
 http.minSessions                    int
@@ -465,7 +460,6 @@ http.*.version                      warn word HTTP/2 HTTP/1.1
 http.*.sslVersion                   warn words sslv2 sslv3 tlsv1 tlsv1.0 tlsv1.1 tlsv1.2 tlsv1.3
 http.*.sslVerify                    bool
 http.*.sslCAPath                    path
-http.*.schannelCheckRevoke          bool
 http.*.sslTry                       bool
 http.*.maxRequests                  int
 http.*.minSessions                  int
@@ -588,7 +582,7 @@ pack.indexVersion                   int 0 2
 pack.packSizeLimit                  int 0 9223372036854775807
 pack.useBitmaps                     bool
 pack.useSparse                      bool
-pack.writeBitmaps                   bool
+pack.writeBitmaps                   instead=repack.writeBitmaps bool
 pack.writeBitmapHashCache           bool
 pack.writeBitmapLookupTable         bool
 pack.writeReverseIndex              bool
@@ -627,7 +621,6 @@ receive.autogc                      bool
 receive.certNonceSlop               int 0 9223372036854775807
 receive.fsckObjects                 bool
 receive.fsck.skipList               path
-receive.fsck.*                      word error warn ignore
 receive.keepAlive                   int
 receive.unpackLimit                 int
 receive.maxInputSize                int -9223372036854775808 9223372036854775807
@@ -642,7 +635,7 @@ receive.hideRefs                    text
 receive.procReceiveRefs             text
 remote.*.proxyAuthMethod            warn word anyauth basic digest negotiate ntlm
 remote.*.mirror                     bool
-remote.*.skipDefaultUpdate          bool
+remote.*.skipDefaultUpdate          instead=remote.NAME.skipFetchAll bool
 remote.*.skipFetchAll               bool
 remote.*.tagOpt                     warn word --no-tags --tags
 remote.*.prune                      bool
@@ -652,8 +645,8 @@ remote.pushDefault                  text
 remote.*.url                        text
 remote.*.pushurl                    text
 remote.*.proxy                      text
-remote.*.fetch                      text
-remote.*.push                       text
+remote.*.fetch                      fetch-refspec
+remote.*.push                       push-refspec
 remote.*.receivepack                text
 remote.*.uploadpack                 text
 remote.*.vcs                        text
@@ -683,7 +676,6 @@ sendemail.*.aliasFileType           alone warn word mutt mailrc pine elm gnus se
 sendemail.*.smtpBatchSize           alone warn int
 sendemail.*.smtpReloginDelay        alone warn int
 sendemail.identity                  alone text
-sendemail.smtpEncryption            alone text
 sendemail.smtpsslcertpath           alone text
 sendemail.aliasesFile               alone text
 sendemail.annotate                  bool
@@ -694,7 +686,7 @@ sendemail.chainReplyTo              bool
 sendemail.envelopeSender            alone text
 sendemail.from                      alone text
 sendemail.signedOffByCc             bool
-sendemail.signedOffCc               bool
+sendemail.signedOffCc               instead=sendemail.signedOffByCc bool
 sendemail.smtpPass                  alone text
 sendemail.suppressCc                alone word all cccmd cc author self sob body bodycc misc-by
 sendemail.suppressFrom              bool
@@ -710,7 +702,6 @@ sendemail.transferEncoding          alone word 7bit 8bit quoted-printable base64
 sendemail.validate                  bool
 sendemail.xmailer                   bool
 sendemail.forbidSendmailVariables   bool
-sendemail.*.smtpEncryption          alone text
 sendemail.*.smtpsslcertpath         alone text
 sendemail.*.aliasesFile             alone text
 sendemail.*.annotate                bool
@@ -721,7 +712,7 @@ sendemail.*.chainReplyTo            bool
 sendemail.*.envelopeSender          alone text
 sendemail.*.from                    alone text
 sendemail.*.signedOffByCc           bool
-sendemail.*.signedOffCc             bool
+sendemail.*.signedOffCc             instead=sendemail.NAME.signedOffByCc bool
 sendemail.*.smtpPass                alone text
 sendemail.*.suppressCc              alone word all cccmd cc author self sob body bodycc misc-by
 sendemail.*.suppressFrom            bool
@@ -806,7 +797,7 @@ user.name                           text
 user.email                          text
 user.signingKey                     text
 worktree.guessRemote                bool
-alias.*                             text
+alias.*                             command
 author.name                         text
 author.email                        text
 committer.name                      text
@@ -840,7 +831,7 @@ guitool.*.prompt                    alone text
 i18n.commitEncoding                 text
 i18n.logOutputEncoding              text
 init.templateDir                    alone path
-init.defaultBranch                  text
+init.defaultBranch                  branch
 mailmap.file                        path
 mailmap.blob                        text
 man.viewer                          text
@@ -854,10 +845,18 @@ ssh.variant                         warn word auto ssh plink putty tortoiseplink
 tar.umask                           int-or-word user
 url.*.insteadOf                     text
 url.*.pushInsteadOf                 text
-versionsort.prereleaseSuffix        text
+versionsort.prereleaseSuffix        instead=versionsort.suffix text
 versionsort.suffix                  text
 web.browser                         text
 # Keys that git-config(1) leaves to other pages, or reads without a word of them
+core.notesRef                       word refs/notes/*
+gpg.openpgp.program                 until=2.51 text
+gpg.x509.program                    until=2.51 text
+gpg.ssh.program                     until=2.51 text
+http.schannelCheckRevoke            bool-or-word best-effort
+http.*.schannelCheckRevoke          bool-or-word best-effort
+sendemail.smtpEncryption            alone warn word ssl tls none plain no off false
+sendemail.*.smtpEncryption          alone warn word ssl tls none plain no off false
 advice.pushNonFastForward           bool
 advice.resetQuiet                   bool
 advice.setUpstreamFailure           bool
@@ -869,6 +868,7 @@ extensions.partialClone             text
 extensions.noop                     text
 extensions.noop-v1                  text
 gui.GCWarning                       warn bool
+gitcvs.authdb                       alone text
 gitcvs.ext.*                        alone text
 gitcvs.pserver.*                    alone text
 sendemail.smtpAuth                  alone text
@@ -877,6 +877,7 @@ sendemail.composeEncoding           alone text
 sendemail.assume8bitEncoding        alone text
 submodule.*.path                    text
 submodule.*.shallow                 bool
+alias.*.command                     command
 alias.*.*                           text
 tar.*.command                       text
 tar.*.remote                        bool
@@ -890,7 +891,7 @@ trailer.*.where                     alone warn word-any-case after before end st
 trailer.*.ifexists                  alone warn word-any-case addIfDifferent addIfDifferentNeighbor add \
     replace doNothing
 trailer.*.ifmissing                 warn word-any-case doNothing add
-trailer.*.command                   text
+trailer.*.command                   instead=trailer.NAME.cmd text
 trailer.*.cmd                       text
 advice.graftFileDeprecated          bool
 advice.objectNameWarning            bool
@@ -906,11 +907,13 @@ diff.color                          bool-or-word-any-case always never auto
 diff.color.*                        color
 diff.suppress-blank-empty           bool
 fetch.uriProtocols                  alone text
+fetch.hideRefs                      text
 gc.launchctlPlistLockTimeoutMS      alone text
 gitweb.extraBranchRefs              alone text
 http.getanyfile                     bool
 http.receivepack                    bool
 http.uploadpack                     bool
+http.uploadarchive                  bool
 http.maxRequestBuffer               int 0 9223372036854775807
 mailinfo.quotedCR                   word nowarn warn strip
 instaweb.gitwebdir                  alone text
@@ -932,6 +935,223 @@ status.color.*                      color
 submodule.stickyRecursiveClone      bool
 uploadpack.allowSidebandAll         bool
 uploadpack.blobPackfileURI          text
+# The messages that git-fsck(1) of 2.55.0 lists
+fsck.badDate                        word error warn ignore
+fsck.badDateOverflow                word error warn ignore
+fsck.badEmail                       word error warn ignore
+fsck.badFilemode                    word error warn ignore
+fsck.badGpgsig                      word error warn ignore
+fsck.badHeadTarget                  word error warn ignore
+fsck.badHeaderContinuation          word error warn ignore
+fsck.badName                        word error warn ignore
+fsck.badPackedRefEntry              word error warn ignore
+fsck.badPackedRefHeader             word error warn ignore
+fsck.badRefContent                  word error warn ignore
+fsck.badRefFiletype                 word error warn ignore
+fsck.badRefName                     word error warn ignore
+fsck.badRefOid                      word error warn ignore
+fsck.badReferentName                word error warn ignore
+fsck.badReftableTableName           word error warn ignore
+fsck.badTagName                     word error warn ignore
+fsck.badTimezone                    word error warn ignore
+fsck.badTree                        word error warn ignore
+fsck.badType                        word error warn ignore
+fsck.duplicateEntries               word error warn ignore
+fsck.emptyName                      word error warn ignore
+fsck.emptyPackedRefsFile            word error warn ignore
+fsck.extraHeaderEntry               word error warn ignore
+fsck.fullPathname                   word error warn ignore
+fsck.gitattributesBlob              word error warn ignore
+fsck.gitattributesLarge             word error warn ignore
+fsck.gitattributesLineLength        word error warn ignore
+fsck.gitattributesMissing           word error warn ignore
+fsck.gitattributesSymlink           word error warn ignore
+fsck.gitignoreSymlink               word error warn ignore
+fsck.gitmodulesBlob                 word error warn ignore
+fsck.gitmodulesLarge                word error warn ignore
+fsck.gitmodulesMissing              word error warn ignore
+fsck.gitmodulesName                 word error warn ignore
+fsck.gitmodulesParse                word error warn ignore
+fsck.gitmodulesPath                 word error warn ignore
+fsck.gitmodulesSymlink              word error warn ignore
+fsck.gitmodulesUpdate               word error warn ignore
+fsck.gitmodulesUrl                  word error warn ignore
+fsck.hasDot                         word error warn ignore
+fsck.hasDotdot                      word error warn ignore
+fsck.hasDotgit                      word error warn ignore
+fsck.largePathname                  word error warn ignore
+fsck.mailmapSymlink                 word error warn ignore
+fsck.missingAuthor                  word error warn ignore
+fsck.missingCommitter               word error warn ignore
+fsck.missingEmail                   word error warn ignore
+fsck.missingNameBeforeEmail         word error warn ignore
+fsck.missingObject                  word error warn ignore
+fsck.missingSpaceBeforeDate         word error warn ignore
+fsck.missingSpaceBeforeEmail        word error warn ignore
+fsck.missingTag                     word error warn ignore
+fsck.missingTagEntry                word error warn ignore
+fsck.missingTaggerEntry             word error warn ignore
+fsck.missingTree                    word error warn ignore
+fsck.missingType                    word error warn ignore
+fsck.missingTypeEntry               word error warn ignore
+fsck.multipleAuthors                word error warn ignore
+fsck.nulInCommit                    word error warn ignore
+fsck.nulInHeader                    word error warn ignore
+fsck.packedRefEntryNotTerminated    word error warn ignore
+fsck.packedRefUnsorted              word error warn ignore
+fsck.refMissingNewline              word error warn ignore
+fsck.symlinkRef                     word error warn ignore
+fsck.symrefTargetIsNotARef          word error warn ignore
+fsck.trailingRefContent             word error warn ignore
+fsck.treeNotSorted                  word error warn ignore
+fsck.unknownType                    word error warn ignore
+fsck.unterminatedHeader             word error warn ignore
+fsck.zeroPaddedDate                 word error warn ignore
+fsck.zeroPaddedFilemode             word error warn ignore
+fetch.fsck.badDate                  word error warn ignore
+fetch.fsck.badDateOverflow          word error warn ignore
+fetch.fsck.badEmail                 word error warn ignore
+fetch.fsck.badFilemode              word error warn ignore
+fetch.fsck.badGpgsig                word error warn ignore
+fetch.fsck.badHeadTarget            word error warn ignore
+fetch.fsck.badHeaderContinuation    word error warn ignore
+fetch.fsck.badName                  word error warn ignore
+fetch.fsck.badPackedRefEntry        word error warn ignore
+fetch.fsck.badPackedRefHeader       word error warn ignore
+fetch.fsck.badRefContent            word error warn ignore
+fetch.fsck.badRefFiletype           word error warn ignore
+fetch.fsck.badRefName               word error warn ignore
+fetch.fsck.badRefOid                word error warn ignore
+fetch.fsck.badReferentName          word error warn ignore
+fetch.fsck.badReftableTableName     word error warn ignore
+fetch.fsck.badTagName               word error warn ignore
+fetch.fsck.badTimezone              word error warn ignore
+fetch.fsck.badTree                  word error warn ignore
+fetch.fsck.badType                  word error warn ignore
+fetch.fsck.duplicateEntries         word error warn ignore
+fetch.fsck.emptyName                word error warn ignore
+fetch.fsck.emptyPackedRefsFile      word error warn ignore
+fetch.fsck.extraHeaderEntry         word error warn ignore
+fetch.fsck.fullPathname             word error warn ignore
+fetch.fsck.gitattributesBlob        word error warn ignore
+fetch.fsck.gitattributesLarge       word error warn ignore
+fetch.fsck.gitattributesLineLength  word error warn ignore
+fetch.fsck.gitattributesMissing     word error warn ignore
+fetch.fsck.gitattributesSymlink     word error warn ignore
+fetch.fsck.gitignoreSymlink         word error warn ignore
+fetch.fsck.gitmodulesBlob           word error warn ignore
+fetch.fsck.gitmodulesLarge          word error warn ignore
+fetch.fsck.gitmodulesMissing        word error warn ignore
+fetch.fsck.gitmodulesName           word error warn ignore
+fetch.fsck.gitmodulesParse          word error warn ignore
+fetch.fsck.gitmodulesPath           word error warn ignore
+fetch.fsck.gitmodulesSymlink        word error warn ignore
+fetch.fsck.gitmodulesUpdate         word error warn ignore
+fetch.fsck.gitmodulesUrl            word error warn ignore
+fetch.fsck.hasDot                   word error warn ignore
+fetch.fsck.hasDotdot                word error warn ignore
+fetch.fsck.hasDotgit                word error warn ignore
+fetch.fsck.largePathname            word error warn ignore
+fetch.fsck.mailmapSymlink           word error warn ignore
+fetch.fsck.missingAuthor            word error warn ignore
+fetch.fsck.missingCommitter         word error warn ignore
+fetch.fsck.missingEmail             word error warn ignore
+fetch.fsck.missingNameBeforeEmail   word error warn ignore
+fetch.fsck.missingObject            word error warn ignore
+fetch.fsck.missingSpaceBeforeDate   word error warn ignore
+fetch.fsck.missingSpaceBeforeEmail  word error warn ignore
+fetch.fsck.missingTag               word error warn ignore
+fetch.fsck.missingTagEntry          word error warn ignore
+fetch.fsck.missingTaggerEntry       word error warn ignore
+fetch.fsck.missingTree              word error warn ignore
+fetch.fsck.missingType              word error warn ignore
+fetch.fsck.missingTypeEntry         word error warn ignore
+fetch.fsck.multipleAuthors          word error warn ignore
+fetch.fsck.nulInCommit              word error warn ignore
+fetch.fsck.nulInHeader              word error warn ignore
+fetch.fsck.packedRefEntryNotTerminated word error warn ignore
+fetch.fsck.packedRefUnsorted        word error warn ignore
+fetch.fsck.refMissingNewline        word error warn ignore
+fetch.fsck.symlinkRef               word error warn ignore
+fetch.fsck.symrefTargetIsNotARef    word error warn ignore
+fetch.fsck.trailingRefContent       word error warn ignore
+fetch.fsck.treeNotSorted            word error warn ignore
+fetch.fsck.unknownType              word error warn ignore
+fetch.fsck.unterminatedHeader       word error warn ignore
+fetch.fsck.zeroPaddedDate           word error warn ignore
+fetch.fsck.zeroPaddedFilemode       word error warn ignore
+receive.fsck.badDate                word error warn ignore
+receive.fsck.badDateOverflow        word error warn ignore
+receive.fsck.badEmail               word error warn ignore
+receive.fsck.badFilemode            word error warn ignore
+receive.fsck.badGpgsig              word error warn ignore
+receive.fsck.badHeadTarget          word error warn ignore
+receive.fsck.badHeaderContinuation  word error warn ignore
+receive.fsck.badName                word error warn ignore
+receive.fsck.badPackedRefEntry      word error warn ignore
+receive.fsck.badPackedRefHeader     word error warn ignore
+receive.fsck.badRefContent          word error warn ignore
+receive.fsck.badRefFiletype         word error warn ignore
+receive.fsck.badRefName             word error warn ignore
+receive.fsck.badRefOid              word error warn ignore
+receive.fsck.badReferentName        word error warn ignore
+receive.fsck.badReftableTableName   word error warn ignore
+receive.fsck.badTagName             word error warn ignore
+receive.fsck.badTimezone            word error warn ignore
+receive.fsck.badTree                word error warn ignore
+receive.fsck.badType                word error warn ignore
+receive.fsck.duplicateEntries       word error warn ignore
+receive.fsck.emptyName              word error warn ignore
+receive.fsck.emptyPackedRefsFile    word error warn ignore
+receive.fsck.extraHeaderEntry       word error warn ignore
+receive.fsck.fullPathname           word error warn ignore
+receive.fsck.gitattributesBlob      word error warn ignore
+receive.fsck.gitattributesLarge     word error warn ignore
+receive.fsck.gitattributesLineLength word error warn ignore
+receive.fsck.gitattributesMissing   word error warn ignore
+receive.fsck.gitattributesSymlink   word error warn ignore
+receive.fsck.gitignoreSymlink       word error warn ignore
+receive.fsck.gitmodulesBlob         word error warn ignore
+receive.fsck.gitmodulesLarge        word error warn ignore
+receive.fsck.gitmodulesMissing      word error warn ignore
+receive.fsck.gitmodulesName         word error warn ignore
+receive.fsck.gitmodulesParse        word error warn ignore
+receive.fsck.gitmodulesPath         word error warn ignore
+receive.fsck.gitmodulesSymlink      word error warn ignore
+receive.fsck.gitmodulesUpdate       word error warn ignore
+receive.fsck.gitmodulesUrl          word error warn ignore
+receive.fsck.hasDot                 word error warn ignore
+receive.fsck.hasDotdot              word error warn ignore
+receive.fsck.hasDotgit              word error warn ignore
+receive.fsck.largePathname          word error warn ignore
+receive.fsck.mailmapSymlink         word error warn ignore
+receive.fsck.missingAuthor          word error warn ignore
+receive.fsck.missingCommitter       word error warn ignore
+receive.fsck.missingEmail           word error warn ignore
+receive.fsck.missingNameBeforeEmail word error warn ignore
+receive.fsck.missingObject          word error warn ignore
+receive.fsck.missingSpaceBeforeDate word error warn ignore
+receive.fsck.missingSpaceBeforeEmail word error warn ignore
+receive.fsck.missingTag             word error warn ignore
+receive.fsck.missingTagEntry        word error warn ignore
+receive.fsck.missingTaggerEntry     word error warn ignore
+receive.fsck.missingTree            word error warn ignore
+receive.fsck.missingType            word error warn ignore
+receive.fsck.missingTypeEntry       word error warn ignore
+receive.fsck.multipleAuthors        word error warn ignore
+receive.fsck.nulInCommit            word error warn ignore
+receive.fsck.nulInHeader            word error warn ignore
+receive.fsck.packedRefEntryNotTerminated word error warn ignore
+receive.fsck.packedRefUnsorted      word error warn ignore
+receive.fsck.refMissingNewline      word error warn ignore
+receive.fsck.symlinkRef             word error warn ignore
+receive.fsck.symrefTargetIsNotARef  word error warn ignore
+receive.fsck.trailingRefContent     word error warn ignore
+receive.fsck.treeNotSorted          word error warn ignore
+receive.fsck.unknownType            word error warn ignore
+receive.fsck.unterminatedHeader     word error warn ignore
+receive.fsck.zeroPaddedDate         word error warn ignore
+receive.fsck.zeroPaddedFilemode     word error warn ignore
 # Settings that Gits after 2.39 read, or read in another way: the version of each is that of its release notes
 bundle.heuristic                    since=2.40 alone text
 fetch.bundleCreationToken           since=2.40 text
@@ -992,6 +1212,7 @@ bitmapPseudoMerge.*.stableThreshold since=2.46 date-any-case now never yesterday
     nov* dec*
 bitmapPseudoMerge.*.stableSize      since=2.46 int 1 2147483647
 commitGraph.changedPathsVersion     since=2.46 int -1 2
+commitGraph.readChangedPaths        since=2.46 instead=commitGraph.changedPathsVersion bool
 diff.trustExitCode                  since=2.46 bool
 diff.*.trustExitCode                since=2.46 bool
 mergetool.gvimdiff.layout           since=2.46 alone text
@@ -1009,7 +1230,7 @@ remote.*.serverOption               since=2.47 text
 sendemail.mailmap                   since=2.47 bool
 sendemail.mailmap.file              since=2.47 text
 sendemail.mailmap.blob              since=2.47 text
-credential.interactive              since=2.47 needs-value warn bool-or-word never
+credential.interactive              since=2.47 needs-value warn bool-or-word never auto always
 reftable.lockTimeout                since=2.47 int -1 9223372036854775807
 core.checkStat                      since=2.47 word-any-case default minimal
 core.abbrev                         since=2.47 needs-value bool-or-word-any-case auto
@@ -1041,8 +1262,10 @@ sendemail.smtpSSLClientKey          since=2.51 alone text
 pull.autoStash                      since=2.51 bool
 merge.stat                          since=2.51 warn bool-or-word diffstat compact
 merge.diffstat                      since=2.51 warn bool-or-word diffstat compact
+gpg.openpgp.program                 since=2.51 path
+gpg.x509.program                    since=2.51 path
+gpg.ssh.program                     since=2.51 path
 gpg.program                         since=2.51 path
-gpg.*.program                       since=2.51 path
 commitGraph.changedPaths            since=2.52 bool
 maintenance.geometric-repack.auto   since=2.52 int
 maintenance.geometric-repack.splitFactor since=2.52 int
@@ -1085,6 +1308,9 @@ sideband.allowControlCharacters     since=2.55 alone warn words color cursor era
 sideband.*.allowControlCharacters   since=2.55 alone warn words color cursor erase true false yes no on off
 # Settings of other tools in these sections, and of Gits before 2.39
 i18n.filesEncoding                  text
+credential.validate                 alone text
+credential.*.validate               alone text
+user.signature                      text
 core.fscache                        bool
 core.fsyncRefFiles                  alone text
 core.longpaths                      bool
@@ -1111,4 +1337,13 @@ status.deserializePath              alone text
 status.deserializeWait              alone text
 # remotes, last: its section is nearly that of remote
 remotes.*                           text
+";
+
+/// The text of the rows for files `.gitmodules`, which precede the others there: Git reads them by rules of their own,
+/// since anybody may have written them.
+pub const MODULES: &str = "\
+submodule.*.update                  word checkout rebase merge none
+submodule.*.ignore                  needs-value warn word all dirty untracked none
+submodule.*.path                    warn no-option
+submodule.*.url                     warn no-option
 ";

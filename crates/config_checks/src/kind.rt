@@ -7,6 +7,7 @@ ghost use Rattle.config_checks.specs.Kinds.{without_front, sort_name, EndsName, 
 ghost use Rattle.config_checks.specs.Kinds.{takes_booleans, takes_true};
 
 use crate::key::is_same_word;
+use crate::shape::Shape;
 use gix_config_value::integer::Amount;
 
 /// What a text has to be, given the words of a list.
@@ -83,6 +84,8 @@ pub enum SettingKind<'t> {
     Color,
     /// A path. If it begins with a home directory, that has to be there.
     Path,
+    /// A text that Git reads by rules of its own.
+    Shaped(Shape),
     /// A text that is valid according to a list of words.
     Word(WordList<'t>),
 }

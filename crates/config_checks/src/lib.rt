@@ -19,6 +19,7 @@ pub mod paths;
 pub mod reason;
 pub mod row;
 pub mod setting;
+pub mod shape;
 pub mod suggestion;
 pub mod table;
 pub mod version;

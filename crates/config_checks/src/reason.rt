@@ -23,6 +23,7 @@ use crate::kind::{Form, SettingKind, WordList, pattern_front};
 use crate::options::Options;
 use crate::paths::{KnownUsers, is_homeless};
 use crate::row::Row;
+use crate::shape::{Shape, has_shape};
 use crate::version::Version;
 use bstr::BStr;
 use config_text::value::same_as;
@@ -63,6 +64,8 @@ pub enum Reason<'r, 't> {
     },
     /// Its value is a path that begins with a home directory which is not there.
     NoHome,
+    /// Its value has not this shape.
+    Misshapen(Shape),
     /// Its value is right by its kind, but does not mean this, which its row asks for.
     IsNot(&'t [u8]),
     /// Its row is for Git from this version on, which is newer.
@@ -278,6 +281,11 @@ fn text_reason<'r, 't>(
         SettingKind::Int { low, high } => Ok(number_reason(text, *low, *high)),
         SettingKind::Color => Ok(refusal_by::<Color>(text)),
         SettingKind::Path => Ok(path_reason(users, text)),
+        SettingKind::Shaped(shape) => match has_shape(alloc, *shape, text) {
+            Ok(true) => Ok(None),
+            Ok(false) => Ok(Some(Reason::Misshapen(*shape))),
+            Err(error) => Err(error),
+        },
         SettingKind::Word(list) => word_reason(alloc, list, text),
     }
 }
@@ -336,7 +344,7 @@ fn mean_same(kind: &SettingKind<'_>, text: &[u8], other: &[u8]) -> bool
     ensures { IsTrue result ↔ MeanSame kind.now text.now other.now }
 {
     match kind {
-        SettingKind::Text | SettingKind::Path => text == other,
+        SettingKind::Text | SettingKind::Path | SettingKind::Shaped(_) => text == other,
         SettingKind::Bool => have_same_value::<Boolean>(text, other),
         SettingKind::Int { .. } => have_same_value::<Amount>(text, other),
         SettingKind::BoolOrInt => are_same_bool_or_int(text, other),
@@ -460,7 +468,7 @@ fn respelled<'r, 't>(kind: &SettingKind<'t>, text: &[u8]) -> Option<Reason<'r, '
     ensures { HasSpelling kind.now (Some text.now) result }
 {
     match kind {
-        SettingKind::Text | SettingKind::Path => None,
+        SettingKind::Text | SettingKind::Path | SettingKind::Shaped(_) => None,
         SettingKind::Bool => respelled_boolean(text),
         SettingKind::Int { .. } => respelled_by(Kind::Integer, text),
         SettingKind::BoolOrInt => respelled_boolean_or_number(text),

@@ -12,13 +12,14 @@ ghost use Rattle.config_checks.specs.Suggestions.{IsOwn, IsTopic, IsMoved, IsMov
 ghost use Rattle.config_checks.specs.Suggestions.{IsNowhere, IsElsewhere, HasSlots, IsForeign, Suggests};
 ghost use Rattle.config_checks.specs.Suggestions.{nearest_of, HasSection, IsPassed, IsUnknownKey, dotted};
 ghost use Rattle.config_checks.specs.Suggestions.{subsection_shown, after_shown, key_shown, asked};
-ghost use Rattle.config_checks.specs.Suggestions.{unknown_text};
+ghost use Rattle.config_checks.specs.Suggestions.{unknown_severity, unknown_text};
 ghost use Rattle.config_checks.specs.Rows.{IsUnknown, rows_of};
 ghost use Rattle.config_checks.specs.Reading.Steps.{IsFew, IsRelation, AreRelations, IsSection};
 
 use crate::edits::{LONG, MOST_EDITS, few_edits, lacks_run};
 use crate::finding::push_shown;
 use crate::key::{ANY, covers_name, covers_subsection, is_same_word};
+use crate::reason::Severity;
 use crate::row::{Row, Run};
 use config_file::key::Key;
 use std::alloc::{AllocError, Global};
@@ -333,6 +334,18 @@ fn is_shared(section: &[u8]) -> bool
         || is_same_word(b"credential", section)
         || is_same_word(b"gui", section)
         || is_same_word(b"user", section)
+}
+
+/// How bad it is that no row has this key, as Git lists it: Git stops at a message that git-fsck(1) does not have, and
+/// at a slot of colors that git-grep(1) does not have. It ignores all other keys that it does not know.
+pub(crate) fn unknown_severity(key: &[u8]) -> Severity
+    ensures { result ≡ unknown_severity key.now }
+{
+    if key.starts_with(b"fsck.") || key.starts_with(b"color.grep.") {
+        Severity::Error
+    } else {
+        Severity::Warning
+    }
 }
 
 /// Whether a row has this section, ignoring ASCII case.

@@ -14,6 +14,7 @@ ghost use Rattle.config_checks.specs.Rows.{AddsRow, AddsRows, IsBadLine};
 use crate::kind::{Form, SettingKind, WordList, without_front};
 use crate::reason::{GREATEST_INT, LEAST_INT, judge};
 use crate::row::Row;
+use crate::shape::Shape;
 use crate::version::Version;
 use bstr::BStr;
 use config_file::key::Key;
@@ -222,6 +223,16 @@ fn plain_kind(name: &[u8]) -> Option<SettingKind<'static>>
         Some(SettingKind::Color)
     } else if name == b"path".as_slice() {
         Some(SettingKind::Path)
+    } else if name == b"fetch-refspec".as_slice() {
+        Some(SettingKind::Shaped(Shape::FetchRefspec))
+    } else if name == b"push-refspec".as_slice() {
+        Some(SettingKind::Shaped(Shape::PushRefspec))
+    } else if name == b"branch".as_slice() {
+        Some(SettingKind::Shaped(Shape::Branch))
+    } else if name == b"command".as_slice() {
+        Some(SettingKind::Shaped(Shape::Command))
+    } else if name == b"no-option".as_slice() {
+        Some(SettingKind::Shaped(Shape::NoOption))
     } else {
         None
     }

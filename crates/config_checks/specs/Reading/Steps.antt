@@ -12,14 +12,13 @@ use Rattle.config_checks.specs.declared.setting.Setting.{Setting}
 use Rattle.config_checks.specs.declared.check.Counts.{Counts}
 use Rattle.config_checks.specs.Findings.{Finding}
 use Rattle.config_checks.specs.declared.check.Said.{Said}
-use Rattle.config_checks.specs.declared.reason.Severity.TheVariants.{Warning}
 use Rattle.config_checks.specs.declared.suggestion.UnknownKey.{UnknownKey}
 use Rattle.config_checks.specs.declared.suggestion.Relation.{Relation}
 use Rattle.config_checks.specs.declared.suggestion.Relation.TheVariants as relations
 use Rattle.config_checks.specs.declared.suggestion.SectionFacts.{SectionFacts}
 use Rattle.config_checks.specs.declared.row.Run.{Run}
 use Rattle.config_checks.specs.Rows.{rows_of}
-use Rattle.config_checks.specs.Suggestions.{IsPassed, IsUnknownKey, unknown_text, SectionEdits, HasSection}
+use Rattle.config_checks.specs.Suggestions.{IsPassed, IsUnknownKey, unknown_severity, unknown_text, SectionEdits, HasSection}
 use Rattle.config_checks.specs.Report.{ReportsSetting, Report, EndsReport, HasSettings, Receives, key_meant}
 
 -- the texts do not begin with the same byte
@@ -81,7 +80,7 @@ findings_as before setting (Some text) meant = record {
   line = setting.line;
   entry = Some before;
   code = kind.UnknownKey;
-  severity = Warning;
+  severity = unknown_severity setting.key.items;
   key = Some setting.key.items;
   row = None;
   value = None;

@@ -12,6 +12,7 @@ use crate::outcome::Outcome;
 use crate::paths::KnownUsers;
 use crate::reason::{Reason, Severity};
 use crate::row::Run;
+use crate::shape::Shape;
 use crate::suggestion::UnknownKey;
 use crate::table::{BadRow, RowFault};
 use crate::version::Version;
@@ -35,6 +36,7 @@ pub fn codes()
 /// A clone of a finding or of a part of it is the same, and never fails.
 pub fn findings()
     ensures severities { IsCopied ⟦<Severity as Clone>⟧.is_clone ⟦<Severity as Clone>⟧.is_infallible }
+    ensures shapes { IsCopied ⟦<Shape as Clone>⟧.is_clone ⟦<Shape as Clone>⟧.is_infallible }
     ensures reasons { IsCopied ⟦<Reason<'static, 'static> as Clone>⟧.is_clone
         ⟦<Reason<'static, 'static> as Clone>⟧.is_infallible }
     ensures unknown_keys { IsCopied ⟦<UnknownKey<'static> as Clone>⟧.is_clone

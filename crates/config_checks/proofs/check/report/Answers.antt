@@ -17,7 +17,7 @@ returns-in_default-clause-ok g c =
     let said = rw (c.in-Ok.ensures.0 ∙ c.deref-in_default.ensures.value) at c.in-Ok.ensures.1.0 in
     let reported = c.in_ok-give_said.ensures.reported in
     elim c.if-branch.branch [
-      | then-branch w ↦ rw w.counts-is (rw w.with-counts.ensures (
+      | then-branch w ↦ rw w.counts-is (rw (w.with-counts.ensures, c.unknown_severity-severity.ensures, c.deref-in_default-2.ensures.value) (
         said_findings s.entries setting c.in-Ok.said,
         said_something rows c.args.options.now setting s text meant said (sym reported ∙ w.if-branch.true),
         c.in_ok-give_said.ensures.ok,

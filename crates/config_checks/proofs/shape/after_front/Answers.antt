@@ -1,0 +1,9 @@
+use Rattle.std.proofs.Common.{Some, None, refl}
+use Rattle.std.proofs.lemmas.Bool.Decides.{Decides-eqb}
+use Rattle.std.proofs.lemmas.Slice.Eq.{strip_prefix_is}
+use Rattle.config_checks.proofs.ShapeLemmas.{lacks_front}
+use Rattle.config_checks.proofs.shape.after_front.Goals as goal
+
+pub returns : goal.returns
+returns c = lacks_front c.args.text.now c.args.front.now c.strip_prefix.result
+    (strip_prefix_is Decides-eqb c.args.text.now c.args.front.now c.strip_prefix.result c.strip_prefix.ensures.cases)
