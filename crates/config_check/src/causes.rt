@@ -36,6 +36,26 @@ const HEADER: &str = "the header has no ]";
 
 const SUBSECTION: &str = "a subsection stands in quotes";
 
+/// Characters that no editor shows, and what is said of one that Git does not take for white space.
+const UNSEEN: &[(&[u8], &str)] = &[
+    (
+        b"\xc2\xa0",
+        "a no-break space, U+00A0, which Git does not take for a space",
+    ),
+    (
+        b"\xe2\x80\x8b",
+        "a space without width, U+200B, which no key has",
+    ),
+    (
+        b"\xe2\x80\xaf",
+        "a narrow no-break space, U+202F, which Git does not take for a space",
+    ),
+    (
+        b"\xef\xbb\xbf",
+        "a byte order mark, U+FEFF, which only the start of a file may have",
+    ),
+];
+
 /// The marks that a merge leaves.
 const MERGES: &[&[u8]] = &[b"<<<<<<<", b"=======", b">>>>>>>", b"|||||||"];
 
@@ -146,6 +166,27 @@ fn is_opened(read: Read) -> bool {
     matches!(read, Read::Quoted | Read::Subsection)
 }
 
+/// The cause for this reason at a byte: where a quote or an escape starts, or a character that is not seen, if there
+/// is one.
+fn stopped(why: &'static str, text: &[u8], at: usize, start: usize) -> Cause {
+    if why == QUOTE || why == ESCAPE {
+        return Cause {
+            why: Some(why),
+            at: start,
+        };
+    }
+    let rest = behind(text, at);
+    for (bytes, told) in UNSEEN {
+        if rest.starts_with(bytes) {
+            return Cause {
+                why: Some(told),
+                at,
+            };
+        }
+    }
+    Cause { why: Some(why), at }
+}
+
 /// Why Git cannot read the item after these bytes of a file.
 fn cause_behind(text: &[u8], passed: usize) -> Cause {
     let mut read = Read::Nothing;
@@ -157,14 +198,7 @@ fn cause_behind(text: &[u8], passed: usize) -> Cause {
         }
         let next = match after(read, behind(text, at), *byte) {
             Ok(next) => next,
-            Err(why) => {
-                let at = if why == QUOTE || why == ESCAPE {
-                    start
-                } else {
-                    at
-                };
-                return Cause { why: Some(why), at };
-            }
+            Err(why) => return stopped(why, text, at, start),
         };
         let was_open = is_opened(read);
         if (is_opened(next) && !was_open)

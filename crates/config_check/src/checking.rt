@@ -70,6 +70,13 @@ const MISSING_SETTING: Wrong<'static> = Wrong {
     why: "no file has this setting, which the row asks for",
 };
 
+/// Git opens the file that includes it by its full name, and so its folder.
+const FOLDER: Wrong<'static> = Wrong {
+    code: Code::IncludePath,
+    severity: Severity::Error,
+    why: "it is no regular file",
+};
+
 const MISSING: Wrong<'static> = Wrong {
     code: Code::MissingFile,
     severity: Severity::Note,
@@ -559,11 +566,17 @@ impl<'c, 't> Checking<'c, 't> {
             return Ok(());
         }
         match self.disk.read(self.rt.alloc(), &name)? {
+            Content::Missing if name.is_empty() => return self.report(place, entry, FOLDER),
             Content::Missing => return self.report(place, entry, MISSING),
             Content::Unreadable(why) => {
+                let is_opened = str::from_utf8(&name).is_ok();
                 let wrong = Wrong {
                     code: Code::IncludePath,
-                    severity: Severity::Error,
+                    severity: if is_opened {
+                        Severity::Error
+                    } else {
+                        Severity::Warning
+                    },
                     why,
                 };
                 self.report(place, entry, wrong)?;

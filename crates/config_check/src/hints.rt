@@ -127,13 +127,34 @@ fn number(alloc: Global, text: &[u8]) -> Result<Option<Meant>, AllocError> {
         }
     }
     if plain.as_slice() == text || Amount::try_read(&plain).is_err() {
-        return Ok(None);
+        return number_before_unit(alloc, text);
     }
     // a comma may also be that of a fraction
     let is_sure = !text.contains(&b',');
     Ok(Some(Meant {
         text: plain,
         is_sure,
+    }))
+}
+
+/// What people write behind a number whose unit the setting decides.
+const UNITS: &[&[u8]] = &[
+    b"s", b"sec", b"secs", b"second", b"seconds", b"ms", b"b", b"byte", b"bytes", b"commit",
+    b"commits", b"%",
+];
+
+/// The number before a unit, which is a guess, since the setting may count in another one.
+fn number_before_unit(alloc: Global, text: &[u8]) -> Result<Option<Meant>, AllocError> {
+    let count = text.iter().take_while(|byte| byte.is_ascii_digit()).count();
+    let Some((number, unit)) = text.split_at_checked(count) else {
+        return Ok(None);
+    };
+    if number.is_empty() || !has(UNITS, unit.trim_ascii()) || Amount::try_read(number).is_err() {
+        return Ok(None);
+    }
+    Ok(Some(Meant {
+        text: number.to_vec(alloc)?,
+        is_sure: false,
     }))
 }
 

@@ -242,10 +242,13 @@ def boolean_hint(text):
 
 
 def number_hint(text):
-    """The number without blanks, `_` and `,`, and without the bytes of a unit: 500MB is 500m."""
+    """The number without blanks, `_` and `,`, and without the bytes of a unit: 500MB is 500m. Or the digits before a unit."""
     plain = re.sub(rb"([kmg])i?b$", rb"\1", re.sub(rb"[ \t_,]", b"", text).lower())
     found = integer(plain) if b"\n" not in plain else None
-    return b"" if plain == text or found is None or product(*found) not in BITS_64 else asked(plain)
+    if plain == text or found is None or product(*found) not in BITS_64:
+        before = re.fullmatch(rb"([0-9]+)[ \t\n\r\f]*(s|secs?|seconds?|ms|b|bytes?|commits?|%)[ \t\n\r\f]*", text, re.IGNORECASE)
+        return asked(before[1]) if before and integer(before[1]) is not None and product(*integer(before[1])) in BITS_64 else b""
+    return asked(plain)
 
 
 def color_hint(text):

@@ -22,6 +22,8 @@ UNREAD = [
     (b"[core\n\tbare = no\n", 1, 6, "the header has no ]"),
     (b"[remote origin]\n\turl = x\n", 1, 9, "a subsection stands in quotes"),
     (b"[remote \"origin]\n\turl = x\n", 1, 9, "a quote is open"),
+    (b"[core]\n\teditor\xc2\xa0= vi\n", 2, 8, "a no-break space, U+00A0, which Git does not take for a space"),
+    (b"[core]\n\t\xe2\x80\x8beditor = vi\n", 2, 2, "a space without width, U+200B, which no key has"),
     (b"[my_tool]\n\tx = y\n", 1, 4, "a section has only letters, digits, - and ."),
     ("[core]\n\tbare = no\n".encode("utf-16"), 1, 1, "the file is UTF-16, and Git reads UTF-8"),
 ]
