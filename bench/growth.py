@@ -106,6 +106,18 @@ class Edit(Given):
         pathlib.Path(self.folder, "config").write_text(self.text, "ascii")
 
 
+class Mended(Given):
+    """A file with this many misspelled keys, of different branches, which `config_check --fix` renames."""
+
+    def __init__(self, count):
+        self.made, self.file = tempfile.TemporaryDirectory(), tempfile.TemporaryFile()
+        self.words, self.folder = ["-q", "--fix", "config"], self.made.name
+        self.text = "".join(f'[branch "b{number}"]\n\tremot = x\n' for number in range(count))
+
+    def begin(self):
+        pathlib.Path(self.folder, "config").write_text(self.text, "ascii")
+
+
 class Parameters(Given):
     """The settings of a command in one variable, in which the system lets there be 128 KiB."""
 
@@ -167,6 +179,7 @@ CHECKED = [
     ("unknown keys of a section near one of Git", 500_000, functools.partial(Unknown, b"[coer]\n")),
     ("unknown keys of `core`", 100_000, functools.partial(Unknown, b"[core]\n")),
     ("unknown slots of `color.status`", 100_000, functools.partial(Unknown, b'[color "status"]\n')),
+    ("misspelled keys, all renamed by `--fix`", 1_000, Mended),
 ]
 
 
