@@ -788,7 +788,12 @@ impl<'c, 't> Checking<'c, 't> {
         }
         self.report_missing()?;
         self.end()?;
-        Ok(self.reported().status(self.asked.fails_on))
+        let status = self.reported().status(self.asked.fails_on);
+        Ok(if status == 1 && self.asked.passes {
+            0
+        } else {
+            status
+        })
     }
 }
 

@@ -1,12 +1,12 @@
 //! The command line: what a run is asked for.
 
-use crate::failure::Failure;
+use crate::failure::{Failure, tell};
 use config_checks::code::{Code, EXPLAINED};
 use config_checks::git::NEWEST;
 use config_checks::reason::Severity;
 use config_checks::version::Version;
 use config_file::key::Key;
-use config_host::options::{About, GENERAL, Given, Options, Row, Tables, Takes};
+use config_host::options::{About, Ends, GENERAL, Given, Options, Row, Tables, Takes, read};
 use config_host::terminal::{When, depth};
 use std::alloc::{AllocError, Global};
 use std::io::IsTerminal;
@@ -83,6 +83,12 @@ const ONCE: &[Row] = &[
         "Write what --fix would change as a unified diff, and change nothing",
     ),
     (
+        "exit-zero",
+        "",
+        Takes::Ever,
+        "End with 0 whatever is found, and with 2 still after a failure",
+    ),
+    (
         "statistics",
         "",
         Takes::Ever,
@@ -109,8 +115,8 @@ const ONCE: &[Row] = &[
     (
         "explain",
         "",
-        Takes::Value("CODE", &[]),
-        "Say what a code means, or list all of them if CODE is all, and check nothing",
+        Takes::Value("CODE|KEY", &[]),
+        "Say what a code means or what a key takes, or list all codes by all, and check nothing",
     ),
     (
         "color",
@@ -190,6 +196,8 @@ pub(crate) struct Asked<'r, 'm> {
     /// Whether changes are made that are not safe, too.
     pub(crate) guesses: bool,
     pub(crate) fails_on: Severity,
+    /// Whether what is found does not count for the exit status.
+    pub(crate) passes: bool,
     pub(crate) is_quiet: bool,
     pub(crate) follows: bool,
     pub(crate) root: Option<&'m str>,
@@ -197,6 +205,48 @@ pub(crate) struct Asked<'r, 'm> {
     pub(crate) ignored: &'r [Ignored<'m>],
     /// The names of the files: none for those that Git reads here.
     pub(crate) files: &'r [&'m str],
+}
+
+/// The options that the file of rows at the top of a repository may have.
+const IN_FILES: &[&str] = &[
+    "git",
+    "ignore",
+    "fail-on",
+    "canonical",
+    "no-includes",
+    "exit-zero",
+];
+
+/// These options, with those of the words of a file before them, so that these win.
+pub(crate) fn with_those_of<'m>(
+    alloc: Global,
+    words: &[&'m str],
+    options: &Options<'m>,
+) -> Result<Options<'m>, Failure<'m>> {
+    let mut all = match read(alloc, TABLES, words, Ends::Nowhere)? {
+        Ok(all) => all,
+        Err(misuse) => return Err(Failure::Misuse(misuse)),
+    };
+    check_once(&all.given)?;
+    for one in &all.given {
+        if !IN_FILES.contains(&one.name) {
+            return Err(Failure::Argument("not an option of .gitconfig-check: --", one.name, ""));
+        }
+    }
+    if let Some(word) = all.words.first() {
+        return Err(Failure::Argument("not an option of .gitconfig-check: ", word, ""));
+    }
+    for one in &options.given {
+        if all.given.push(*one).is_err() {
+            return Err(Failure::Memory(AllocError));
+        }
+    }
+    for word in &options.words {
+        if all.words.push(*word).is_err() {
+            return Err(Failure::Memory(AllocError));
+        }
+    }
+    Ok(all)
 }
 
 /// Whether an option may be given several times.
@@ -251,9 +301,14 @@ fn fails_on(options: &Options<'_>) -> Severity {
 }
 
 /// The version of `--git`.
-fn git_of<'m>(options: &Options<'m>) -> Result<Version, Failure<'m>> {
+pub(crate) fn git_of<'m>(rt: &HostRuntime, options: &Options<'m>) -> Result<Version, Failure<'m>> {
     match options.last("git") {
         Some(text) => match Version::read(text.as_bytes()) {
+            Some(version) if NEWEST.is_before(version) => {
+                let said = "the built-in rows do not know what is new in Git after 2.55";
+                tell(rt, format!(in rt.alloc(); "config_check: {said}: {text}"));
+                Ok(version)
+            }
             Some(version) => Ok(version),
             None => Err(Failure::Argument("not a version of Git, as 2.39 is: ", text, "")),
         },
@@ -346,7 +401,7 @@ impl<'r, 'm: 'r> Asked<'r, 'm> {
         ignored: &'r [Ignored<'m>],
     ) -> Result<Asked<'r, 'm>, Failure<'m>> {
         Ok(Asked {
-            git: git_of(options)?,
+            git: git_of(rt, options)?,
             canonical: options.has("canonical"),
             style: Style {
                 format: format_of(options),
@@ -356,6 +411,7 @@ impl<'r, 'm: 'r> Asked<'r, 'm> {
             output: output_of(options)?,
             guesses: guesses_of(options)?,
             fails_on: fails_on(options),
+            passes: options.has("exit-zero"),
             is_quiet: options.has("quiet"),
             follows: !options.has("no-includes"),
             root: options.last("root"),

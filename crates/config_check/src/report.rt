@@ -259,7 +259,8 @@ impl<W: Write> Lines<'_, '_, '_, '_, '_, '_, W> {
 
     /// Whether a finding is left out, since it is ignored or in the baseline. It is counted as such.
     fn is_left_out(&mut self, finding: &Finding<'_>, equal: u64) -> Result<bool, AllocError> {
-        let is_ignored = is_ignored(self.report.ignored, finding);
+        let is_ignored = is_ignored(self.report.ignored, finding)
+            || self.source.leaves_out(finding.code);
         let is_left_out = match &self.report.baseline {
             Some(baseline) if !is_ignored => is_known(self.alloc, baseline, equal, finding)?,
             _ => is_ignored,

@@ -239,6 +239,54 @@ fn shared_text<'t>(
     }
 }
 
+/// What the file of rows at the top of the repository has.
+#[derive(Drop)]
+pub(crate) struct Shared<'t> {
+    /// The words of the lines that begin with `--`, which are options.
+    pub(crate) words: Vec<&'t str>,
+    /// The other lines, each at its place.
+    pub(crate) rows: &'t [u8],
+}
+
+/// What the file of rows at the top of the repository of the current folder has, if it is there.
+pub(crate) fn shared<'t>(
+    rt: &'t HostRuntime,
+    texts: &'t Bump,
+) -> Result<Option<Shared<'t>>, Failure<'static>> {
+    let alloc = rt.alloc();
+    let Some(text) = shared_text(rt, texts)? else {
+        return Ok(None);
+    };
+    let mut words = Vec::new(alloc);
+    let mut rows = Text::new(alloc);
+    for line in text
+        .strip_prefix(MARK)
+        .unwrap_or(text)
+        .split_inclusive(|byte| *byte == b'\n')
+    {
+        let Some(line) = option_line(line) else {
+            rows.put(line);
+            continue;
+        };
+        rows.put_byte(b'\n');
+        for word in line.split_ascii_whitespace() {
+            if words.push(word).is_err() {
+                return Err(Failure::Memory(AllocError));
+            }
+        }
+    }
+    let rows = Disk::new(rt, texts).kept(&rows.end()?)?;
+    Ok(Some(Shared { words, rows }))
+}
+
+/// The text of a line that begins with `--`.
+fn option_line(line: &[u8]) -> Option<&str> {
+    match str::from_utf8(line) {
+        Ok(text) if text.starts_with("--") => Some(text),
+        _ => None,
+    }
+}
+
 /// The rows of the files of `--settings`, of that of the repository, if it is there, and the built-in ones behind
 /// them. The texts are kept.
 pub(crate) fn rows_of<'m, 't>(
@@ -246,6 +294,7 @@ pub(crate) fn rows_of<'m, 't>(
     texts: &'t Bump,
     git: Version,
     files: &[&'m str],
+    shared: Option<&'t [u8]>,
 ) -> Result<Rows<'m, 't>, Failure<'m>> {
     let alloc = rt.alloc();
     let mut all = Rows {
@@ -257,7 +306,7 @@ pub(crate) fn rows_of<'m, 't>(
         let text = Disk::new(rt, texts).kept(&bytes)?;
         add_text(alloc, file, text, git, &mut all)?;
     }
-    if let Some(text) = shared_text(rt, texts)? {
+    if let Some(text) = shared {
         add_text(alloc, SHARED, text, git, &mut all)?;
     }
     if all.rows.is_empty() {

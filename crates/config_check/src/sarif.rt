@@ -3,7 +3,7 @@
 use crate::options::VERSION;
 use crate::source::Spot;
 use crate::text::{put, put_message};
-use config_checks::code::{EXPLAINED, Explained};
+use config_checks::code::{Code, EXPLAINED, Explained};
 use config_checks::finding::Finding;
 use config_host::text::Text;
 use percent_encoding::{AsciiSet, NON_ALPHANUMERIC, percent_encode};
@@ -80,6 +80,14 @@ fn location_of(alloc: Global, finding: &Finding<'_>, spot: &Spot<'_>) -> Result<
     } })
 }
 
+/// The place of a code among the rules.
+fn index_of(code: Code) -> usize {
+    EXPLAINED
+        .iter()
+        .position(|row| row.code == code)
+        .unwrap_or(0)
+}
+
 /// The result of a finding with this fingerprint.
 pub(crate) fn result_of(
     alloc: Global,
@@ -91,6 +99,7 @@ pub(crate) fn result_of(
     let location = location_of(alloc, finding, spot)?;
     let result = json!(in alloc; {
         "ruleId": finding.code.name(),
+        "ruleIndex": index_of(finding.code),
         "level": finding.severity.name(),
         "message": message,
         "locations": [location],

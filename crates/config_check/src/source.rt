@@ -3,6 +3,7 @@
 use crate::causes::Cause;
 use crate::text::width;
 use bstr::ByteSlice;
+use config_checks::code::Code;
 use config_checks::finding::Finding;
 use config_file::key::Key;
 
@@ -16,6 +17,32 @@ pub(crate) struct Source<'t> {
     pub(crate) text: &'t [u8],
     number: usize,
     rest: &'t [u8],
+    /// The line before the one that was looked at last, if there is one.
+    above: &'t [u8],
+}
+
+/// What a comment begins with that leaves out findings, and no longer line is one.
+const MARK: &[u8] = b"git-config-check:";
+
+const LONGEST_COMMENT: usize = 1000;
+
+/// Whether a line is a comment with this order for findings of this code.
+fn orders(line: &[u8], order: &[u8], code: Code) -> bool {
+    let line = line.trim_ascii_start();
+    if line.len() > LONGEST_COMMENT || !(line.starts_with(b"#") || line.starts_with(b";")) {
+        return false;
+    }
+    let Some(rest) = behind(line, 1).trim_ascii_start().strip_prefix(MARK) else {
+        return false;
+    };
+    let mut is_ordered = false;
+    for word in rest.split(|byte| matches!(*byte, b' ' | b'\t' | b',')) {
+        if is_ordered && word == code.name().as_bytes() {
+            return true;
+        }
+        is_ordered |= word == order;
+    }
+    false
 }
 
 /// The place that a finding is about.
@@ -133,7 +160,14 @@ impl<'t> Source<'t> {
             text,
             number: 1,
             rest: text,
+            above: b"",
         }
+    }
+
+    /// Whether findings with this code are left out at the line that was looked at last: by a comment on the line
+    /// above it, or by one on the first line of the file.
+    pub(crate) fn leaves_out(&self, code: Code) -> bool {
+        orders(self.above, b"ignore", code) || orders(line_of(self.text), b"ignore-file", code)
     }
 
     /// The line with this number. The next search goes on from here, unless it is for a line before.
@@ -141,10 +175,12 @@ impl<'t> Source<'t> {
         if number < self.number {
             self.number = 1;
             self.rest = self.text;
+            self.above = b"";
         }
         for _ in self.number..number {
             match after_line(self.rest) {
                 Some(rest) => {
+                    self.above = line_of(self.rest);
                     self.rest = rest;
                     self.number = self.number.saturating_add(1);
                 }

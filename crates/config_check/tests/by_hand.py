@@ -269,6 +269,21 @@ def modules(group, program):
         group.expect(("in .gitmodules", line), (severity, int(severity is not None)), (told, came.status))
 
 
+def others(group, program):
+    """--explain of keys, --exit-zero, and versions that the rows do not know."""
+    for key, told in rows.EXPLAINED:
+        group.expect(("--explain", key), Ended(0, told.encode(), b""), program.run(["--explain", key]))
+    data = b"[core] bare = x\n"
+    for more, status in (([], 1), (["--exit-zero"], 0), (["--exit-zero", "no-such-file"], 2)):
+        group.expect(more, status, program.run(["-q", *more, "-"], data).status)
+    for text, found, ignored in rows.COMMENTS:
+        came = program.run(["-"], text)
+        counts = came.errors.partition(b" findings" if found != 1 else b" finding")
+        group.expect(text, (found, b", %d ignored\n" % ignored if ignored else b"\n"), (came.output.count(b"\n"), counts[2]))
+    told = b"config_check: the built-in rows do not know what is new in Git after 2.55: 2.99\n"
+    group.expect("--git 2.99", told, program.run(["-q", "--git", "2.99", "-"], data).errors)
+
+
 def wrong_and_other_arguments(group, program):
     for more, message in rows.WRONG_ARGUMENTS:
         group.expect(more, Ended(2, b"", f"config_check: {message}\n".encode()), program.run(more, b""))
@@ -280,8 +295,8 @@ def wrong_and_other_arguments(group, program):
         group.expect(["--git", text], Ended(2, b"", told), program.run(["--git", text, "-"], b"[a]b\n"))
     for text, severity in rows.VERSIONS.items():
         output = b"" if severity is None else finding((1, 8), (b"pull.autoStash", b""), (b"true", b""), severity + b": Git reads it only since 2.51")
-        group.expect(["--git", text], ended(output, (1, 1, 0, int(bool(output)))),
-                     program.run(["--git", text, "-"], b"[pull] autoStash = true\n"))
+        came = program.run(["--git", text, "-"], b"[pull] autoStash = true\n")
+        group.expect(["--git", text], ended(output, (1, 1, 0, int(bool(output)))), came._replace(errors=came.errors.splitlines(True)[-1]))
     for more in rows.ILL_FORMED_ARGUMENTS:
         came = program.run(more, b"")
         is_said = came.errors.startswith(CANNOT + b"read the arguments: ") and came.errors.count(b"\n") == 1
@@ -292,6 +307,6 @@ def wrong_and_other_arguments(group, program):
 
 
 def check(group, program):
-    for part in (values, escapes, keys, slots, files, as_json, fail_on, built_in, settings_files, musts, modules,
+    for part in (values, escapes, keys, slots, files, as_json, fail_on, built_in, settings_files, musts, modules, others,
                  wrong_and_other_arguments):
         part(group, program)

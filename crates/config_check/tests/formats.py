@@ -199,6 +199,14 @@ def repositories(group, program):
         (folder / "own").write_text("tool.mode word slow\n")
         came = program.run(["-q", "--settings", "own", "-"], data, cwd=folder)
         group.expect("named rows come first", b"", came.output)
+        for lines, more, wanted in (
+                ("--ignore bad-boolean\n", [], (0, b"")), ("# ours\n--fail-on=note --ignore not-a-word\n", [], (1, b"c:2")),
+                ("--exit-zero\n", [], (0, b"c:2")), ("--ignore bad-boolean\n", ["--no-ignore"], (1, b"c:2")),
+                ("--git 2.50\n", ["--git", "2.51"], (1, b"c:2")), ("tool.x text\n--fix\n", [], (2, b"")), ("--ignore core.* x\n", [], (2, b""))):
+            (folder / ".gitconfig-check").write_text(lines)
+            (folder / "c").write_bytes(b"[core]\n\tbare = x\n")
+            came = program.run(["-q", *more, "c"], cwd=folder)
+            group.expect(("options of .gitconfig-check", lines, more), wanted, (came.status, came.output[:3]))
         (folder / ".gitconfig-check").write_text("tool.mode bool\ntool\n")
         came = program.run(["-"], data, cwd=folder)
         group.expect("a wrong row", Ended(2, b"", b"config_check: .gitconfig-check:2: no dot in the key\n"), came)

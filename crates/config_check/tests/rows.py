@@ -604,6 +604,29 @@ MODULES = [(b"update = !cmd", "error"), (b"update = foo", "error"), (b"update = 
            (b"ignore = foo", "warning"), (b"ignore", "error"), (b"path = x", None), (b"url = ./-y", None), (b"branch = -x", None),
            (b"fetchRecurseSubmodules = foo", "error"), (b"shallow = foo", "error"), (b"path", "error"), (b"branch", "error")]
 
+# files with comments that leave out findings, how many findings are told, and how many are ignored
+COMMENTS = [
+    (b"[core]\n# git-config-check: ignore bad-boolean\n\tbare = x\n\tbare = x\n", 1, 1),
+    (b"[core]\n\t;git-config-check: ignore no-value, bad-boolean\n\tbare = x\n", 0, 1),
+    (b"[core]\n# git-config-check: ignore bad-integer\n\tbare = x\n", 1, 0), (b"[core]\n# git-config-check: bad-boolean\n\tbare = x\n", 1, 0),
+    (b"[core]\n# git-config-check: ignore bad-boolean\n\n\tbare = x\n", 1, 0),
+    (b"# git-config-check: ignore-file bad-boolean\n[core]\n\tbare = x\n\tbare = y\n\teditor\n", 1, 2),
+    (b"# x\n# git-config-check: ignore-file bad-boolean\n[core]\n\tbare = x\n", 1, 0),
+    (b"[core]\n\tbare = no # git-config-check: ignore bad-boolean\n\tbare = x\n", 1, 0),
+    (b"# git-config-check: ignore invalid-line\n[core\n", 0, 1),
+]
+
+# keys, and what --explain says of the row, which 2.55.0 reads so
+EXPLAINED = [
+    ("core.autocrlf", "core.autocrlf: a boolean, or one of: input (in any case); a key alone is right; Git stops at a wrong value\n"),
+    ("Branch.x.Rebase", "branch.*.rebase: a boolean, or one of: merges, m, interactive, i; a key alone is right; Git stops at a wrong value\n"),
+    ("pull.autostash", "pull.autoStash: a boolean; since Git 2.51; a key alone is right; Git stops at a wrong value\n"),
+    ("core.compression", "core.compression: an integer from -1 to 9; a key alone is wrong; Git stops at a wrong value\n"),
+    ("pack.writebitmaps", "pack.writeBitmaps: a boolean; deprecated: use repack.writeBitmaps; a key alone is right; Git stops at a wrong value\n"),
+    ("remote.o.fetch", "remote.*.fetch: a refspec of a fetch; a key alone is wrong; Git stops at a wrong value\n"),
+    ("ssh.variant", "ssh.variant: one of: auto, ssh, plink, putty, tortoiseplink, simple; a key alone is wrong; Git goes on at a wrong value\n"),
+]
+
 # arguments that are wrong
 WRONG_ARGUMENTS = [
     (["--no-such-argument"], "unknown option `no-such-argument'"), (["-x"], "unknown switch `x'"),
@@ -616,6 +639,7 @@ WRONG_ARGUMENTS = [
     (["--format", "json", "--format", "json"], "option `format' is given twice"),
     (["--fix", "--diff", "x"], "only one of --fix, --diff and --statistics"),
     (["--explain", "no-code"], "no such code: no-code; --explain all lists them"),
+    (["--explain", "no.such.key"], "no row has the key no.such.key"),
     (["--fix"], "--fix changes only files that are named: name one"),
     (["--fix", "-"], "--fix cannot change standard input: try --diff"),
     (["--ignore", "no-code", "-"], "neither a code nor a key: no-code"), (["--git"], "option `git' requires a value"),
