@@ -508,7 +508,7 @@ BUILT_IN = [
     (b"init.defaultBranch", b"my branch", b"error: not the name of a branch"), (b"alias.x", b"log \"a", b"error: not a command: "),
     (b"alias.\xc3\xbc.command", b"", b"error: not a command: "), (b"core.notesRef", b"commits", b"error: not one of: refs/notes/*"),
     (b"core.notesRef", b"refs/notes/x", None), (b"fsck.missingEmail", b"ignore", None), (b"receive.fsck.badDate", b"WARN", b"error: not one of: error, warn, ignore"),
-    (b"color.blame.highlightRecent", b"bleu", b"error: not a list of: "), (b"sendemail.smtpEncryption", b"starttls", b"warning: not one of: ssl, tls"),
+    (b"color.blame.highlightRecent", b"bleu", b"warning: not a list of: "), (b"sendemail.smtpEncryption", b"starttls", b"warning: not one of: ssl, tls"),
     # 2.55.0 takes these, or Git for Windows or an older credential manager does
     (b"http.uploadarchive", b"true", None), (b"fetch.hideRefs", b"refs/x", None), (b"gitcvs.authdb", b"/x", None), (b"user.signature", b"x", None),
     (b"http.schannelCheckRevoke", b"best-effort", None), (b"credential.interactive", b"auto", None), (b"credential.validate", b"x", None),

@@ -1,5 +1,5 @@
 -- Texts cut at their last colon, which is the only such cut.
-use Rattle.std.proofs.Common.{◌≡◌, ◌≢◌, ◌<◌, ◌+◌, Bool, true, false, not, ℕ, List, [], ◌∷◌, ◌++◌}
+use Rattle.std.proofs.Common.{◌≡◌, ◌≢◌, ◌<◌, ◌+◌, Bool, true, ℕ, List, [], ◌∷◌, ◌++◌}
 use Rattle.std.proofs.Common.{Option, Some, None, length, take, drop, get_or, refl, sym, ap, subst, ◌∙◌, arith, Bor}
 use Rattle.std.proofs.lemmas.List.{length-drop, drop_more, get_or-drop, take-append-drop}
 use Rattle.std.proofs.lemmas.List.Sums.{list_all-from_AllPass}
