@@ -1,6 +1,6 @@
 //! Answers about a URL, a color, and whether output is colored.
 
-use crate::files::{Found, Reading};
+use crate::files::Reading;
 use crate::output::{Ending, Name, tell};
 use crate::shown::{Outcome, Shown, Wrong, tell_wrong};
 use crate::wanted::section_and_name;
@@ -147,10 +147,13 @@ impl<'t> Reading<'_, 't> {
 
     /// Appends a setting that decides for a URL, or tells that it has no value of its type.
     fn answer_for_url(&mut self, setting: &Setting<'_>, key: &[u8]) -> Result<Ending, HostError> {
-        let Found { values, writer, .. } = &mut self.found;
-        let place = writer.unfiled.place(setting);
+        let place = self.found.writer.unfiled.place(setting);
         let value = setting.value.as_deref();
-        let outcome = writer.put(values, value, &place, Name::Text(key))?;
+        let name = Name::Text(key);
+        let outcome = self
+            .found
+            .writer
+            .put(&self.found.values, value, &place, name)?;
         if matches!(outcome, Outcome::Refused) {
             self.tell_setting(self.request.shown, setting, key);
             if !is_passed_over(self.request.shown, setting) {

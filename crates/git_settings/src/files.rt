@@ -112,10 +112,10 @@ impl<'t> Reading<'_, 't> {
     }
 
     /// Tells that the default value of this key is none of its type.
-    fn tell_default(&self, key: &str) {
+    fn tell_default<'x>(&self, key: &'x str, default: &'x str) {
         let wrong = Wrong {
             key: key.as_bytes(),
-            value: self.request.default.map(str::as_bytes),
+            value: Some(default.as_bytes()),
             place: None,
         };
         let end = b"fatal: failed to format default config value: ";
@@ -131,13 +131,15 @@ impl<'t> Reading<'_, 't> {
     /// is refused, there is no output.
     fn answer_key(&mut self, key: &str) -> Result<Ending, HostError> {
         let settings = self.taken();
-        let Found { values, writer, .. } = &mut self.found;
-        writer.output.clear();
+        self.found.writer.output.clear();
         let default = self.request.default.map(str::as_bytes);
-        let answer = writer.answer_or(values, &settings, key.as_bytes(), default)?;
+        let answer = self
+            .found
+            .writer
+            .answer_or(&self.found.values, &settings, key.as_bytes(), default)?;
         match answer {
             Answer::Written | Answer::Absent => {}
-            Answer::NoDefault => self.tell_default(key),
+            Answer::NoDefault => self.tell_default(key, self.request.default.unwrap_or("")),
             Answer::Refused(setting) => {
                 let key = setting.entry.key_text(self.rt.alloc())?;
                 self.tell_setting(self.request.shown, setting, &key);
@@ -164,9 +166,10 @@ fn answer_in<'r, 't>(
     rt: &'t HostRuntime,
     texts: &'t Bump,
     request: &'r Request<'r>,
-    choice: &mut Choice<'_, '_>,
+    choice: Choice<'r, 'r>,
     commands: &[u8],
 ) -> Result<Ending, HereError<'t>> {
+    let mut choice = choice;
     let Some(opened) = open_texts(rt, texts, request, commands)? else {
         return Ok(Ending::Refused);
     };
@@ -185,7 +188,7 @@ fn answer_in<'r, 't>(
         settings: Vec::new(rt.alloc()),
         writer: Writer::new(rt.alloc(), form_of(request), unfiled(&opened.sources)),
     };
-    let mut ending = read_all(rt, &opened, choice, &mut found)?;
+    let mut ending = read_all(rt, &opened, &mut choice, &mut found)?;
     let mut reading = Reading { rt, request, found };
     if matches!(ending, Ending::Done) {
         ending = reading.answer()?;
@@ -209,12 +212,12 @@ pub fn run<'a>(
         Ok(patterns) => patterns,
         Err(why) => return Ok(why.tell(rt, &request.chosen)),
     };
-    let mut choice = match choice_of(rt.alloc(), &request.chosen, &patterns) {
+    let choice = match choice_of(rt.alloc(), &request.chosen, &patterns) {
         Ok(choice) => choice,
         Err(why) => return Ok(why.tell(rt, &request.chosen)),
     };
     let texts = Bump::new(rt.alloc());
-    match answer_in(rt, &texts, request, &mut choice, commands) {
+    match answer_in(rt, &texts, request, choice, commands) {
         Ok(ending) => Ok(ending),
         Err(HereError::Host(error)) => Err(error),
         Err(stop) => {

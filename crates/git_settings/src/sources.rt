@@ -141,6 +141,18 @@ fn closed<'t>(
     })
 }
 
+/// Finds what conditions ask about, if one is in the text or in what it includes.
+fn prepare<'t>(opened: &mut Opened<'t>) -> Result<(), HereError<'t>> {
+    if !ask_for_conditions(&opened.disk, &opened.surroundings, &opened.sources)? {
+        return Ok(());
+    }
+    let repository = find(&opened.disk, b"")?.used()?;
+    opened
+        .surroundings
+        .set_repository(&opened.disk, repository)?;
+    seek(opened)
+}
+
 /// The text of this file.
 fn open_named<'t>(
     rt: &'t HostRuntime,
@@ -150,14 +162,8 @@ fn open_named<'t>(
 ) -> Result<Option<Opened<'t>>, HereError<'t>> {
     let mut opened = closed(rt, Disk::new(rt, texts), request)?;
     open(rt, request, &mut opened, Scope::Command, file.as_bytes())?;
-    if may_include(&opened, request)
-        && ask_for_conditions(&opened.disk, &opened.surroundings, &opened.sources)?
-    {
-        let repository = find(&opened.disk, b"")?.used()?;
-        opened
-            .surroundings
-            .set_repository(&opened.disk, repository)?;
-        seek(&mut opened)?;
+    if may_include(&opened, request) {
+        prepare(&mut opened)?;
     }
     Ok(Some(opened))
 }
