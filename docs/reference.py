@@ -301,9 +301,6 @@ class Reference:
         heads = [set(re.findall(r"[^\s(){},`⟦⟧]+", it.partition("`: ")[0])) for it in told]
         self.rows = sorted(zip(heads, told), key=lambda row: len(row[0]))
         self.signs = self.prose(signs)
-        self.looks = {(crate, file): text for crates, text in re.findall(
-            r"(?m)^\| ((?:`\w+`,? ?)+) \| (.*) \|$", (ROOT / "docs/READING.md").read_text("utf-8"))
-            for crate, *of in [re.findall(r"`(\w+)`", crates)] for file in of}
         self.modules = {}
         for file in (opened(file) for crate in LISTED for file in sorted(CRATES.glob(f"{crate}/src/**/*.rt"))):
             self.fill(file)
@@ -610,8 +607,8 @@ class Reference:
                 if it not in self.paths:
                     self.find_by(it.name, f"definition of {it.crate}", it.href, lead(it.doc))
         for module, words in of.items():
-            look = self.looks.get((crate, module.rpartition(".")[2]))
-            out.append(f"<h2>{module}</h2>" + f"<p>Look for: {self.inline(look or '')}</p>" * bool(look))
+            look = re.match(r"(?:--.+\n)*--\n((?:--.+\n)+)", opened(words[0].file).text)
+            out.append(f"<h2>{module}</h2>" + (self.prose(re.sub("(?m)^-- ", "", look[1])) if look else ""))
             out.append(self.listed(words))
         self.page(f"words.{crate}", f"Definitions of {crate}", "".join(out))
 

@@ -1,4 +1,7 @@
 -- Which settings are asked for.
+--
+-- Look for: without a pattern each value fits; a key alone has the empty value; a setting that is left out
+-- lacks the key, or the value.
 use Rattle.std.specs.Prelude.{◌≡◌, ◌⊎◌, ℕ, Bool, true, not, is_some, List, Option, None, Some, ⊤, codes, map}
 use Rattle.std.specs.Prelude.{option_copied, option_map, IfSome}
 use Rattle.std.specs.Char.{to_ascii_lowercase}

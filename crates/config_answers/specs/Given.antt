@@ -1,4 +1,6 @@
 -- What is handed on of a text and of the files that it includes.
+--
+-- Look for: each entry that the walk comes to is asked about once, in order; `System` says nothing.
 use Rattle.std.specs.Prelude.{◌≡◌, ℕ, true, false, List, [], ◌∷◌, ◌++◌, map, Option, Some, None, Result, Ok, Err, ⊤}
 use Rattle.config_file.specs.File.{Entry}
 use Rattle.config_file.specs.Listing.{IsListed}

@@ -1,4 +1,8 @@
 -- The line that Git writes for a setting.
+--
+-- Look for (here and in Answers): a TAB or NUL after the scope and the origin, an LF or NUL at the end;
+-- with NUL no quotes around the file. `chosen false` is the last line. `Refused` writes nothing, and tells
+-- the first setting that is none of its type.
 use Rattle.std.specs.Prelude.{◌≡◌, ℕ, ◌+◌, ◌/◌, ◌%◌, Bool, true, not, ◌&&◌, ◌==◌, nat_le, if◌then◌else◌}
 use Rattle.std.specs.Prelude.{List, [], ◌∷◌, ◌++◌, flat_map, codes, Option, Some, None, option_map}
 use Rattle.std.specs.List.{list_all}

@@ -1,4 +1,7 @@
 -- What is shown for a value: the text as it is written, or the text of a type.
+--
+-- Look for: a number comes before a truth value, and a truth value before a text; `Missing` only for an
+-- optional path that is not there; a key alone is `true`, but as a path empty.
 use Rattle.std.specs.Prelude.{◌≡◌, ◌⊎◌, ℕ, Bool, true, false, List, [], codes, decimal, Option, Some, None}
 use Rattle.std.specs.Prelude.{option_map, option_copied, unwrap_or}
 use Rattle.gix_config_value.specs.Kinds.{KindGrammar, KindCanonical}

@@ -1,4 +1,8 @@
 -- What a row demands of a text by its list of words, and which kinds take a key alone.
+--
+-- Look for (here and in Rows, Reasons, Report): what a row's kind takes, the first row that covers a key,
+-- and why a value is wrong: one reason, whose code, severity and suggestions `Report` gives. Rows
+-- themselves are data: docs/CHECKING.md says where they are from.
 use Rattle.std.specs.Prelude.{◌≡◌, ◌⊎◌, ℕ, ◌<◌, ◌==◌, ◌||◌, nat_eq, IsTrue, List, [], ◌∷◌, ◌++◌, codes}
 use Rattle.std.specs.Prelude.{length, take, drop, slice_index_or, Bool, true, false, if◌then◌else◌, All}
 use Rattle.std.specs.List.{slice_split, starts_with, Any}

@@ -1,4 +1,7 @@
 -- Keys that no row covers, and the nearest key of the rows, which is suggested for them.
+--
+-- Look for (here and in Nearest, Fixes, Findings, Json, Outcome): how near a word has to be; what a change
+-- has to mend; the texts and the members of findings; the statuses.
 use Rattle.std.specs.Prelude.{◌<◌, length, take, slice_index_or, All}
 use Rattle.std.specs.Prelude.{◌≡◌, ◌≢◌, ◌⊎◌, ℕ, List, [], ◌∷◌, ◌++◌, codes, Option, None, Some, true, option_map}
 use Rattle.std.specs.Prelude.{◌||◌, nat_eq, if◌then◌else◌}

@@ -1,4 +1,7 @@
 -- Colors: a foreground, a background and a set of attributes.
+--
+-- Look for: `WordsRead`: each word is a name or an attribute. `Placed`: the last line is `⊥`, so a third
+-- name is refused. `Chosen` says "some, in order".
 use Rattle.std.specs.Prelude.{◌≡◌, ℕ, ◌≤◌, ◌⊎◌, List, [], ◌∷◌, ◌++◌, length, zero, suc, Option, None, Some}
 use Rattle.std.specs.Bool.{⊤}
 use Rattle.std.specs.Int.{bit_at}

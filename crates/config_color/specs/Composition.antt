@@ -1,4 +1,7 @@
 -- The composition of two colors, one color over another, and relations for joined texts and for texts that mean the same.
+--
+-- Look for: `HaveTooManyNames` counts the names of both colors, and says that both texts have one.
+-- `Composes` gives `None` also for a color without a text. `Stays` asks that no opposite is above.
 use Rattle.std.specs.Prelude.{◌≡◌, ℕ, ◌<◌, ◌⊎◌, ◌↔◌, List, [], ◌∷◌, ◌++◌, length, Option, None, Some}
 use Rattle.std.specs.Option.{option_or, option_to_list}
 use Rattle.std.specs.Int.{bit_at}

@@ -1,4 +1,7 @@
 -- Fewer colors: the palette, the distance of two colors, and the nearest number.
+--
+-- Look for (here and in Terminal): `palette`: three parts, at 16 and 232. `IsNearest`: none is nearer, and
+-- each lesser one is farther. The first of the `depth_rules` that applies decides.
 use Rattle.std.specs.Prelude.{◌≡◌, ℕ, ◌+◌, ◌*◌, ◌-◌, ◌/◌, ◌%◌, ◌<◌, ◌≤◌, nat_lt, if◌then◌else◌, List, [], ◌∷◌}
 use Rattle.std.specs.Prelude.{zero, suc, Option, None, Some, MatchOption}
 use Rattle.std.specs.List.{slice_index_or}

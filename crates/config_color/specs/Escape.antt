@@ -1,4 +1,7 @@
 -- Escape sequences: what is written to a terminal so that the text after it is drawn in a color.
+--
+-- Look for: the rows of `attribute_codes` in their order, with one row for two attributes; 30 and 40, and
+-- 60 more for bright; no `;` at the end.
 use Rattle.std.specs.Prelude.{ℕ, ◌+◌, ◌-◌, ◌^◌, List, [], ◌∷◌, ◌++◌, map, filter, codes, decimal, bit_and, ◌==◌}
 use Rattle.std.specs.Prelude.{Option, None, Some, not, nat_lt, if◌then◌else◌}
 use Rattle.std.specs.List.{join_with_byte}

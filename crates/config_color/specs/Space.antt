@@ -1,4 +1,7 @@
 -- White space: the 25 code points that Unicode takes for white space, each with its bytes in UTF-8.
+--
+-- Look for (here and in Words): 25 spellings. The last white space is the one after which there is no
+-- other; `piece` drops empty words.
 use Rattle.std.specs.Prelude.{ℕ, List, [], ◌∷◌}
 use Rattle.config_text.specs.OneOf.{OneOf}
 

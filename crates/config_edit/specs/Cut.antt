@@ -1,4 +1,8 @@
 -- A text cut in its parts, of which an edit says what each becomes.
+--
+-- Look for (here and in Unset): each byte of a text is in one part, and each part of it becomes bytes that
+-- are determined. `Goes`: the place of an entry is the number of those before it. `IsEmptied`: an entry
+-- goes, and only blank lines are left. `IsBelowComment`: only blank lines are between.
 use Rattle.std.specs.Prelude.{◌≡◌, ◌≢◌, ℕ, ◌+◌, Bool, true, false, not, List, [], ◌∷◌, ◌++◌, Option, Some, None, ◌⊎◌}
 use Rattle.std.specs.List.{list_all}
 use Rattle.config_file.specs.Bytes.{line_feed, left_bracket, is_blank, is_comment_sign, is_comment_byte, BeginsWithLetter}

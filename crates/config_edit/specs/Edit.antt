@@ -1,4 +1,11 @@
 -- Edits of a text: what changes in its entries, and what in its bytes.
+--
+-- Look for (here and in Reached): each edit has two halves: what becomes of the entries, in their order,
+-- and of each part of the text. `PutsValue`: blanks around a value stay, and a space is put where a first
+-- value would touch an `=` behind blanks or a comment. `CanFollow`: a new entry stands behind the last
+-- header or entry of its section, or the rest of the line of that header. `EndsParts`: two line ends come
+-- behind a backslash that ends the text. `IsFeedAt`: the line end is the last one before the place,
+-- otherwise the last of the text, otherwise LF.
 use Rattle.std.specs.Prelude.{◌≡◌, ◌≢◌, ℕ, Bool, true, false, List, [], ◌∷◌, ◌++◌, Option, Some, None, map}
 use Rattle.std.specs.Prelude.{◌⊎◌, ⊤, ◌+◌, ◌≤◌, ◌<◌, length, option_copied, MatchOption}
 use Rattle.std.specs.Char.{to_ascii_lowercase}

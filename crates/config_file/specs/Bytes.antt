@@ -1,4 +1,7 @@
 -- The bytes of a configuration file.
+--
+-- Look for (here and in Runs): a name has `.` and `-`, a key only `-`, and neither has `_`. A blank may be
+-- a CR, a space after a key may not. A run is the longest: else `ab` could be the key `a`.
 use Rattle.std.specs.Prelude.{◌≡◌, ℕ, Bool, true, false, not, ◌&&◌, ◌||◌, ◌==◌, ◌⊎◌, List, [], ◌∷◌, ⊤}
 use Rattle.std.specs.Char.{is_ascii_alphabetic, is_ascii_alphanumeric}
 

@@ -1,4 +1,7 @@
 -- The settings of a command: what the variables of Git say, and the entries that have these settings.
+--
+-- Look for: quoted texts, keys and values, and the number of `GIT_CONFIG_COUNT`. A parameter without a
+-- quoted value is cut at its first `=`. `RefusesParameters`: the first thing that is refused.
 use Rattle.std.specs.Prelude.{◌≡◌, ◌≢◌, ℕ, ◌-◌, ◌^◌, ◌<◌, ◌≤◌, Bool, true, false, not, ◌&&◌, ◌||◌, ◌==◌, ◌⊎◌}
 use Rattle.std.specs.Prelude.{nat_lt, List, [], ◌∷◌, ◌++◌, Option, Some, None, Result, Ok, Err, if◌then◌else◌}
 use Rattle.std.specs.Prelude.{codes, ⊤}

@@ -1,4 +1,7 @@
 -- Configuration files: the entries of a text, and the error if the text is refused.
+--
+-- Look for: each case of `Reads` begins with another byte; an error comes last. Where a case adds 1 to its
+-- line, Git reports one line more.
 use Rattle.std.specs.Prelude.{◌≡◌, ℕ, ◌+◌, Bool, true, false, List, [], ◌∷◌, Option, Some, None}
 use Rattle.std.specs.Prelude.{if◌then◌else◌, ◌==◌, ◌&&◌, ◌||◌, ◌⊎◌}
 use Rattle.std.specs.Char.{is_ascii_alphabetic}

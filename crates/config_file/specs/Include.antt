@@ -1,4 +1,8 @@
 -- The entries that include a file, and the conditions on which they are followed.
+--
+-- Look for (here and in Path): `IsPathIn` compares the parts of an entry: `include` has no subsection, and
+-- `includeIf` has one. `Unknown` lacks all four keywords. `HasUrl` takes the pattern as it is, and one URL
+-- is enough. `BeginsUnknown`: a home that is not known is refused, and not taken for a name.
 use Rattle.std.specs.Prelude.{◌≡◌, ◌≢◌, ◌↔◌, ℕ, Bool, true, false, IsTrue, if◌then◌else◌, ◌==◌, ◌&&◌, List, ◌++◌, ◌∷◌, codes}
 use Rattle.std.specs.Prelude.{nat_eq, Option, None, Some, ◌⊎◌, ⊤, map, option_copied, option_map}
 use Rattle.std.specs.Char.{to_ascii_lowercase}

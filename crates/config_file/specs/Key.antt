@@ -1,4 +1,8 @@
 -- The keys of settings: their parts, how Git reads and lists them, and the entries that have them.
+--
+-- Look for (here and in KeyView): `IsCut` cuts at the first and at the last dot. `IsWrong`: a missing
+-- section comes first, then a missing name, then bytes from left to right. `HasKey`: Git lists the section
+-- of the entry as the `stem` and a dot, so `[a.b]` has the keys of `[a "b"]`.
 use Rattle.std.specs.Prelude.{◌≡◌, ◌≢◌, ℕ, Bool, true, false, not, ◌==◌, ◌&&◌, ◌||◌, List, [], ◌∷◌, ◌++◌}
 use Rattle.std.specs.Prelude.{Option, Some, None, length, map, is_some, codes}
 use Rattle.std.specs.Char.{to_ascii_lowercase, is_ascii_alphabetic}

@@ -1,4 +1,6 @@
 -- What the reader has left to read.
+--
+-- Look for (here and in Errors): the reader has nothing left after an error; texts of errors.
 use Rattle.std.specs.Prelude.{List, [], ◌∷◌, Option, Some, None, Result, Ok, Err, option_map}
 use Rattle.config_file.specs.declared.errors.FileError.{FileError}
 use Rattle.config_file.specs.declared.entry.Entry as code

@@ -1,4 +1,7 @@
 -- Keys as Git lists them.
+--
+-- Look for (here and in Views): names and keys in lower case, subsections as they are; what the code's
+-- structs hold, as bytes.
 use Rattle.std.specs.Prelude.{ℕ, List, [], ◌∷◌, ◌++◌, Option, Some, None, map}
 use Rattle.std.specs.Char.{to_ascii_lowercase}
 use Rattle.config_file.specs.Bytes.{dot}

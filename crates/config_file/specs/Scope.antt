@@ -1,4 +1,7 @@
 -- Scopes: where Git has a setting from.
+--
+-- Look for (here and in Shown): five words; what is not shown as it is: control characters up to U+009F,
+-- invalid UTF-8, a quote and a backslash.
 use Rattle.std.specs.Prelude.{ℕ, List, codes}
 use Rattle.config_file.specs.declared.scope.Scope.{Scope}
 use Rattle.config_file.specs.declared.scope.Scope.TheVariants.{System, Global, Local, Worktree, Command}

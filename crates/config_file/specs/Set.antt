@@ -1,4 +1,7 @@
 -- Sets of bytes in patterns, after their `[`.
+--
+-- Look for (here and in Pattern): no item but an escaped or ordinary `/` matches `/`. `crosses`: two stars
+-- or more, where a name starts before them and ends after them.
 use Rattle.std.specs.Prelude.{◌≡◌, ◌≢◌, ℕ, Bool, true, false, not, if◌then◌else◌, ◌||◌, ◌&&◌, ◌==◌, List, []}
 use Rattle.std.specs.Prelude.{◌∷◌, ◌++◌, codes}
 use Rattle.std.specs.Char.{to_ascii_lowercase, to_ascii_uppercase, is_ascii_alphanumeric, is_ascii_alphabetic}

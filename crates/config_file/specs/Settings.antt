@@ -1,4 +1,10 @@
 -- Settings: the entries of files in order, each with the text of its value for a reader.
+--
+-- Look for: `IsLast`: no later setting has the key. `Gets`: a refused text has no value, and `NoValue` is a
+-- key alone. A key alone is the text `true`, but an empty path. `IsValueOf` speaks of every text that the
+-- bytes spell. `TellsStop` tells a stop by its own file, line and fault. `AddsInScope` speaks of the same
+-- added settings as `AddsEach`, since the old ones stay in front. `Picks` keeps the order and leaves no
+-- such setting out. `HasSubsection` cuts the listed key, so `[a.b]` has the subsection `b`.
 use denote.Ref.{Bor}
 use Rattle.std.specs.Prelude.{◌≡◌, ◌≢◌, Contains, Bool, true, false, ℕ, List, ◌∷◌, [], ◌++◌, ◌+◌, length}
 use Rattle.std.specs.Prelude.{Option, Some, None, map, codes, option_map, Result, Ok, Err, ⊤}

@@ -1,4 +1,7 @@
 -- Spellings: the bytes that read back to a value, a header or an entry.
+--
+-- Look for: how entries are written: that they are read back is proved, and that they are what Git writes
+-- (`git_spelled`, `spelled_section`).
 use Rattle.std.specs.Prelude.{◌≡◌, ℕ, ◌+◌, Bool, true, false, ◌==◌, ◌||◌, if◌then◌else◌, List, [], ◌∷◌, ◌++◌}
 use Rattle.std.specs.Prelude.{Option, Some, None, ⊤, ◌⊎◌}
 use Rattle.std.specs.Char.{is_ascii_alphabetic}

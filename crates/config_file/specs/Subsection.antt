@@ -1,4 +1,7 @@
 -- The subsection of a header: the bytes in its quotes, and the text that they spell.
+--
+-- Look for (here and in Header): a backslash keeps any byte but LF and NUL. A name alone is not empty, and
+-- a blank follows a name before quotes.
 use Rattle.std.specs.Prelude.{◌≡◌, ℕ, true, List, [], ◌∷◌, ◌++◌}
 use Rattle.config_file.specs.Bytes.{double_quote, backslash, is_text_byte, is_plain_in_quotes, EndsText}
 

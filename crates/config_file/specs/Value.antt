@@ -1,4 +1,7 @@
 -- The value of an entry: the bytes from its `=` to the end of the line or to a comment.
+--
+-- Look for: three letters are escapes. `kept`: blanks count only between bytes of the value. `ends_inside`:
+-- `TakesValue` takes no value that ends there.
 use Rattle.std.specs.Prelude.{◌≡◌, ◌≢◌, ℕ, ◌+◌, Bool, true, false, not, if◌then◌else◌, ◌||◌, ◌==◌, List, []}
 use Rattle.std.specs.Prelude.{◌∷◌, ◌++◌, Option, Some, None, ⊤, ◌⊎◌, count_by}
 use Rattle.config_file.specs.declared.errors.FileFault.{FileFault}

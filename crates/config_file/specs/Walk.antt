@@ -1,4 +1,11 @@
 -- The walk over the entries of a file and of the files that it includes, in Git's order.
+--
+-- Look for: `Known` has the includes that are followed: only `AsGit` follows those that Git does, while
+-- `Skipped` and `All` are for callers who want none or all. In `Walks` the entry that includes comes before
+-- the entries of its file, and these before the rest. Only a `cut` walk ends early. `less + 1` bounds the
+-- depth, and `WalksText` begins with 10. `forbidden_url`: Git stops at the URL of a remote in a file that a
+-- condition on URLs includes, directly or not, and while it seeks them in one that any condition includes
+-- (`Forbids` in `Include`).
 use Rattle.std.specs.Prelude.{◌≡◌, ℕ, ◌+◌, ◌||◌, Bool, true, false, List, [], ◌∷◌, ◌++◌, Option, None, Some}
 use Rattle.std.specs.Prelude.{option_copied}
 use Rattle.config_file.specs.File.{Entry, IsFile}

@@ -1,4 +1,6 @@
 -- Amounts: integer texts, read as their product.
+--
+-- Look for: here the bound is on the product.
 use Rattle.std.specs.Prelude.{ℕ, List}
 use Rattle.std.specs.Fmt.{signed_decimal}
 use Rattle.config_text.specs.declared.errors.Fault.{Fault}

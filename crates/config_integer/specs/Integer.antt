@@ -1,4 +1,8 @@
 -- Integers: an optional sign, a magnitude in one of five forms, and at most one suffix.
+--
+-- Look for: `decimal` begins with `1` to `9`: with `0`, `010` would be 10 and 8, and `one_value` false.
+-- `IsNumeral`, and not `AllDigits`, after `0x`: else `0x` is 0. At most one sign, and no white space
+-- anywhere. `NumberText` bounds the number, not the product. `CanonicalNumber` has its own bounds.
 use Rattle.std.specs.Prelude.{◌≡◌, ℕ, ℤ, pos, neg_ℤ, ◌*ℤ◌, ◌≤◌, ◌⊎◌, List, [], ◌∷◌, ◌++◌, codes, Option, Some}
 use Rattle.std.specs.Prelude.{None}
 use Rattle.std.specs.Fmt.{signed_decimal}

@@ -1,4 +1,6 @@
 -- Suffixes: the units k, m and g.
+--
+-- Look for: six letters; the factors are 2 to the 10th, 20th and 30th.
 use Rattle.std.specs.Prelude.{◌≡◌, ℕ, ◌⊎◌, List, codes}
 use Rattle.config_integer.specs.declared.suffix.Suffix.{Suffix}
 use Rattle.config_integer.specs.declared.suffix.Suffix.TheVariants.{Kibi, Mebi, Gibi}

@@ -1,4 +1,7 @@
 -- The result of interpolating a path value: the path table.
+--
+-- Look for: in neither headline: `Gives` is the table, a line for each form. `IsAllocated`: `Memory` needs
+-- a text that is not empty.
 use Rattle.std.specs.Prelude.{◌≡◌, ◌≢◌, ℕ, nat_eq, List, [], ◌∷◌, ◌++◌, codes, Option, None, Some}
 use Rattle.std.specs.Prelude.{option_map, Result, Ok, Err, string_bytes, IsUtf8, if◌then◌else◌, ⊤}
 use Rattle.std.specs.Fn.{Once, FnOnceReturnsAt}

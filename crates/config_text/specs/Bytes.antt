@@ -1,4 +1,7 @@
 -- Names for bytes and for ranges of bytes, and what a text does not begin with.
+--
+-- Look for (here and in Numerals): 49 to 57 is `1` to `9`. Both lines of `IsInI64` end in 807, since
+-- `negsuc n` is -(n + 1): with 806 a reader would refuse the least number.
 use Rattle.std.specs.Prelude.{ℕ, ◌≢◌, ◌⊎◌, List, ◌++◌}
 use Rattle.std.specs.Int.{IsInRange}
 

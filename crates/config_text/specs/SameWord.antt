@@ -1,4 +1,6 @@
 -- Words compared ignoring ASCII case.
+--
+-- Look for (here and in OneOf): only `A` to `Z` change: U+212A is not a `k`. `OneOf`: in the list.
 use Rattle.std.specs.Prelude.{◌≡◌, ℕ, List, map}
 use Rattle.std.specs.Char.{to_ascii_lowercase}
 

@@ -1,4 +1,7 @@
 -- The settings that are of a URL, and the one that decides.
+--
+-- Look for: the closest setting decides, and of equally close ones the last. A subsection is a pattern, and
+-- a setting without one fits each URL.
 use Rattle.std.specs.Prelude.{true, ◌≡◌, ◌⊎◌, List, ◌∷◌, ◌++◌, ℕ, Option, Some, None, map}
 use Rattle.std.specs.Char.{to_ascii_lowercase}
 use Rattle.std.specs.List.{All}

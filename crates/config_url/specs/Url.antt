@@ -1,5 +1,10 @@
 -- URLs of settings: the texts that are URLs, the form in which Git compares them, the URLs that a pattern
 -- matches, and the setting that decides for a URL.
+--
+-- Look for (here and in UrlView): the normal form: the port that a scheme has if it names none, escapes
+-- that are needed and no others, `.` and `..` in paths. `Matches`: the same scheme and port, `*` for a
+-- whole label of the host, a path at or below that of the pattern. `IsCloser`: by the host, else by the
+-- path, else by a user.
 use Rattle.std.specs.Prelude.{◌≡◌, ◌≢◌, ◌⊎◌, ◌<◌, ◌+◌, ◌-◌, ◌*◌, ◌/◌, ◌%◌, ℕ, Bool, true, false, not, is_some}
 use Rattle.std.specs.Prelude.{◌&&◌, ◌||◌, ◌==◌, nat_le, nat_lt, if◌then◌else◌, List, [], ◌∷◌, ◌++◌, length}
 use Rattle.std.specs.Prelude.{map, flat_map, Option, Some, None, unwrap_or, codes, ⊤}

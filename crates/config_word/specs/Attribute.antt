@@ -1,4 +1,7 @@
 -- Attributes: sets of bits, some of which have a word.
+--
+-- Look for: `attributes`: a row has its constant, its bit, the shown word and other spellings. No law says
+-- which bit is bold, only examples do.
 use Rattle.std.specs.Prelude.{◌≡◌, ℕ, ◌^◌, List, [], ◌∷◌, map, filter, codes, ◌==◌}
 use Rattle.std.specs.Int.{bit_at}
 use Rattle.std.specs.List.{join_with_byte}

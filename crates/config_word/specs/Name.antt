@@ -1,4 +1,7 @@
 -- Color names: eighteen words, `-1`, palette numbers, and `#` with hexadecimal digits.
+--
+-- Look for: `palette`: leading zeros and a `+`, no `-`, at most 255. `HexPair` asks both digits to be below
+-- 16. `CanonicalName` has its own list of words.
 use Rattle.std.specs.Prelude.{◌≡◌, ℕ, ◌+◌, ◌*◌, ◌/◌, ◌%◌, ◌<◌, ◌≤◌, ◌⊎◌, List, [], ◌∷◌, ◌++◌, length, codes}
 use Rattle.std.specs.Prelude.{decimal, ⊤}
 use Rattle.std.specs.Char.{digit_value, digit_char}

@@ -1,4 +1,8 @@
 -- The numbers that represent statuses, roles of entries, kinds, suffixes, depths, truth values and faults in C.
+--
+-- Look for (here and in Structs, Roles): the numbers and structs that C sees, which callers know from the
+-- header: `tests/header.py` compares them. The other files there say which bytes a call writes, and which
+-- status it returns, by the definitions of the crates above.
 use Rattle.std.specs.Prelude.{◌≡◌, ◌≢◌, ℕ, Bool, true, false, Option, None, Some}
 use Rattle.config_color.specs.declared.depth.Depth.{Depth}
 use Rattle.config_color.specs.declared.depth.Depth.TheVariants as depths

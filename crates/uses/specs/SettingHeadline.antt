@@ -1,4 +1,7 @@
 -- The headline of configuration files: which value a setting has in several files, each with its includes.
+--
+-- Look for: a value, no value and a refusal need whole walks of all files that the caller gives: only
+-- `StopsWith` has a cut one, which ends at a stop. `Known` has the `Includes`.
 use Rattle.std.specs.Prelude.{◌≡◌, ◌++◌, ◌∷◌, [], ℕ, true, false, List, Option, None, Some, Result, Ok, Err, ⊤, codes, map}
 use Rattle.std.specs.List.{All}
 use Rattle.config_text.specs.Value.{IsRefused}
