@@ -15,6 +15,8 @@ mod memory;
 #[cfg(test)]
 mod refusals;
 #[cfg(test)]
+mod search;
+#[cfg(test)]
 mod settings;
 #[cfg(test)]
 mod support;

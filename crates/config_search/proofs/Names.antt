@@ -1,0 +1,35 @@
+-- Texts that begin with others.
+use Rattle.std.proofs.Common.{◌≡◌, ◌∙◌, ℕ, List, ◌++◌, true, false, length, take, drop, sym, ap, append_assoc}
+use Rattle.std.specs.Str.{bytes_eq}
+use Rattle.std.proofs.Math.Seq.{take-append_seam}
+use Rattle.std.proofs.lemmas.Bool.{true≢false}
+use Rattle.std.proofs.lemmas.List.{append_cancel_left, take-append-drop}
+use Rattle.std.proofs.lemmas.Slice.Eq.{bytes_eq-Decides}
+
+-- a text that begins with these bytes goes on with the others
+pub goes_on : (front text : List ℕ) → bytes_eq (take (length front) text) front ≡ true
+    → text ≡ front ++ drop (length front) text
+goes_on front text is = sym (take-append-drop (length front) text)
+    ∙ ap (λ (t : List ℕ). t ++ drop (length front) text) ((bytes_eq-Decides (take (length front) text) front).0 is)
+
+-- a text that does not begin with them is none that goes on after them
+pub begins_not : (front text rest : List ℕ) → bytes_eq (take (length front) text) front ≡ false
+    → text ≡ front ++ rest → ⊥
+begins_not front text rest not is = true≢false (sym ((bytes_eq-Decides (take (length front) text) front).1
+    (ap (take (length front)) is ∙ take-append_seam front rest)) ∙ not)
+
+-- what follows the same bytes is the same
+pub same_rest : (front text rest other : List ℕ) → text ≡ front ++ rest → text ≡ front ++ other → rest ≡ other
+same_rest front text rest other is also = append_cancel_left front rest other (sym is ∙ also)
+
+-- three texts, of which the first two come first
+pub all_three : (whole first second third rest : List ℕ) → whole ≡ first ++ rest → rest ≡ second ++ third
+    → whole ≡ (first ++ second) ++ third
+all_three whole first second third rest is goes = is ∙ ap (λ (r : List ℕ). first ++ r) goes
+    ∙ sym (append_assoc first second third)
+
+-- what follows the first of three texts is the others
+pub other_two : (whole first second third rest : List ℕ) → whole ≡ first ++ rest
+    → whole ≡ (first ++ second) ++ third → rest ≡ second ++ third
+other_two whole first second third rest is three =
+    same_rest first whole rest (second ++ third) is (rw (append_assoc first second third) at three)

@@ -1,0 +1,4 @@
+pub mod System
+pub mod Names
+pub mod Shown
+pub mod Rule

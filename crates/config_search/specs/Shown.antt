@@ -1,0 +1,33 @@
+-- What the rule says of the values of the program.
+use Rattle.std.specs.Prelude.{List, option_copied}
+use Rattle.config_search.specs.System.{IsOpen}
+use Rattle.config_search.specs.declared.fact.Fact.{Fact}
+use Rattle.config_search.specs.declared.fact.Stop.{Stop}
+use Rattle.config_search.specs.declared.fact.Stop.TheVariants.{Ask, Memory}
+use Rattle.config_search.specs.Rule as rule
+use Rattle.config_search.specs.declared.git_dir.Common.{Common}
+use Rattle.config_search.specs.declared.seek.Form.{Form}
+use Rattle.config_search.specs.declared.seek.Form.TheVariants.{Given, Below, Bare}
+use Rattle.config_search.specs.declared.seek.GitDir.{GitDir}
+use Rattle.config_search.specs.declared.git_dir.Common.TheVariants.{Own, Linked, Broken}
+
+-- a question that stops a search is one that no fact answers
+abbrev pub IsNew : List Fact → Stop → Type 0
+IsNew facts (Ask question) = IsOpen facts question.subject question.name.items
+IsNew facts (Memory error) = Unit {0}
+
+-- the folder that the program says is shared
+abbrev pub common_of : Common → rule.Common
+common_of Own = rule.Own
+common_of (Linked folder) = rule.Linked folder.items
+common_of Broken = rule.Broken
+
+-- how the program says that a git directory is named
+abbrev pub form_of : Form → rule.Form
+form_of Given = rule.IsGiven
+form_of Below = rule.IsBelow
+form_of Bare = rule.IsBare
+
+-- the git directory that the program shows
+abbrev pub git_dir_of : GitDir → rule.GitDir
+git_dir_of it = record { name = it.name.items; named = it.named.items; form = form_of it.form }

@@ -1,0 +1,187 @@
+//! Facts, and the questions that they answer.
+ghost use Rattle.std.specs.Prelude.{◌≡◌, true, false, MatchResult, MatchOption, is_some, option_copied};
+ghost use Rattle.config_search.specs.System.{System, AreTrueIn, Differs, IsOpen, answer_of};
+ghost use Rattle.config_search.specs.Shown.{IsNew};
+ghost use Rattle.config_search.specs.Names.{inside};
+ghost use Rattle.config_search.specs.Rule as rule;
+ghost use Rattle.config_search.specs.declared.fact.Stop.TheVariants.{Memory};
+
+use crate::name::{inside, is_inside};
+use std::alloc::{AllocError, Global};
+use std::cell::Cell;
+
+/// A fact: the answer to a question about a subject, which is one of the numbers of this crate, and a name.
+#[repr(C)]
+#[derive(Clone, Copy)]
+pub struct Fact<'t> {
+    /// The name.
+    pub name: &'t [u8],
+    /// The answer.
+    pub text: &'t [u8],
+    /// The subject.
+    pub subject: u32,
+    /// 0 if there is no answer, and otherwise the answer is the text.
+    pub has: u32,
+}
+
+/// A question.
+#[derive(Drop)]
+pub struct Question {
+    /// Its subject.
+    pub subject: u32,
+    /// The name that it is about.
+    pub name: Vec<u8>,
+}
+
+/// Why a search stops before its end.
+#[derive(Drop)]
+pub enum Stop {
+    /// It needs the answer to this question, which no fact gives.
+    Ask(Question),
+    /// Memory is refused.
+    Memory(AllocError),
+}
+
+impl From<AllocError> for Stop {
+    ghost from_gives = { λ error stop. stop ≡ Memory error };
+
+    fn from(error: AllocError) -> Stop {
+        Stop::Memory(error)
+    }
+}
+
+/// Facts that are looked up in the order in which they were asked for.
+#[derive(Drop)]
+pub(crate) struct Asked<'f, 't> {
+    pub alloc: Global,
+    pub facts: &'f [Fact<'t>],
+    next: Cell<usize>,
+}
+
+impl<'f, 't> Asked<'f, 't> {
+    /// These facts.
+    pub fn new(alloc: Global, facts: &'f [Fact<'t>]) -> Asked<'f, 't>
+        ensures { result.facts.now ≡ facts.now }
+    {
+        Asked {
+            alloc,
+            facts,
+            next: Cell::new(0),
+        }
+    }
+}
+
+/// Whether a fact is about this subject and the file of this name in a folder.
+fn is_about(fact: &Fact<'_>, subject: u32, folder: &[u8], name: &[u8]) -> bool
+    ensures yes { result ≡ true
+        → (fact.now.subject ≡ subject) × (fact.now.name.now ≡ inside folder.now name.now) }
+    ensures no { result ≡ false → Differs subject (inside folder.now name.now) fact.now }
+{
+    fact.subject == subject && is_inside(fact.name, folder, name)
+}
+
+/// The fact that answers a question, if there is one.
+fn fact_among<'t>(facts: &[Fact<'t>], subject: u32, folder: &[u8], name: &[u8]) -> Option<Fact<'t>>
+    ensures { MatchOption result (IsOpen facts.now subject (inside folder.now name.now))
+        (λ fact. (system : System) → AreTrueIn system facts.now
+        → system subject (inside folder.now name.now) ≡ answer_of fact) }
+{
+    for fact in facts {
+        if is_about(fact, subject, folder, name) {
+            return Some(*fact);
+        }
+    }
+    None
+}
+
+/// The fact that answers a question, if there is one: most often the next.
+fn fact_of<'t>(asked: &Asked<'_, 't>, subject: u32, folder: &[u8], name: &[u8]) -> Option<Fact<'t>>
+    ensures { MatchOption result (IsOpen asked.now.facts.now subject (inside folder.now name.now))
+        (λ fact. (system : System) → AreTrueIn system asked.now.facts.now
+        → system subject (inside folder.now name.now) ≡ answer_of fact) }
+{
+    let at = asked.next.get();
+    let facts = asked.facts;
+    if at < facts.len() {
+        let fact = &facts[at];
+        if is_about(fact, subject, folder, name) {
+            asked.next.set(at + 1);
+            return Some(*fact);
+        }
+    }
+    fact_among(facts, subject, folder, name)
+}
+
+/// The fact that answers a question about the file of this name in a folder, or a stop with the question.
+pub(crate) fn fact_in<'t>(
+    asked: &Asked<'_, 't>,
+    subject: u32,
+    folder: &[u8],
+    name: &[u8],
+) -> Result<Fact<'t>, Stop>
+    ensures { MatchResult result
+        (λ fact. (system : System) → AreTrueIn system asked.now.facts.now
+        → system subject (inside folder.now name.now) ≡ answer_of fact)
+        (IsNew asked.now.facts.now) }
+{
+    match fact_of(asked, subject, folder, name) {
+        Some(fact) => Ok(fact),
+        None => {
+            let name = inside(asked.alloc, folder, name)?;
+            Err(Stop::Ask(Question { subject, name }))
+        }
+    }
+}
+
+/// The text of the answer to a question about the file of this name in a folder, or a stop with the question.
+pub(crate) fn told_in<'t>(
+    asked: &Asked<'_, 't>,
+    subject: u32,
+    folder: &[u8],
+    name: &[u8],
+) -> Result<Option<&'t [u8]>, Stop>
+    ensures { MatchResult result
+        (λ answer. (system : System) → AreTrueIn system asked.now.facts.now
+        → option_copied answer ≡ system subject (inside folder.now name.now))
+        (IsNew asked.now.facts.now) }
+{
+    let fact = fact_in(asked, subject, folder, name)?;
+    if fact.has == 0 {
+        return Ok(None);
+    }
+    Ok(Some(fact.text))
+}
+
+/// The text of the answer to a question about this name, or a stop with the question.
+pub(crate) fn told<'t>(
+    asked: &Asked<'_, 't>,
+    subject: u32,
+    name: &[u8],
+) -> Result<Option<&'t [u8]>, Stop>
+    ensures { MatchResult result
+        (λ answer. (system : System) → AreTrueIn system asked.now.facts.now
+        → option_copied answer ≡ system subject name.now)
+        (IsNew asked.now.facts.now) }
+{
+    told_in(asked, subject, b"", name)
+}
+
+/// Whether an answer is this word.
+pub(crate) fn is_word(answer: Option<&[u8]>, word: &[u8]) -> bool
+    ensures { result ≡ rule.is_word word.now (option_copied answer.entry) }
+{
+    match answer {
+        Some(text) => text == word,
+        None => false,
+    }
+}
+
+/// Whether there is an answer.
+pub(crate) fn is_known(answer: Option<&[u8]>) -> bool
+    ensures { result ≡ is_some (option_copied answer.entry) }
+{
+    match answer {
+        Some(_) => true,
+        None => false,
+    }
+}

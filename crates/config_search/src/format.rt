@@ -1,0 +1,315 @@
+//! The format of a repository: its version, its extensions, and whether it is bare.
+
+use crate::answer::{FaultKind, Refusal};
+use crate::fact::{Asked, told, told_in};
+use crate::git_dir::Common;
+use crate::halt::{Halt, fault};
+use crate::name::{inside, joined};
+use crate::protected::at_line;
+use crate::{SETTINGS, VARIABLE};
+use bstr::ByteSlice;
+use config_file::{AddError, Setting, Settings};
+use gix_config_value::{Boolean, Integer};
+use std::alloc::{AllocError, Global};
+use std::fmt;
+
+/// What the file of a repository says of its format.
+#[derive(Drop)]
+pub(crate) struct Format {
+    /// Whether `core.bare` says that it is bare.
+    pub is_bare: bool,
+    /// The folder of `core.worktree`.
+    pub work_tree: Option<Vec<u8>>,
+    /// Whether each work tree has a file of its own.
+    pub has_worktree_files: bool,
+    /// How references are stored.
+    pub store: Store,
+    version: Option<i32>,
+    unknown: Option<Vec<u8>>,
+    of_later: Option<Vec<u8>>,
+}
+
+/// What Git knows of an extension.
+#[derive(Clone, Copy)]
+enum Extension {
+    /// It is none.
+    Unknown,
+    /// Its value is not looked at.
+    Any,
+    /// Its value is a boolean.
+    Boolean,
+    /// It needs a value.
+    Text,
+    /// Its value is the name of a hash.
+    Hash,
+    /// Its value says how references are stored.
+    Store,
+}
+
+/// How references are stored, and in which folder, if they are in a place of their own.
+#[derive(Drop)]
+pub(crate) struct Store {
+    pub is_table: bool,
+    pub place: Option<Vec<u8>>,
+}
+
+/// The extensions that count in each version.
+fn early(name: &[u8]) -> Extension {
+    match str::from_utf8(name) {
+        Ok("noop") => Extension::Any,
+        Ok("preciousobjects" | "worktreeconfig") => Extension::Boolean,
+        Ok("partialclone") => Extension::Text,
+        _ => Extension::Unknown,
+    }
+}
+
+/// The extensions that need version 1.
+fn later(name: &[u8]) -> Extension {
+    match str::from_utf8(name) {
+        Ok("noop-v1") => Extension::Any,
+        Ok("objectformat" | "compatobjectformat") => Extension::Hash,
+        Ok("refstorage") => Extension::Store,
+        Ok("relativeworktrees" | "submodulepathconfig") => Extension::Boolean,
+        _ => Extension::Unknown,
+    }
+}
+
+/// What a text says of how references are stored: a form, and a place that may follow `://`. `None` if Git knows no
+/// such form.
+fn store_in(alloc: Global, text: &[u8]) -> Result<Option<Store>, AllocError> {
+    let (form, place) = match text.split_once_str(b"://") {
+        Some((form, place)) => (form, Some(place.to_vec(alloc)?)),
+        None => (text, None),
+    };
+    let is_table = form == b"reftable".as_slice();
+    if is_table || form == b"files".as_slice() {
+        return Ok(Some(Store { is_table, place }));
+    }
+    Ok(None)
+}
+
+/// What GIT_REFERENCE_BACKEND says of how references are stored, or `None` if it is not set.
+pub(crate) fn given_store(asked: &Asked<'_, '_>) -> Result<Option<Store>, Halt> {
+    let Some(given) = told(asked, VARIABLE, b"GIT_REFERENCE_BACKEND")? else {
+        return Ok(None);
+    };
+    let store = store_in(asked.alloc, given)?;
+    if store.is_some() {
+        return Ok(store);
+    }
+    let why = joined(asked.alloc, b"unknown ref storage format: '", given, b"'")?;
+    let name = b"GIT_REFERENCE_BACKEND";
+    Err(fault(asked.alloc, FaultKind::Value, name, 0, &why)?)
+}
+
+/// Why Git stops at a setting.
+fn stop<F: fmt::Display + Drop>(
+    alloc: Global,
+    setting: &Setting<'_>,
+    why: F,
+) -> Result<Halt, AllocError> {
+    let (file, line) = (setting.file, setting.entry.line);
+    let whole = format!(in alloc; "{}", setting.refused(why))?;
+    // the place of the setting comes first, which is told apart
+    let place = format!(in alloc; "{line}: ")?
+        .len()
+        .saturating_add(file.len())
+        .saturating_add(1);
+    let reason = whole.as_bytes().get(place..).unwrap_or_default();
+    fault(alloc, FaultKind::Value, file, line, reason)
+}
+
+/// The boolean of a setting.
+fn boolean(alloc: Global, setting: &Setting<'_>) -> Result<bool, Halt> {
+    match setting.read::<Boolean>() {
+        Ok(boolean) => Ok(boolean.0),
+        Err(refused) => Err(stop(alloc, setting, refused.fault)?),
+    }
+}
+
+/// The text of a setting, which needs one.
+fn text<'s>(alloc: Global, setting: &'s Setting<'_>) -> Result<&'s [u8], Halt> {
+    match setting.value.as_deref() {
+        Some(text) => Ok(text),
+        None => Err(stop(alloc, setting, "no value")?),
+    }
+}
+
+/// The version that a setting has.
+fn version(alloc: Global, setting: &Setting<'_>) -> Result<i32, Halt> {
+    match Integer::from_bytes::<i32>(setting.text()) {
+        Ok(version) => Ok(version),
+        Err(error) => Err(stop(alloc, setting, error.fault)?),
+    }
+}
+
+/// Whether an extension may have the value of this setting.
+fn is_right(alloc: Global, setting: &Setting<'_>, extension: Extension) -> Result<bool, Halt> {
+    match extension {
+        Extension::Unknown | Extension::Any => Ok(true),
+        Extension::Boolean => {
+            boolean(alloc, setting)?;
+            Ok(true)
+        }
+        Extension::Text => Ok(setting.value.is_some()),
+        Extension::Hash => Ok(matches!(
+            str::from_utf8(text(alloc, setting)?),
+            Ok("sha1" | "sha256")
+        )),
+        Extension::Store => Ok(store_in(alloc, text(alloc, setting)?)?.is_some()),
+    }
+}
+
+/// Whether an extension is known. It then has to have a value that it may have.
+fn is_extension(alloc: Global, setting: &Setting<'_>, extension: Extension) -> Result<bool, Halt> {
+    if matches!(extension, Extension::Unknown) {
+        return Ok(false);
+    }
+    if is_right(alloc, setting, extension)? {
+        return Ok(true);
+    }
+    Err(stop(alloc, setting, "no value of this extension")?)
+}
+
+/// Takes the name of an extension, if it is the first.
+fn take_first(first: &mut Option<Vec<u8>>, alloc: Global, name: &[u8]) -> Result<(), AllocError> {
+    if first.is_none() {
+        *first = Some(name.to_vec(alloc)?);
+    }
+    Ok(())
+}
+
+impl Format {
+    /// A format of which nothing is said.
+    fn new() -> Format {
+        Format {
+            is_bare: false,
+            work_tree: None,
+            has_worktree_files: false,
+            store: Store {
+                is_table: false,
+                place: None,
+            },
+            version: None,
+            unknown: None,
+            of_later: None,
+        }
+    }
+
+    /// Takes an extension of this name, in lower case.
+    fn extend(&mut self, alloc: Global, setting: &Setting<'_>, name: &[u8]) -> Result<(), Halt> {
+        if is_extension(alloc, setting, early(name))? {
+            return Ok(());
+        }
+        if is_extension(alloc, setting, later(name))? {
+            return Ok(take_first(&mut self.of_later, alloc, name)?);
+        }
+        Ok(take_first(&mut self.unknown, alloc, name)?)
+    }
+
+    /// Takes what a setting of this key says of the work tree.
+    fn take_work_tree(
+        &mut self,
+        alloc: Global,
+        setting: &Setting<'_>,
+        key: &[u8],
+    ) -> Result<(), Halt> {
+        match key {
+            b"core.bare" => self.is_bare = boolean(alloc, setting)?,
+            b"core.worktree" => {
+                self.work_tree = Some(text(alloc, setting)?.to_vec(alloc)?);
+            }
+            _ => {}
+        }
+        Ok(())
+    }
+
+    /// Takes what a setting of this key says.
+    fn take_named(&mut self, alloc: Global, setting: &Setting<'_>, key: &[u8]) -> Result<(), Halt> {
+        match key {
+            b"core.repositoryformatversion" => self.version = Some(version(alloc, setting)?),
+            b"extensions.worktreeconfig" => self.has_worktree_files = boolean(alloc, setting)?,
+            b"extensions.refstorage" => {
+                if let Some(store) = store_in(alloc, text(alloc, setting)?)? {
+                    self.store = store;
+                }
+            }
+            _ => self.take_work_tree(alloc, setting, key)?,
+        }
+        match key.strip_prefix(b"extensions.") {
+            Some(name) => self.extend(alloc, setting, name),
+            None => Ok(()),
+        }
+    }
+
+    /// Takes what the file of the repository says, or that of a work tree of its own. Git looks at no include here.
+    fn take_file(
+        &mut self,
+        asked: &Asked<'_, '_>,
+        folder: &[u8],
+        name: &[u8],
+        is_own: bool,
+    ) -> Result<(), Halt> {
+        let Some(text) = told_in(asked, SETTINGS, folder, name)? else {
+            return Ok(());
+        };
+        let file = inside(asked.alloc, folder, name)?;
+        for setting in &settings_in(asked.alloc, &file, text)?.entries {
+            let key = setting.entry.key_text(asked.alloc)?;
+            if is_own {
+                self.take_work_tree(asked.alloc, setting, &key)?;
+            } else {
+                self.take_named(asked.alloc, setting, &key)?;
+            }
+        }
+        Ok(())
+    }
+
+    /// Why Git uses no repository of this format, if it does not.
+    pub fn refusal(&self, alloc: Global) -> Result<Option<Refusal>, AllocError> {
+        if let Some(version @ 2..) = self.version {
+            return Ok(Some(Refusal::Version(version)));
+        }
+        match (self.version, &self.unknown, &self.of_later) {
+            (Some(1), Some(name), _) => Ok(Some(Refusal::Extension(name.to_vec(alloc)?))),
+            (Some(1), None, _) | (_, _, None) => Ok(None),
+            (_, _, Some(name)) => Ok(Some(Refusal::ExtensionOfLater(name.to_vec(alloc)?))),
+        }
+    }
+}
+
+/// The entries of a text.
+fn settings_in<'s>(alloc: Global, file: &'s [u8], text: &'s [u8]) -> Result<Settings<'s>, Halt> {
+    let mut settings = Settings::new(alloc);
+    match settings.add_file(alloc, file, text) {
+        Ok(()) => Ok(settings),
+        Err(AddError::Line { file, error }) => Err(at_line(alloc, file, error)?),
+        Err(_) => Err(Halt::from(AllocError)),
+    }
+}
+
+/// The format that the file of a repository states. A file that states no version states nothing.
+fn stated(asked: &Asked<'_, '_>, common: &[u8]) -> Result<Format, Halt> {
+    let mut format = Format::new();
+    format.take_file(asked, common, b"config", false)?;
+    match format.version {
+        Some(version) if 0 <= version => Ok(format),
+        _ => Ok(Format::new()),
+    }
+}
+
+/// The format of a git directory. What it shares with others says nothing of the top of its work tree.
+pub(crate) fn format_of(
+    asked: &Asked<'_, '_>,
+    git_dir: &[u8],
+    common: &Common,
+) -> Result<Format, Halt> {
+    let mut format = stated(asked, common.or(git_dir))?;
+    if format.has_worktree_files {
+        format.take_file(asked, git_dir, b"config.worktree", true)?;
+    } else if common.is_linked() {
+        format.is_bare = false;
+        format.work_tree = None;
+    }
+    Ok(format)
+}

@@ -1,0 +1,226 @@
+//! What makes a folder a git directory.
+ghost use Rattle.std.specs.Prelude.{◌≡◌, [], codes, MatchResult, IfOk, option_copied, option_map};
+ghost use Rattle.config_search.specs.System.{System, AreTrueIn};
+ghost use Rattle.config_search.specs.Shown.{IsNew, common_of as common_shown};
+ghost use Rattle.config_search.specs.Rule as rule;
+
+use crate::fact::{Asked, Stop, is_known, is_word, told, told_in};
+use crate::name::{folder_of, inside, line};
+use crate::start::has_head;
+use crate::{KIND, LEADS, REAL, TEXT, VARIABLE};
+use std::alloc::{AllocError, Global};
+
+/// The folder that a git directory shares with others.
+#[derive(Drop)]
+pub(crate) enum Common {
+    /// The git directory itself.
+    Own,
+    /// Another one.
+    Linked(Vec<u8>),
+    /// None: the file commondir names no folder, where Git stops.
+    Broken,
+}
+
+impl Common {
+    /// The folder of a git directory.
+    pub fn or<'a>(&'a self, git_dir: &'a [u8]) -> &'a [u8] {
+        match self {
+            Common::Linked(folder) => folder,
+            _ => git_dir,
+        }
+    }
+
+    /// Whether it is another folder.
+    pub fn is_linked(&self) -> bool {
+        matches!(self, Common::Linked(_))
+    }
+}
+
+/// Whether a name in a folder leads to a folder.
+pub(crate) fn has_folder(asked: &Asked<'_, '_>, folder: &[u8], name: &[u8]) -> Result<bool, Stop>
+    ensures { MatchResult result
+        (λ has. (system : System) → AreTrueIn system asked.now.facts.now
+        → has ≡ rule.has_folder system folder.now name.now)
+        (IsNew asked.now.facts.now) }
+{
+    Ok(is_word(told_in(asked, LEADS, folder, name)?, b"folder"))
+}
+
+/// Whether there is a folder of this name, or one in which it may be.
+fn may_be_folder(asked: &Asked<'_, '_>, name: &[u8]) -> Result<bool, Stop>
+    ensures { MatchResult result
+        (λ may. (system : System) → AreTrueIn system asked.now.facts.now
+        → may ≡ rule.may_be_folder system name.now)
+        (IsNew asked.now.facts.now) }
+{
+    if has_folder(asked, b"", name)? {
+        return Ok(true);
+    }
+    has_folder(asked, b"", folder_of(name))
+}
+
+/// What a text of the file commondir names.
+fn linked_by(asked: &Asked<'_, '_>, git_dir: &[u8], text: Option<&[u8]>) -> Result<Common, Stop>
+    ensures { MatchResult result
+        (λ common. (system : System) → AreTrueIn system asked.now.facts.now
+        → common_shown common ≡ rule.linked_by system git_dir.now (option_copied text.entry))
+        (IsNew asked.now.facts.now) }
+{
+    let Some(text) = text else {
+        return Ok(Common::Broken);
+    };
+    if text.is_empty() {
+        return Ok(Common::Broken);
+    }
+    let folder = inside(asked.alloc, git_dir, line(text))?;
+    if may_be_folder(asked, &folder)? {
+        return Ok(Common::Linked(folder));
+    }
+    Ok(Common::Broken)
+}
+
+/// What the file commondir of a git directory names.
+pub(crate) fn linked_folder(asked: &Asked<'_, '_>, git_dir: &[u8]) -> Result<Common, Stop>
+    ensures { MatchResult result
+        (λ common. (system : System) → AreTrueIn system asked.now.facts.now
+        → common_shown common ≡ rule.linked_folder system git_dir.now)
+        (IsNew asked.now.facts.now) }
+{
+    let kind = told_in(asked, KIND, git_dir, b"commondir")?;
+    if !is_known(kind) {
+        return Ok(Common::Own);
+    }
+    let text = told_in(asked, TEXT, git_dir, b"commondir")?;
+    Ok(linked_by(asked, git_dir, text)?)
+}
+
+/// The folder that a git directory shares: that of GIT_COMMON_DIR, or of its file commondir.
+pub(crate) fn common_of(asked: &Asked<'_, '_>, git_dir: &[u8]) -> Result<Common, Stop>
+    ensures { MatchResult result
+        (λ common. (system : System) → AreTrueIn system asked.now.facts.now
+        → common_shown common ≡ rule.common_of system git_dir.now)
+        (IsNew asked.now.facts.now) }
+{
+    match told(asked, VARIABLE, b"GIT_COMMON_DIR")? {
+        Some(folder) => Ok(Common::Linked(folder.to_vec(asked.alloc)?)),
+        None => Ok(linked_folder(asked, git_dir)?),
+    }
+}
+
+/// Whether a folder has objects, or GIT_OBJECT_DIRECTORY, if it is given, names one in the folder in which Git starts.
+fn has_objects_by(
+    asked: &Asked<'_, '_>,
+    start: &[u8],
+    folder: &[u8],
+    given: Option<&[u8]>,
+) -> Result<bool, Stop>
+    ensures { MatchResult result
+        (λ has. (system : System) → AreTrueIn system asked.now.facts.now
+        → has ≡ rule.has_objects_by system start.now folder.now (option_copied given.entry))
+        (IsNew asked.now.facts.now) }
+{
+    match given {
+        None => Ok(has_folder(asked, folder, b"objects")?),
+        Some(given) if given.is_empty() => Ok(false),
+        Some(given) => Ok(has_folder(asked, start, given)?),
+    }
+}
+
+/// Whether there are objects, and refs in a folder.
+fn has_folders(asked: &Asked<'_, '_>, start: &[u8], folder: &[u8]) -> Result<bool, Stop>
+    ensures { MatchResult result
+        (λ has. (system : System) → AreTrueIn system asked.now.facts.now
+        → has ≡ rule.has_folders system start.now folder.now)
+        (IsNew asked.now.facts.now) }
+{
+    let given = told(asked, VARIABLE, b"GIT_OBJECT_DIRECTORY")?;
+    if !has_objects_by(asked, start, folder, given)? {
+        return Ok(false);
+    }
+    Ok(has_folder(asked, folder, b"refs")?)
+}
+
+/// Whether a git directory that shares this has objects and refs, or Git stops at it.
+fn shares(asked: &Asked<'_, '_>, start: &[u8], folder: &[u8], common: &Common) -> Result<bool, Stop>
+    ensures { MatchResult result
+        (λ has. (system : System) → AreTrueIn system asked.now.facts.now
+        → has ≡ rule.shares system start.now folder.now (common_shown common.now))
+        (IsNew asked.now.facts.now) }
+{
+    match common {
+        Common::Own => Ok(has_folders(asked, start, folder)?),
+        Common::Linked(other) => Ok(has_folders(asked, start, other)?),
+        Common::Broken => Ok(true),
+    }
+}
+
+/// Whether this folder is a git directory: its HEAD is Git's, there are objects, and what it shares has refs. One whose
+/// file commondir names no folder counts, and Git stops there. A search begins in the folder `start`.
+#[tactic(auto, unfolding(crate::specs::Rule::is_git_dir))]
+pub(crate) fn is_git_dir(asked: &Asked<'_, '_>, start: &[u8], folder: &[u8]) -> Result<bool, Stop>
+    ensures { MatchResult result
+        (λ is. (system : System) → AreTrueIn system asked.now.facts.now
+        → is ≡ rule.is_git_dir system start.now folder.now)
+        (IsNew asked.now.facts.now) }
+{
+    if !has_head(asked, folder)? {
+        return Ok(false);
+    }
+    let common = common_of(asked, folder)?;
+    Ok(shares(asked, start, folder, &common)?)
+}
+
+/// A name from the root without links, or the name itself if the system knows none.
+pub(crate) fn resolved(asked: &Asked<'_, '_>, name: &[u8]) -> Result<Vec<u8>, Stop>
+    ensures { MatchResult result
+        (λ real. (system : System) → AreTrueIn system asked.now.facts.now
+        → real.items ≡ rule.resolved system name.now)
+        (IsNew asked.now.facts.now) }
+{
+    match told(asked, REAL, name)? {
+        Some(real) => Ok(real.to_vec(asked.alloc)?),
+        None => Ok(name.to_vec(asked.alloc)?),
+    }
+}
+
+/// The name that a text `gitdir: NAME` gives in a folder, or `None` if it gives none.
+fn target(alloc: Global, folder: &[u8], text: Option<&[u8]>) -> Result<Option<Vec<u8>>, AllocError>
+    ensures { IfOk result (λ name. option_map (λ n. n.items) name
+        ≡ rule.target folder.now (option_copied text.entry)) }
+{
+    let Some(text) = text else {
+        return Ok(None);
+    };
+    match line(text).strip_prefix(b"gitdir: ") {
+        Some(name) => Ok(Some(inside(alloc, folder, name)?)),
+        None => Ok(None),
+    }
+}
+
+/// Whether a file of this kind may hold a line.
+fn may_link(kind: Option<&[u8]>) -> bool
+    ensures { result ≡ rule.may_link (option_copied kind.entry) }
+{
+    match kind {
+        Some(kind) => kind != b"folder".as_slice(),
+        None => false,
+    }
+}
+
+/// The name to which the line `gitdir: ..` of the file of this name leads, or `None` if it leads to none.
+pub(crate) fn linked(asked: &Asked<'_, '_>, name: &[u8]) -> Result<Option<Vec<u8>>, Stop>
+    ensures { MatchResult result
+        (λ found. (system : System) → AreTrueIn system asked.now.facts.now
+        → option_map (λ n. n.items) found ≡ rule.linked system name.now)
+        (IsNew asked.now.facts.now) }
+{
+    let kind = told(asked, KIND, name)?;
+    if !may_link(kind) {
+        return Ok(None);
+    }
+    let text = told(asked, TEXT, name)?;
+    match target(asked.alloc, folder_of(name), text)? {
+        Some(target) => Ok(Some(resolved(asked, &target)?)),
+        None => Ok(None),
+    }
+}

@@ -1,0 +1,186 @@
+//! The branch to which HEAD of a git directory leads.
+
+use crate::fact::{Asked, Stop, told_in};
+use crate::format::Store;
+use crate::git_dir::{Common, linked_folder};
+use crate::name::{before_nul, inside, last_part};
+use crate::reftable::target_in;
+use crate::start::{count_digits, without_blanks};
+use crate::{KIND, LEADS, LINK, TEXT};
+use bstr::ByteSlice;
+use std::alloc::AllocError;
+
+/// How many references Git reads of which each names the next one.
+const DEPTH: usize = 5;
+
+/// Whether Git takes this for a blank around a reference.
+fn is_blank(character: char) -> bool {
+    matches!(character, ' ' | '\t' | '\n' | '\r')
+}
+
+/// Whether the name of a reference may have this byte.
+fn is_allowed(byte: u8) -> bool {
+    !byte.is_ascii_control() && !b" ~^:?*[\\".contains(&byte)
+}
+
+/// Whether the name of a reference may have this between two slashes.
+fn is_part(part: &[u8]) -> bool {
+    !part.is_empty() && !part.starts_with(b".") && !part.ends_with(b".lock")
+}
+
+/// Whether a reference may have this name, by the rules of git-check-ref-format(1).
+fn is_reference(name: &[u8]) -> bool {
+    for byte in name {
+        if !is_allowed(*byte) {
+            return false;
+        }
+    }
+    for part in name.split_str(b"/") {
+        if !is_part(part) {
+            return false;
+        }
+    }
+    !name.contains_str(b"..") && !name.contains_str(b"@{") && !name.ends_with(b".")
+}
+
+/// What is kept of a reference.
+#[derive(Clone, Copy)]
+enum Reference<'t> {
+    /// The name of another one.
+    Symbolic(&'t [u8]),
+    /// An object, or nothing.
+    Last,
+    /// A text that Git does not understand.
+    Broken,
+}
+
+/// The reference that is kept in a file with this text.
+fn reference_in(text: &[u8]) -> Reference<'_> {
+    let text = before_nul(text.trim_end_with(is_blank));
+    if let Some(target) = text.strip_prefix(b"ref:") {
+        return Reference::Symbolic(without_blanks(target));
+    }
+    match text.split_at_checked(count_digits(text)) {
+        Some((id, [] | [b' ' | b'\t' | b'\n' | b'\r', ..])) if matches!(id.len(), 40 | 64) => {
+            Reference::Last
+        }
+        _ => Reference::Broken,
+    }
+}
+
+/// The reference that is kept in the file of this name in a folder, to which a link may lead.
+fn text_at<'t>(asked: &Asked<'_, 't>, folder: &[u8], name: &[u8]) -> Result<Reference<'t>, Stop> {
+    match told_in(asked, TEXT, folder, name)? {
+        Some(text) => Ok(reference_in(text)),
+        None => Ok(Reference::Broken),
+    }
+}
+
+/// The reference that is kept where this link leads.
+fn linked_at<'t>(asked: &Asked<'_, 't>, folder: &[u8], name: &[u8]) -> Result<Reference<'t>, Stop> {
+    match told_in(asked, LINK, folder, name)? {
+        Some(target) if target.starts_with(b"refs/") && is_reference(target) => {
+            Ok(Reference::Symbolic(target))
+        }
+        _ => match told_in(asked, LEADS, folder, name)? {
+            None | Some(b"folder") => Ok(Reference::Last),
+            _ => text_at(asked, folder, name),
+        },
+    }
+}
+
+/// The reference that is kept in the file of this name in a folder. A folder counts as not there.
+fn reference_at<'t>(
+    asked: &Asked<'_, 't>,
+    folder: &[u8],
+    name: &[u8],
+) -> Result<Reference<'t>, Stop> {
+    match told_in(asked, KIND, folder, name)? {
+        None | Some(b"folder") => Ok(Reference::Last),
+        Some(b"link") => linked_at(asked, folder, name),
+        _ => text_at(asked, folder, name),
+    }
+}
+
+/// Where references are kept: HEAD in the first folder, and branches in that which work trees share.
+#[derive(Drop)]
+struct References {
+    is_table: bool,
+    own: Vec<u8>,
+    shared: Vec<u8>,
+}
+
+/// Where a git directory keeps references that are in a place of their own.
+fn references_in(
+    asked: &Asked<'_, '_>,
+    git_dir: &[u8],
+    linked: &Common,
+    store: &Store,
+    place: &[u8],
+) -> Result<References, AllocError> {
+    let shared = inside(asked.alloc, linked.or(git_dir), place)?;
+    let own = if linked.is_linked() {
+        let trees = inside(asked.alloc, &shared, b"worktrees")?;
+        inside(asked.alloc, &trees, last_part(git_dir))?
+    } else {
+        shared.to_vec(asked.alloc)?
+    };
+    Ok(References {
+        is_table: store.is_table,
+        own,
+        shared,
+    })
+}
+
+/// Where a git directory keeps references.
+fn references_of(asked: &Asked<'_, '_>, git_dir: &[u8], store: &Store) -> Result<References, Stop> {
+    let linked = linked_folder(asked, git_dir)?;
+    if let Some(place) = &store.place {
+        return Ok(references_in(asked, git_dir, &linked, store, place)?);
+    }
+    Ok(References {
+        is_table: store.is_table,
+        own: git_dir.to_vec(asked.alloc)?,
+        shared: linked.or(git_dir).to_vec(asked.alloc)?,
+    })
+}
+
+impl References {
+    /// The reference of this name.
+    fn get<'t>(&self, asked: &Asked<'_, 't>, name: &[u8]) -> Result<Reference<'t>, Stop> {
+        let folder = if name == b"HEAD".as_slice() {
+            &self.own
+        } else {
+            &self.shared
+        };
+        if !self.is_table {
+            return reference_at(asked, folder, name);
+        }
+        match target_in(asked, folder, name)? {
+            Some(target) => Ok(Reference::Symbolic(target)),
+            None => Ok(Reference::Last),
+        }
+    }
+}
+
+/// The branch to which HEAD of a git directory leads, or `None` if it leads to no branch.
+pub(crate) fn branch_of<'t>(
+    asked: &Asked<'_, 't>,
+    git_dir: &[u8],
+    store: &Store,
+) -> Result<Option<&'t [u8]>, Stop> {
+    let references = references_of(asked, git_dir, store)?;
+    let mut name: &'t [u8] = b"HEAD";
+    for _ in 0..DEPTH {
+        let target = match references.get(asked, name)? {
+            Reference::Symbolic(target) => target,
+            Reference::Last => return Ok(name.strip_prefix(b"refs/heads/")),
+            Reference::Broken => return Ok(None),
+        };
+        if !is_reference(target) {
+            return Ok(None);
+        }
+        name = target;
+    }
+    Ok(None)
+}

@@ -1,0 +1,83 @@
+//! What Git reads in a folder, as a pure function: its caller knows the system, and tells it facts.
+//!
+//! [`search`] takes a folder and a table of [`Fact`]s, each of which answers a question, and ends with an
+//! [`Answer`]: where Git works, the repository that it uses or why it uses none, and the files that it reads. If it
+//! needs what no fact tells, it stops with that question as [`Stop::Ask`]. The caller adds the fact and searches
+//! again, until no question is left. It answers each question once, and may also tell what was not asked yet.
+//!
+//! A [`Question`] has a subject, one of the numbers below, and a name. Its answer is a text, or none, if the system has
+//! no answer. The name of a file that does not begin with `/` begins in the current folder of the caller. A caller
+//! whose system cannot open a file of such a name answers as if it were not there.
+//!
+//! | Subject | Name | Text of the answer | None |
+//! |---|---|---|---|
+//! | [`VARIABLE`] | of an environment variable | its value | it is not set |
+//! | [`CURRENT`] | empty | the current folder from the root, without links | unknown |
+//! | [`KIND`] | of a file | what it is itself, a link not followed (`lstat`): `link`, `folder`, `file`, `other`, or `unknown` if the system does not let us know | no such file, or below a file |
+//! | [`LEADS`] | of a file | what it leads to, links followed (`stat`): `folder`, `file`, `other` or `unknown` | the same |
+//! | [`LINK`] | of a link | the name in it (`readlink`) | it is no link |
+//! | [`REAL`] | of a file | its name from the root without links (`realpath`) | unknown |
+//! | [`TEXT`] | of a file | its first 65,536 bytes (all, if it is shorter) | no regular file, links followed, or not readable |
+//! | [`BLOCK`] | of a file | its first 16,777,216 bytes | the same |
+//! | [`SETTINGS`] | of a file | its whole text, up to 1 GiB; a pipe or a device is read too | it is not read |
+//! | [`INCLUDED`] | of a file | its whole text, of a regular file or a device of characters only | it is not read |
+//! | [`REFUSAL`] | of a file that is not read | `denied` if the user may not read it, and otherwise why, in words | there is no such file, or it is below a file |
+//! | [`DEVICE`] | of a file | bytes that tell its device from others (`st_dev`), links followed | unknown |
+//! | [`IDENTITY`] | of a file | bytes that tell it from all other files (`st_dev` and `st_ino`), links followed | unknown |
+//! | [`OWNER`] | of a file | the number of its owner in decimal, a link not followed | unknown |
+//! | [`USER`] | empty | the number of the user as whom the caller runs (`geteuid`), in decimal | unknown |
+//! | [`HOME`] | of a user | the home folder of this user | no such user |
+#![tactic(auto)]
+
+pub mod answer;
+pub mod fact;
+mod files;
+mod format;
+mod git_dir;
+mod halt;
+mod head;
+pub mod laws;
+mod name;
+mod owner;
+mod place;
+mod protected;
+mod reftable;
+mod seek;
+mod start;
+
+pub use crate::answer::{Answer, Fault, FaultKind, Named, Outcome, Refusal, Repository};
+pub use crate::fact::{Fact, Question, Stop};
+pub use crate::place::search;
+
+/// Asks for the value of a variable.
+pub const VARIABLE: u32 = 1;
+/// Asks for the current folder, by an empty name.
+pub const CURRENT: u32 = 2;
+/// Asks what a file is itself.
+pub const KIND: u32 = 3;
+/// Asks what a file is to which links lead.
+pub const LEADS: u32 = 4;
+/// Asks for the name in a link.
+pub const LINK: u32 = 5;
+/// Asks for a name from the root without links.
+pub const REAL: u32 = 6;
+/// Asks for the start of a file.
+pub const TEXT: u32 = 7;
+/// Asks for a long start of a file.
+pub const BLOCK: u32 = 8;
+/// Asks for the text of a file of settings.
+pub const SETTINGS: u32 = 9;
+/// Asks for the text of a file that is included.
+pub const INCLUDED: u32 = 10;
+/// Asks why the text of a file is not read.
+pub const REFUSAL: u32 = 11;
+/// Asks for the device of a file.
+pub const DEVICE: u32 = 12;
+/// Asks for what tells a file from others.
+pub const IDENTITY: u32 = 13;
+/// Asks for the owner of a file.
+pub const OWNER: u32 = 14;
+/// Asks for the user, by an empty name.
+pub const USER: u32 = 15;
+/// Asks for the home folder of a user.
+pub const HOME: u32 = 16;

@@ -1,0 +1,201 @@
+//! Which repositories Git trusts: those of the same owner, and those that settings name which no repository can change.
+
+use crate::answer::{FaultKind, Refusal};
+use crate::fact::{Asked, Stop, told};
+use crate::halt::{Halt, fault};
+use crate::name::{inside, joined, opened};
+use crate::protected::{Said, of_user, protected_settings};
+use crate::seek::{Folder, Form, GitDir, is_on};
+use crate::{OWNER, REAL, USER, VARIABLE};
+use bstr::ByteSlice;
+use config_file::Directories;
+use config_file::path::expand;
+
+/// The number of the user root.
+const ROOT: u32 = 0;
+
+/// The number that a text is, or `None` if it is none.
+fn number_of(text: Option<&[u8]>) -> Option<u32> {
+    str::from_utf8(text?).ok()?.parse::<u32>().ok()
+}
+
+/// Whether the file of this name, which may be a link, belongs to the user. To root it also belongs if its owner became
+/// root by sudo.
+fn is_owned(asked: &Asked<'_, '_>, name: &[u8]) -> Result<bool, Stop> {
+    let owner = number_of(told(asked, OWNER, name)?);
+    if owner.is_none() {
+        return Ok(false);
+    }
+    match number_of(told(asked, USER, b"")?) {
+        Some(ROOT) if owner == Some(ROOT) => Ok(true),
+        Some(ROOT) => Ok(number_of(told(asked, VARIABLE, b"SUDO_UID")?) == owner),
+        user => Ok(user == owner),
+    }
+}
+
+/// Whether all files that have to belong to the user do: the folder in which a git directory is found, and for `.git` of
+/// a folder also this file and the git directory. A variable may say that they do not, which Git has for tests.
+fn are_owned(asked: &Asked<'_, '_>, folder: &[u8], git_dir: &GitDir) -> Result<bool, Stop> {
+    if is_on(asked, b"GIT_TEST_ASSUME_DIFFERENT_OWNER")? {
+        return Ok(false);
+    }
+    if git_dir.form == Form::Below {
+        let link = inside(asked.alloc, folder, b".git")?;
+        if !is_owned(asked, &link)? {
+            return Ok(false);
+        }
+    }
+    if !is_owned(asked, opened(folder))? {
+        return Ok(false);
+    }
+    Ok(git_dir.form == Form::Bare || is_owned(asked, &git_dir.name)?)
+}
+
+/// The path that a value of `safe.directory` spells, or `None` if it begins with a folder that is not known.
+fn spelled(asked: &Asked<'_, '_>, value: &[u8]) -> Result<Option<Vec<u8>>, Stop> {
+    let directories = Directories {
+        home: told(asked, VARIABLE, b"HOME")?,
+        install_dir: None,
+    };
+    match expand(value, directories) {
+        Some(parts) => Ok(Some(joined(asked.alloc, parts.directory, parts.rest, b"")?)),
+        None => of_user(asked, value),
+    }
+}
+
+/// Whether the folder is below the one of this name, whose links are resolved.
+fn is_below(asked: &Asked<'_, '_>, name: &[u8], folder: &[u8]) -> Result<bool, Stop> {
+    let above = if name.is_empty() { b"/" } else { name };
+    let Some(real) = told(asked, REAL, above)? else {
+        return Ok(false);
+    };
+    match folder.strip_prefix(real.strip_suffix(b"/").unwrap_or(real)) {
+        Some(rest) => Ok(rest.starts_with(b"/")),
+        None => Ok(false),
+    }
+}
+
+/// Whether a path from the root is that of a folder, or is one above it that ends with `/*`.
+fn covers(asked: &Asked<'_, '_>, path: &[u8], folder: &[u8]) -> Result<bool, Stop> {
+    if let Some(above) = path.strip_suffix(b"/*") {
+        return is_below(asked, above, folder);
+    }
+    Ok(told(asked, REAL, path)? == Some(folder))
+}
+
+/// Whether a value of `safe.directory` names this folder: by its path, by `.` if it is the one in which Git starts, or
+/// by a path above it that ends with `/*`.
+fn names_folder(
+    asked: &Asked<'_, '_>,
+    start: &[u8],
+    value: &[u8],
+    folder: &[u8],
+) -> Result<bool, Stop> {
+    let Some(path) = spelled(asked, value)? else {
+        return Ok(false);
+    };
+    if path.as_slice() == b".".as_slice() {
+        let here = inside(asked.alloc, start, b".")?;
+        return covers(asked, &here, folder);
+    }
+    if path.starts_with(b"/") {
+        return covers(asked, &path, folder);
+    }
+    Ok(false)
+}
+
+/// Whether the last settings of `safe.directory` name this folder. An empty value takes back those before it.
+fn name_as_safe(
+    asked: &Asked<'_, '_>,
+    said: &[Said],
+    start: &[u8],
+    folder: &[u8],
+) -> Result<bool, Stop> {
+    let mut is_safe = false;
+    for setting in said {
+        if !setting.is_bare {
+            is_safe = match setting.text.as_slice() {
+                b"" => false,
+                b"*" => true,
+                value => is_safe || names_folder(asked, start, value, folder)?,
+            };
+        }
+    }
+    Ok(is_safe)
+}
+
+/// Whether the last setting of `safe.bareRepository` lets Git find bare repositories, which needs one of two words.
+fn allow_bare(asked: &Asked<'_, '_>, said: &[Said]) -> Result<bool, Halt> {
+    let mut may_be = true;
+    for setting in said {
+        if setting.is_bare {
+            may_be = match setting.text.as_slice() {
+                b"explicit" => false,
+                b"all" => true,
+                _ => {
+                    let why = b"safe.barerepository: neither 'all' nor 'explicit'";
+                    let (file, line) = (&setting.file, setting.line);
+                    return Err(fault(asked.alloc, FaultKind::Value, file, line, why)?);
+                }
+            };
+        }
+    }
+    Ok(may_be)
+}
+
+/// Whether this is the name of a git directory of a work tree, or of something below one.
+fn is_in_work_tree(folder: &[u8]) -> bool {
+    folder.ends_with(b"/.git")
+        || folder.contains_str(b"/.git/worktrees/")
+        || folder.contains_str(b"/.git/modules/")
+}
+
+/// Why Git does not use the bare repository in this folder, which it finds without GIT_DIR, if it does not.
+fn refuses_bare(
+    asked: &Asked<'_, '_>,
+    start: &[u8],
+    folder: Folder<'_>,
+) -> Result<Option<Refusal>, Halt> {
+    let may_be = allow_bare(asked, &protected_settings(asked, start)?)?;
+    let real = told(asked, REAL, opened(folder.name))?.unwrap_or(folder.path);
+    if may_be || is_in_work_tree(real) {
+        return Ok(None);
+    }
+    Ok(Some(Refusal::Bare(folder.path.to_vec(asked.alloc)?)))
+}
+
+/// Why Git does not trust what is not owned in this folder, if it does not.
+fn refuses_owner(
+    asked: &Asked<'_, '_>,
+    start: &[u8],
+    folder: Folder<'_>,
+) -> Result<Option<Refusal>, Halt> {
+    let Some(real) = told(asked, REAL, opened(folder.name))? else {
+        return Ok(Some(Refusal::Owner(folder.path.to_vec(asked.alloc)?)));
+    };
+    if name_as_safe(asked, &protected_settings(asked, start)?, start, real)? {
+        return Ok(None);
+    }
+    Ok(Some(Refusal::Owner(real.to_vec(asked.alloc)?)))
+}
+
+/// Why Git does not use the git directory that it finds in this folder, if it does not. One that GIT_DIR names is used.
+pub(crate) fn refuses(
+    asked: &Asked<'_, '_>,
+    start: &[u8],
+    folder: Folder<'_>,
+    git_dir: &GitDir,
+) -> Result<Option<Refusal>, Halt> {
+    if git_dir.form == Form::Given {
+        return Ok(None);
+    }
+    if git_dir.form == Form::Bare {
+        if let Some(refusal) = refuses_bare(asked, start, folder)? {
+            return Ok(Some(refusal));
+        }
+    }
+    if are_owned(asked, folder.name, git_dir)? {
+        return Ok(None);
+    }
+    refuses_owner(asked, start, folder)
+}

@@ -1,0 +1,318 @@
+//! Seeks the git directory of a folder, as Git does: GIT_DIR, or the first one upwards.
+
+ghost use Rattle.std.specs.Prelude.{◌≡◌, MatchResult, option_copied, option_map};
+ghost use Rattle.config_search.specs.System.{System, AreTrueIn};
+ghost use Rattle.config_search.specs.Shown.{IsNew, form_of, git_dir_of};
+ghost use Rattle.config_search.specs.Rule as rule;
+
+use crate::fact::{Asked, Stop, is_known, told, told_in};
+use crate::git_dir::{has_folder, is_git_dir, linked};
+use crate::name::{inside, opened, parent, push};
+use crate::{CURRENT, DEVICE, IDENTITY, KIND, REAL, VARIABLE};
+use bstr::ByteSlice;
+use config_text::readers::TryRead;
+use gix_config_value::Boolean;
+
+/// A folder: its name as the system opens it, and its path from the root, with links that PWD has.
+#[derive(Clone, Copy)]
+pub(crate) struct Folder<'t> {
+    pub name: &'t [u8],
+    pub path: &'t [u8],
+}
+
+/// How a git directory is named.
+#[derive(Clone, Copy, PartialEq, Eq)]
+pub(crate) enum Form {
+    /// By GIT_DIR.
+    Given,
+    /// It is `.git` in a folder, or a file of that name leads to it.
+    Below,
+    /// It is a folder itself.
+    Bare,
+}
+
+/// A git directory.
+#[derive(Drop)]
+pub(crate) struct GitDir {
+    /// Its name, as the system opens it.
+    pub name: Vec<u8>,
+    /// Its name as Git has it, from the folder in which it is found.
+    pub named: Vec<u8>,
+    /// How it is named.
+    pub form: Form,
+}
+
+/// What Git finds.
+#[derive(Drop)]
+pub(crate) enum Found<'t> {
+    /// There is no git directory.
+    Nothing,
+    /// There is one in this folder.
+    In(Folder<'t>, GitDir),
+    /// GIT_DIR has this text, which names none.
+    Refused(&'t [u8]),
+}
+
+/// Whether a variable has a boolean text that is true.
+pub(crate) fn is_on(asked: &Asked<'_, '_>, name: &[u8]) -> Result<bool, Stop> {
+    let Some(value) = told(asked, VARIABLE, name)? else {
+        return Ok(false);
+    };
+    match Boolean::try_read(value) {
+        Ok(boolean) => Ok(boolean.0),
+        Err(_) => Ok(false),
+    }
+}
+
+/// The path of a folder without links, or `None` if there is no such folder.
+pub(crate) fn real_folder<'t>(asked: &Asked<'_, 't>, name: &[u8]) -> Result<Option<&'t [u8]>, Stop>
+    ensures { MatchResult result
+        (λ found. (system : System) → AreTrueIn system asked.now.facts.now
+        → option_copied found ≡ rule.real_folder system name.now)
+        (IsNew asked.now.facts.now) }
+{
+    if name.is_empty() {
+        return Ok(told(asked, CURRENT, b"")?);
+    }
+    if !has_folder(asked, b"", name)? {
+        return Ok(None);
+    }
+    Ok(told(asked, REAL, name)?)
+}
+
+/// Whether this name begins at the root, and is one of the folder.
+fn is_path_of(asked: &Asked<'_, '_>, path: &[u8], folder: &[u8]) -> Result<bool, Stop> {
+    if !path.starts_with(b"/") {
+        return Ok(false);
+    }
+    let here = told(asked, IDENTITY, opened(folder))?;
+    Ok(here.is_some() && told(asked, IDENTITY, path)? == here)
+}
+
+/// The path of a folder: the text of PWD if that is the same folder, and otherwise its path without links.
+fn named_path<'t>(asked: &Asked<'_, 't>, name: &[u8]) -> Result<Option<&'t [u8]>, Stop> {
+    match told(asked, VARIABLE, b"PWD")? {
+        Some(path) if is_path_of(asked, path, name)? => Ok(Some(path)),
+        _ => Ok(real_folder(asked, name)?),
+    }
+}
+
+/// The folder of this name, or `None` if there is no such folder: an empty name, or `.`, is the current one.
+pub(crate) fn folder_of_name<'t>(
+    asked: &Asked<'_, 't>,
+    name: &'t [u8],
+) -> Result<Option<Folder<'t>>, Stop> {
+    let name = if name == b".".as_slice() { b"" } else { name };
+    match named_path(asked, name)? {
+        Some(path) => Ok(Some(Folder { name, path })),
+        None => Ok(None),
+    }
+}
+
+/// The git directory of this name, or to which the file of this name links. In its folder it has the other name.
+fn linked_or(asked: &Asked<'_, '_>, name: Vec<u8>, named: &[u8], form: Form) -> Result<GitDir, Stop>
+    ensures { MatchResult result
+        (λ found. (system : System) → AreTrueIn system asked.now.facts.now
+        → git_dir_of found
+        ≡ rule.linked_or name.items named.now (form_of form) (rule.linked system name.items))
+        (IsNew asked.now.facts.now) }
+{
+    match linked(asked, &name)? {
+        Some(target) => Ok(GitDir {
+            named: target.to_vec(asked.alloc)?,
+            name: target,
+            form,
+        }),
+        None => Ok(GitDir {
+            name,
+            named: named.to_vec(asked.alloc)?,
+            form,
+        }),
+    }
+}
+
+/// The git directory of a folder that has the name `.git` there, or that a file of that name links to.
+fn find_below(asked: &Asked<'_, '_>, start: &[u8], folder: &[u8]) -> Result<Option<GitDir>, Stop>
+    ensures { MatchResult result
+        (λ found. (system : System) → AreTrueIn system asked.now.facts.now
+        → option_map git_dir_of found ≡ rule.find_below system start.now folder.now)
+        (IsNew asked.now.facts.now) }
+{
+    let kind = told_in(asked, KIND, folder, b".git")?;
+    if !is_known(kind) {
+        return Ok(None);
+    }
+    let link = inside(asked.alloc, folder, b".git")?;
+    let git_dir = linked_or(asked, link, b".git", Form::Below)?;
+    if is_git_dir(asked, start, &git_dir.name)? {
+        return Ok(Some(git_dir));
+    }
+    Ok(None)
+}
+
+/// The git directory that a folder itself is.
+#[tactic(auto, unfolding(crate::specs::Rule::find_bare))]
+fn find_bare(asked: &Asked<'_, '_>, start: &[u8], folder: &[u8]) -> Result<Option<GitDir>, Stop>
+    ensures { MatchResult result
+        (λ found. (system : System) → AreTrueIn system asked.now.facts.now
+        → option_map git_dir_of found ≡ rule.find_bare system start.now folder.now)
+        (IsNew asked.now.facts.now) }
+{
+    if !is_git_dir(asked, start, folder)? {
+        return Ok(None);
+    }
+    Ok(Some(GitDir {
+        name: opened(folder).to_vec(asked.alloc)?,
+        named: b".".to_vec(asked.alloc)?,
+        form: Form::Bare,
+    }))
+}
+
+/// The git directory of a folder, if it has one or is one.
+fn find_in(asked: &Asked<'_, '_>, start: &[u8], folder: &[u8]) -> Result<Option<GitDir>, Stop>
+    ensures { MatchResult result
+        (λ found. (system : System) → AreTrueIn system asked.now.facts.now
+        → option_map git_dir_of found ≡ rule.find_in system start.now folder.now)
+        (IsNew asked.now.facts.now) }
+{
+    if let Some(git_dir) = find_below(asked, start, folder)? {
+        return Ok(Some(git_dir));
+    }
+    Ok(find_bare(asked, start, folder)?)
+}
+
+/// A folder of GIT_CEILING_DIRECTORIES without links if it is to be resolved, and otherwise without one slash at its
+/// end.
+fn ceiling<'t>(
+    asked: &Asked<'_, 't>,
+    folder: &'t [u8],
+    is_resolved: bool,
+) -> Result<&'t [u8], Stop> {
+    if is_resolved {
+        return Ok(told(asked, REAL, folder)?.unwrap_or(folder));
+    }
+    match folder.strip_suffix(b"/") {
+        Some(trimmed) if !trimmed.is_empty() => Ok(trimmed),
+        _ => Ok(folder),
+    }
+}
+
+/// The folders of GIT_CEILING_DIRECTORIES, between which are colons, without links. Those after an empty one are taken
+/// as they are.
+fn ceilings<'t>(asked: &Asked<'_, 't>) -> Result<Vec<&'t [u8]>, Stop> {
+    let mut ceilings = Vec::new(asked.alloc);
+    let Some(folders) = told(asked, VARIABLE, b"GIT_CEILING_DIRECTORIES")? else {
+        return Ok(ceilings);
+    };
+    let mut is_resolved = true;
+    for folder in folders.split_str(b":") {
+        is_resolved = is_resolved && !folder.is_empty();
+        push(&mut ceilings, ceiling(asked, folder, is_resolved)?)?;
+    }
+    Ok(ceilings)
+}
+
+/// Where a search upwards ends.
+#[derive(Drop)]
+struct Limits<'t> {
+    /// Whether it goes on in other devices than that of the first folder.
+    crosses: bool,
+    device: Option<&'t [u8]>,
+    ceilings: Vec<&'t [u8]>,
+}
+
+impl<'t> Limits<'t> {
+    /// What the environment says of a search that begins in this folder.
+    fn new(asked: &Asked<'_, 't>, folder: &[u8]) -> Result<Limits<'t>, Stop> {
+        let crosses = is_on(asked, b"GIT_DISCOVERY_ACROSS_FILESYSTEM")?;
+        let device = if crosses {
+            None
+        } else {
+            told(asked, DEVICE, opened(folder))?
+        };
+        Ok(Limits {
+            crosses,
+            device,
+            ceilings: ceilings(asked)?,
+        })
+    }
+
+    /// Whether the search ends before this folder.
+    fn end_at(&self, asked: &Asked<'_, '_>, folder: &[u8]) -> Result<bool, Stop> {
+        if self.ceilings.contains(&folder) {
+            return Ok(true);
+        }
+        if self.crosses {
+            return Ok(false);
+        }
+        if told(asked, DEVICE, folder)? != self.device {
+            return Ok(true);
+        }
+        Ok(false)
+    }
+}
+
+/// The git directory of the first folder above this path that has one. The search ends at a ceiling, and on another
+/// device unless GIT_DISCOVERY_ACROSS_FILESYSTEM says otherwise.
+fn find_above<'t>(
+    asked: &Asked<'_, 't>,
+    start: &[u8],
+    limits: &Limits<'t>,
+    lowest: &'t [u8],
+) -> Result<Found<'t>, Stop> {
+    let mut folder = lowest;
+    'up: loop {
+        let Some(above) = parent(folder) else {
+            return Ok(Found::Nothing);
+        };
+        if limits.end_at(asked, above)? {
+            return Ok(Found::Nothing);
+        }
+        if let Some(git_dir) = find_in(asked, start, above)? {
+            let place = Folder {
+                name: above,
+                path: above,
+            };
+            return Ok(Found::In(place, git_dir));
+        }
+        folder = above;
+    }
+}
+
+/// The git directory that GIT_DIR names, or to which the file of that name links.
+fn find_given<'t>(
+    asked: &Asked<'_, 't>,
+    start: Folder<'t>,
+    given: &'t [u8],
+) -> Result<Found<'t>, Stop> {
+    // an empty text would become the name of the folder
+    if given.is_empty() {
+        return Ok(Found::Refused(given));
+    }
+    let whole = inside(asked.alloc, start.name, given)?;
+    let git_dir = linked_or(asked, whole, given, Form::Given)?;
+    if is_git_dir(asked, start.name, &git_dir.name)? {
+        return Ok(Found::In(start, git_dir));
+    }
+    Ok(Found::Refused(given))
+}
+
+/// The git directory of a folder: that of the folder itself, or of the first one above it.
+fn find_upwards<'t>(asked: &Asked<'_, 't>, start: Folder<'t>) -> Result<Found<'t>, Stop> {
+    if let Some(git_dir) = find_in(asked, start.name, start.name)? {
+        return Ok(Found::In(start, git_dir));
+    }
+    let limits = Limits::new(asked, start.name)?;
+    match real_folder(asked, start.name)? {
+        Some(lowest) => Ok(find_above(asked, start.name, &limits, lowest)?),
+        None => Ok(Found::Nothing),
+    }
+}
+
+/// The git directory of a folder: GIT_DIR, or the first one upwards.
+pub(crate) fn seek<'t>(asked: &Asked<'_, 't>, start: Folder<'t>) -> Result<Found<'t>, Stop> {
+    match told(asked, VARIABLE, b"GIT_DIR")? {
+        Some(given) => find_given(asked, start, given),
+        None => find_upwards(asked, start),
+    }
+}
