@@ -108,6 +108,8 @@ const char *gcv_status_text(gcv_status status)
         return "the lock is held";
     case GCV_NOT_WRITTEN:
         return "the file is not written";
+    case GCV_ASKS:
+        return "a search needs a fact that it was not told";
     }
     return "unknown status";
 }
@@ -521,6 +523,44 @@ gcv_status gcv_next(gcv_walk *GCV_TO walk, const gcv_known *known, char *GCV_TO 
         out->included = step.include == GCV_OK ? buffer + step.included : NULL;
         out->include = step.include;
         out->role = step.role;
+    }
+    return status;
+}
+
+/* Puts what a search tells by its texts, which are in this buffer. */
+static void put_found(const gcv_raw_found *raw, const char *texts, gcv_found *out)
+{
+    out->folder = texts + raw->folder;
+    out->outcome = raw->outcome;
+    out->git_dir = texts + raw->git_dir;
+    out->real_git_dir = texts + raw->real_git_dir;
+    out->branch = raw->has_branch == 1 ? texts + raw->branch : NULL;
+    out->kind = raw->kind;
+    out->reason = texts + raw->reason;
+    out->file = texts + raw->file;
+    out->line = raw->line;
+    out->files = texts + raw->files;
+    out->count = raw->count;
+}
+
+gcv_status gcv_search(const char *folder, size_t length, const gcv_fact *facts, size_t count,
+                      char *GCV_TO buffer, size_t capacity, gcv_found *GCV_TO out)
+{
+    static const gcv_fact none;
+    gcv_raw_found raw;
+    gcv_status status = gcv_raw_search(bytes_of(folder, length), length, count == 0 ? &none : facts, count,
+                                       room_of(buffer, capacity), capacity, &raw);
+    if (status == GCV_NO_MEMORY) {
+        return status;
+    }
+    out->size = raw.size;
+    if (status == GCV_ASKS) {
+        out->subject = raw.subject;
+        out->name = buffer;
+        out->name_length = raw.size - 1;
+    }
+    if (status == GCV_OK) {
+        put_found(&raw, buffer, out);
     }
     return status;
 }

@@ -43,6 +43,24 @@ typedef struct gcv_raw_step {
     gcv_role role;
 } gcv_raw_step;
 
+/* What gcv_raw_search writes. A text is the place in the buffer at which it begins. */
+typedef struct gcv_raw_found {
+    size_t folder;
+    size_t git_dir;
+    size_t real_git_dir;
+    size_t branch;
+    size_t file;
+    size_t reason;
+    size_t files;
+    size_t count;
+    size_t line;
+    size_t size;
+    gcv_subject subject;
+    gcv_outcome outcome;
+    uint32_t kind;
+    uint32_t has_branch;
+} gcv_raw_found;
+
 /* The library expects this layout. */
 #define GCV_ASSERT(fact) extern const char gcv_asserted[(fact) ? 1 : -1]
 GCV_ASSERT(sizeof(gcv_status) == 4 && sizeof(gcv_kind) == 4 && sizeof(gcv_fault) == 4 && sizeof(gcv_role) == 4);
@@ -108,6 +126,28 @@ GCV_ASSERT(offsetof(gcv_raw_step, has_value) == 48);
 GCV_ASSERT(offsetof(gcv_raw_step, include) == 52);
 GCV_ASSERT(offsetof(gcv_raw_step, role) == 56);
 GCV_ASSERT(sizeof(gcv_raw_step) == 64);
+GCV_ASSERT(offsetof(gcv_fact, name) == 0);
+GCV_ASSERT(offsetof(gcv_fact, name_length) == 8);
+GCV_ASSERT(offsetof(gcv_fact, text) == 16);
+GCV_ASSERT(offsetof(gcv_fact, text_length) == 24);
+GCV_ASSERT(offsetof(gcv_fact, subject) == 32);
+GCV_ASSERT(offsetof(gcv_fact, has) == 36);
+GCV_ASSERT(sizeof(gcv_fact) == 40);
+GCV_ASSERT(offsetof(gcv_raw_found, folder) == 0);
+GCV_ASSERT(offsetof(gcv_raw_found, git_dir) == 8);
+GCV_ASSERT(offsetof(gcv_raw_found, real_git_dir) == 16);
+GCV_ASSERT(offsetof(gcv_raw_found, branch) == 24);
+GCV_ASSERT(offsetof(gcv_raw_found, file) == 32);
+GCV_ASSERT(offsetof(gcv_raw_found, reason) == 40);
+GCV_ASSERT(offsetof(gcv_raw_found, files) == 48);
+GCV_ASSERT(offsetof(gcv_raw_found, count) == 56);
+GCV_ASSERT(offsetof(gcv_raw_found, line) == 64);
+GCV_ASSERT(offsetof(gcv_raw_found, size) == 72);
+GCV_ASSERT(offsetof(gcv_raw_found, subject) == 80);
+GCV_ASSERT(offsetof(gcv_raw_found, outcome) == 84);
+GCV_ASSERT(offsetof(gcv_raw_found, kind) == 88);
+GCV_ASSERT(offsetof(gcv_raw_found, has_branch) == 92);
+GCV_ASSERT(sizeof(gcv_raw_found) == 96);
 #undef GCV_ASSERT
 
 gcv_status gcv_raw_read_suffix(const char *text, size_t length, gcv_suffix *out, gcv_fault *fault);
@@ -141,6 +181,8 @@ gcv_status gcv_raw_enter(size_t *count, gcv_frame *frame, const char *name, size
                          size_t real_dir_length, const char *text, size_t length);
 gcv_status gcv_raw_next(gcv_frame *frames, size_t frames_count, size_t *count, const gcv_raw_known *known, char *buffer,
                         size_t capacity, gcv_raw_step *out);
+gcv_status gcv_raw_search(const char *folder, size_t folder_length, const gcv_fact *facts, size_t count, char *buffer,
+                          size_t capacity, gcv_raw_found *out);
 gcv_status gcv_raw_list_key(const char *key, size_t length, char *buffer, size_t capacity, size_t *size);
 gcv_status gcv_raw_command_setting(const char *key, size_t key_length, const char *value, size_t value_length,
                                    char *buffer, size_t capacity, size_t *size);

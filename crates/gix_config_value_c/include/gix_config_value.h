@@ -80,6 +80,7 @@ typedef GCV_ENUM(gcv_status) {
     /* the value has a NUL, which no file can hold; no header can have the section; several entries have the key */
     GCV_BAD_VALUE = 33, GCV_BAD_SECTION = 34, GCV_SEVERAL = 35,
     GCV_FORBIDDEN_URL = 36, /* the URL of a remote is in a file that is included on a condition */
+    GCV_ASKS = 37,          /* a search needs a fact that it was not told */
     /* only of calls over files: one is not read, and errno says why; the settings of a command include a relative name;
      * another program holds the lock of a file; the lock is not made or the new text not written, and errno says why */
     GCV_NOT_READ = 64, GCV_RELATIVE = 65, GCV_LOCKED = 66, GCV_NOT_WRITTEN = 67
@@ -362,6 +363,73 @@ GCV_CALL((1, 5)) gcv_next(gcv_walk *GCV_TO walk, const gcv_known *known, char *G
 typedef const char *gcv_get_variable(void *state, const char *name);
 GCV_CALL((1, 5)) gcv_command_text(gcv_get_variable *get, void *state, char *GCV_TO buffer, size_t capacity,
                                   size_t *size);
+
+/* The search for what Git reads in a folder. It opens nothing: its caller tells it facts about the system. gcv_search
+ * returns GCV_ASKS if it needs a fact that is not there, and `out->subject` and `out->name` say which. The caller adds
+ * it and calls again with all facts, until there is another status. It may also tell facts that were not asked for.
+ *
+ * A fact has a subject, a name, and a text if `has` is 1; `has` is 0 if the system has no answer. Neither pointer may be
+ * null. A name of a file that does not begin with / begins in the caller's current folder. These are the subjects, with
+ * the name that each is about, the text of its answer, and after a semicolon when there is none:
+ * - GCV_VARIABLE: of a variable, its value; it is not set
+ * - GCV_CURRENT: empty, the current folder from the root without links; unknown
+ * - GCV_FILE_KIND: of a file, what it is itself (lstat): "link", "folder", "file", "other", or "unknown" if the system
+ *   does not say; no such file, or below a file (ENOENT, ENOTDIR)
+ * - GCV_LEADS: of a file, what it leads to (stat): the same words but "link"; the same
+ * - GCV_LINK: of a file, the name in it (readlink); it is no link
+ * - GCV_REAL: of a file, its name from the root without links (realpath); unknown
+ * - GCV_TEXT: of a file, its first 65,536 bytes; no regular file (stat), or not readable
+ * - GCV_BLOCK: of a file, its first 16,777,216 bytes; the same
+ * - GCV_SETTINGS: of a file, its whole text up to 1 GiB, also of a pipe or a device; it is not read
+ * - GCV_INCLUDED: of a file, its whole text up to 1 GiB, only of a regular file or a character device; it is not read
+ * - GCV_REFUSAL: of a file that is not read, "denied" (EACCES) or why in words; no such file, or below a file
+ * - GCV_DEVICE: of a file, bytes that tell its device from others (stat); unknown
+ * - GCV_IDENTITY: of a file, bytes that tell it from all other files, such as device and inode (stat); unknown
+ * - GCV_OWNER: of a file, the number of its owner in decimal (lstat); unknown
+ * - GCV_USER: empty, the number of the user in decimal (geteuid); unknown
+ * - GCV_HOME: of a user, the home folder of this user; no such user */
+typedef GCV_ENUM(gcv_subject) {
+    GCV_VARIABLE = 1, GCV_CURRENT = 2, GCV_FILE_KIND = 3, GCV_LEADS = 4, GCV_LINK = 5, GCV_REAL = 6, GCV_TEXT = 7,
+    GCV_BLOCK = 8, GCV_SETTINGS = 9, GCV_INCLUDED = 10, GCV_REFUSAL = 11, GCV_DEVICE = 12, GCV_IDENTITY = 13,
+    GCV_OWNER = 14, GCV_USER = 15, GCV_HOME = 16
+} gcv_subject;
+typedef struct gcv_fact {
+    const char *name; size_t name_length; const char *text; size_t text_length;
+    gcv_subject subject; uint32_t has;
+} gcv_fact;
+
+/* What Git does in a folder: it finds no repository, uses one, does not use the one that is there, or stops. */
+typedef GCV_ENUM(gcv_outcome) {
+    GCV_FINDS_NONE = 0, GCV_USES = 1, GCV_REFUSES = 2, GCV_STOPS = 3
+} gcv_outcome;
+
+/* Where Git has a file from, in its order. */
+typedef GCV_ENUM(gcv_scope) {
+    GCV_SYSTEM = 1, GCV_GLOBAL = 2, GCV_LOCAL = 3, GCV_WORKTREE = 4, GCV_COMMAND = 5
+} gcv_scope;
+
+/* What a search tells. All texts are in the buffer and end with NUL; one that does not belong to the outcome is empty.
+ * `kind` is for GCV_REFUSES: 1 GIT_DIR names no git directory, 2 a version, 3 an unknown extension, 4 an extension of a
+ * later version, 5 an owner, 6 a bare repository. For GCV_STOPS: 1 no such folder, 2 a file is not read, 3 a line is
+ * invalid, 4 a NUL, 5 an include without a value, 6 with an unknown directory, 7 not readable, 8 not from the root, 9
+ * too deep, 10 a forbidden URL, 11 a value that Git does not know, 12 settings of the command. */
+typedef struct gcv_found {
+    gcv_subject subject; const char *name; /* after GCV_ASKS, the question with its name of `name_length` bytes */
+    size_t name_length;
+    const char *folder; /* where Git works, and names begin; empty is the current folder, where this one begins too */
+    gcv_outcome outcome;
+    const char *git_dir; const char *real_git_dir; /* GCV_USES: from the root, with links and without */
+    const char *branch; /* GCV_USES: the branch that is checked out, or null */
+    uint32_t kind; const char *reason; /* GCV_REFUSES and GCV_STOPS: why, also in Git's words */
+    const char *file; size_t line; /* GCV_STOPS: where, and line 0 if it is no line */
+    const char *files; size_t count; /* the files in Git's order: for each a byte, its gcv_scope, and its name */
+    size_t size; /* how many bytes of the buffer the texts take */
+} gcv_found;
+
+/* Searches in a folder, whose name may be empty or "." for the current one. Writes `out` and the texts. After
+ * GCV_SHORT_BUFFER the buffer is unchanged, and needs the capacity `out->size`. It allocates, and keeps nothing. */
+GCV_CALL((7)) gcv_search(const char *folder, size_t length, const gcv_fact *facts, size_t count,
+                         char *GCV_TO buffer, size_t capacity, gcv_found *GCV_TO out);
 
 /* Edits of the text of a configuration file. Each writes the new text, in which all other bytes stay. A key is as Git
  * takes it, and so is the name of a section ("branch.Main").

@@ -18,6 +18,7 @@ mod paths;
 mod products;
 mod readers;
 mod roles;
+mod search;
 mod shown;
 mod status;
 mod structs;

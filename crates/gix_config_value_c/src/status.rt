@@ -75,4 +75,6 @@ pub enum Status {
     Several = 35,
     /// The entry is the URL of a remote, in a file that is included on a condition, where Git allows none.
     ForbiddenUrl = 36,
+    /// A search needs a fact that it was not told.
+    Asks = 37,
 }

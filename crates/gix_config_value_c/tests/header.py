@@ -47,6 +47,9 @@ ENUMS = {
         ("GCV_", CRATE / "src/roles.rt", r"^    (\w+) = (\d+),$", int),
         ("GCV_", NUMBERS, r"^role_number roles\.(\w+) = (\d+)$", int),
     ],
+    "GCV_VARIABLE": [("GCV_", ROOT / "crates/config_search/src/lib.rt", r"^pub const (\w+): u32 = (\d+);$", int)],
+    "GCV_FINDS_NONE": [("GCV_", CRATE / "src/search.rt", r"^const (\w+): u32 = (\d+);$", int)],
+    "GCV_SYSTEM": [("GCV_", CRATE / "src/search.rt", r"^        Scope::(\w+) => (\d+),$", int)],
     "GCV_SUFFIX": [
         ("GCV_", CRATE / "src/numbers.rt", r"^        (?P<number>\d+) => Some\(Kind::(?P<name>\w+)\),$", int),
         ("GCV_", NUMBERS, r"^kind_number kinds\.(\w+) = (\d+)$", int),
@@ -79,13 +82,14 @@ ENUMS = {
 ZEROS = ("GCV_FAULT_NONE", "GCV_NO_SUFFIX", "GCV_NO_COLORS", "GCV_NO_NAME")
 # from this number on a status is one of calls over files
 OF_FILES = 64
-OTHER_NAMES = {"GCV_FAULT_ILL_FORMED_WHOLE": "GCV_FAULT_ILL_FORMED_PATH"}
+OTHER_NAMES = {"GCV_FAULT_ILL_FORMED_WHOLE": "GCV_FAULT_ILL_FORMED_PATH", "GCV_KIND": "GCV_FILE_KIND"}
 # the types of C for those of Rattle, and their sizes
 TYPES = {"i64": "int64_t", "u32": "uint32_t", "u8": "uint8_t", "usize": "size_t"}
 TYPES |= {f"Gcv{it.title()}": f"gcv_{it}" for it in ("integer", "name", "color", "frame")}
-TYPES |= {f"Gcv{it.title()}": f"gcv_raw_{it}" for it in ("known", "step")}
+TYPES |= {f"Gcv{it.title()}": f"gcv_raw_{it}" for it in ("known", "step", "found")}
+TYPES["Fact"] = "gcv_fact"
 # the enums of C are numbers of 32 bits, and a text is of chars
-NUMBERED = re.compile(r"\bgcv_(status|kind|fault|suffix|depth|tag|role)\b")
+NUMBERED = re.compile(r"\bgcv_(status|kind|fault|suffix|depth|tag|role|subject|outcome)\b")
 # the pointers to what is in slices: bytes, and texts
 SLICES = {"&[u8]": "const uint8_t *", "&[&[u8]]": "const gcv_text *"}
 SIZES = {"int64_t": (8, 8), "uint32_t": (4, 4), "uint8_t": (1, 1), "size_t": (8, 8)}
@@ -181,7 +185,7 @@ def parameters(words):
 
 def calls():
     """The result and the parameters of each exported call, in the header and in Rattle."""
-    exported = re.findall(r'^pub extern "C" fn (\w+)\((.*?)\)(?: -> (\w+))?$', sources(), re.MULTILINE | re.DOTALL)
+    exported = re.findall(r'^pub extern "C" fn (\w+)\((.*?)\)(?: -> (\w+))?(?: \{)?$', sources(), re.MULTILINE | re.DOTALL)
     declared = {}
     for result, name, words in re.findall(r"^(\w+) (gcv_raw_\w+)\((.*?)\);$", text_of(RAW), re.MULTILINE | re.DOTALL):
         words = NUMBERED.sub("uint32_t", re.sub(r"\bchar\b", "uint8_t", words))
