@@ -1,10 +1,11 @@
 """Compares what is read in a folder, by the built program and by a Git: the installed one, or that of --git.
 
-python3 here.py [PROGRAM] [--seed N] [--places N] [--git COMMAND] [--python FOLDER]
+python3 here.py [PROGRAM] [--seed N] [--places N] [--git COMMAND] [--python FOLDER] [--c PROGRAM]
 
 PROGRAM is git_settings, whose `-l --show-scope --show-origin --null` has to give the same settings in the same
 order as Git's, each with the same scope and the same name of its file. If Git refuses to go on, the program has to do
-so too. FOLDER has the Python package: its `read_repository` is compared too.
+so too. FOLDER has the Python package: its `read_repository` is compared too. The PROGRAM of --c is the built
+crates/gix_config_value_c/tests/here.c, which calls `gcv_read_here`.
 
 The places are as many random ones as --places says: a folder with or without a repository of some kind, a HEAD, a
 format and an owner, the files of the system and of the user, variables, the settings of a command, and includes with
@@ -57,7 +58,7 @@ try:
 except (OSError, ValueError) as error:
     print(error, file=sys.stderr)
     sys.exit(128)
-words = [_repository.find("").folder.name]
+words = [_repository.find("").folder]
 for entry in config.entries:
     text = entry.key + ("" if entry.text is None else chr(10) + entry.text)
     words += entry.scope, entry.origin, text
@@ -463,6 +464,8 @@ class Comparison:
             self.ours[""] = listing(os.path.abspath(arguments.program)), of_git
         if arguments.python:
             self.ours[" in Python"] = python_words(arguments.python), of_python
+        if arguments.c:
+            self.ours[" in C"] = [os.path.abspath(arguments.c)], of_python
         self.expected = [name for name, when in classes.OF_PLACES.items() if classes.is_expected(when, git.running)]
         self.counts = collections.Counter()
         self.faults = []
@@ -560,8 +563,9 @@ def main():
     arguments.add_argument("--places", type=int, default=400)
     arguments.add_argument("--git", default="git")
     arguments.add_argument("--python")
+    arguments.add_argument("--c")
     arguments = arguments.parse_args()
-    if not (arguments.program or arguments.python):
+    if not (arguments.program or arguments.python or arguments.c):
         sys.exit("neither a program nor a package")
     with tempfile.TemporaryDirectory() as folder:
         return counted(lambda: compare(arguments, pathlib.Path(os.path.realpath(folder))))

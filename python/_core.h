@@ -62,9 +62,8 @@ static inline void end(PyThreadState *waiting)
 
 /* Functions of the module. */
 PyObject *file_read(PyObject *module, PyObject *args);
-PyObject *line_read(PyObject *module, PyObject *name);
-PyObject *link_read(PyObject *module, PyObject *name);
 PyObject *real_name(PyObject *module, PyObject *name);
 PyObject *variable(PyObject *module, PyObject *name);
+PyObject *here_found(PyObject *module, PyObject *name);
 
 #endif

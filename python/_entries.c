@@ -879,40 +879,6 @@ static PyObject *name_of_file(PyObject *name, char **text)
     return bytes;
 }
 
-/* The text of a file up to a NUL, without the line ends at its end, or None if it cannot be read, or is a pipe. */
-PyObject *line_read(PyObject *Py_UNUSED(module), PyObject *name)
-{
-    const char *why = NULL;
-    char *text = NULL;
-    PyObject *file = name_of_file(name, &text);
-    PyObject *bytes = file ? read_named(text, 1, &why) : NULL, *line = NULL;
-    if (bytes) {
-        Py_ssize_t length = PyBytes_Size(bytes);
-        text = PyBytes_AsString(bytes);
-        while (length > 0 && (text[length - 1] == '\n' || text[length - 1] == '\r'))
-            length--;
-        const char *nul = memchr(text, '\0', (size_t)length);
-        line = PyUnicode_DecodeFSDefaultAndSize(text, nul ? nul - text : length);
-    } else if (!PyErr_Occurred()) {
-        line = counted(Py_None);
-    }
-    Py_XDECREF(file);
-    Py_XDECREF(bytes);
-    return line;
-}
-
-/* What a link names, or None if there is no link of this name. */
-PyObject *link_read(PyObject *Py_UNUSED(module), PyObject *name)
-{
-    char target[PATH_MAX], *text = NULL;
-    PyObject *file = name_of_file(name, &text);
-    ssize_t length = file ? readlink(text, target, sizeof target) : -1;
-    Py_XDECREF(file);
-    if (PyErr_Occurred())
-        return NULL;
-    return length < 0 ? counted(Py_None) : PyUnicode_DecodeFSDefaultAndSize(target, length);
-}
-
 /* A name from the root without links, of the type of the name, or None if there is no such file. */
 PyObject *real_name(PyObject *Py_UNUSED(module), PyObject *name)
 {
@@ -937,4 +903,45 @@ PyObject *variable(PyObject *Py_UNUSED(module), PyObject *name)
     if (PyErr_Occurred())
         return NULL;
     return value ? PyUnicode_DecodeFSDefault(value) : counted(Py_None);
+}
+
+/* A gcv_answer_call, which lets other threads run while the system answers, but not while it reads the environment. */
+static gcv_status answer(void *state, gcv_subject subject, const char *name, char **text, size_t *length)
+{
+    PyThreadState *waiting = subject == GCV_VARIABLE ? NULL : PyEval_SaveThread();
+    gcv_status status = gcv_answer(state, subject, name, text, length);
+    end(waiting);
+    return status;
+}
+
+/* A list of the scope and the name of each file that a search has found. */
+static PyObject *files_of(const gcv_found *found)
+{
+    PyObject *files = PyList_New((Py_ssize_t)found->count);
+    const char *at = found->files;
+    for (size_t file = 0; files && file < found->count; file++) {
+        PyObject *pair = Py_BuildValue("iy", (int)*at, at + 1);
+        if (!pair)
+            Py_CLEAR(files);
+        else
+            PyList_SetItem(files, (Py_ssize_t)file, pair);
+        at += strlen(at) + 1;
+    }
+    return files;
+}
+
+/* What Git finds in the folder of this name, given as `bytes`: the members of a gcv_found in a tuple. */
+PyObject *here_found(PyObject *Py_UNUSED(module), PyObject *name)
+{
+    char *folder, *texts = NULL;
+    gcv_found found;
+    if (PyBytes_AsStringAndSize(name, &folder, NULL) != 0)
+        return NULL;
+    if (gcv_find_here(folder, answer, NULL, &texts, &found) != GCV_OK)
+        return PyErr_NoMemory();
+    PyObject *result = Py_BuildValue("IyyyyIyynN", (unsigned)found.outcome, found.folder, found.git_dir, found.real_git_dir,
+                                     found.branch, (unsigned)found.kind, found.reason, found.file, (Py_ssize_t)found.line,
+                                     files_of(&found));
+    free(texts);
+    return result;
 }

@@ -65,10 +65,10 @@ if [ -z "$archive" ]; then
     archive=$here/out/libgix_config_value_c.a
 fi
 
-# one object, which exports only what the header declares, and two that only some programs need: of the calls that look
-# up users, and of those that edit files; CC and the flags may be several words
+# one object, which exports only what the header declares, and three that only some programs need: of the calls that look
+# up users, that edit files, and that look for a repository; CC and the flags may be several words
 cc=${CC:-cc}
-for part in calls settings users locked; do
+for part in calls settings users locked here; do
     # shellcheck disable=SC2086
     $cc -std=c99 -O2 -fPIC ${CFLAGS:-} -I"$here/include" -c -o "$work/$part.o" "$here/$part.c"
 done
@@ -76,10 +76,11 @@ done
 $cc -r -nostdlib -o "$work/gix_config_value.o" \
     -Wl,--whole-archive "$archive" "$heap" -Wl,--no-whole-archive "$work/calls.o" "$work/settings.o"
 objcopy --wildcard --keep-global-symbol='gcv_*' --localize-symbol='gcv_raw_*' "$work/gix_config_value.o"
-ar rcsD "$work/libgix_config_value.a" "$work/gix_config_value.o" "$work/users.o" "$work/locked.o"
+ar rcsD "$work/libgix_config_value.a" "$work/gix_config_value.o" "$work/users.o" "$work/locked.o" \
+    "$work/here.o"
 # shellcheck disable=SC2086
 $cc -shared -o "$work/libgix_config_value.so.$version" -Wl,-soname,"$soname" -Wl,-z,defs -Wl,-z,noexecstack \
-    -Wl,-z,relro ${CFLAGS:-} "$work/gix_config_value.o" "$work/users.o" "$work/locked.o" ${LDFLAGS:-}
+    -Wl,-z,relro ${CFLAGS:-} "$work/gix_config_value.o" "$work/users.o" "$work/locked.o" "$work/here.o" ${LDFLAGS:-}
 # a text in a substitution of sed, also as pkg-config reads it
 literal() {
     printf '%s' "$1" | sed 's/[\\&|]/\\&/g'

@@ -110,6 +110,8 @@ const char *gcv_status_text(gcv_status status)
         return "the file is not written";
     case GCV_ASKS:
         return "a search needs a fact that it was not told";
+    case GCV_BAD_FORMAT:
+        return "Git does not know the format of the repository";
     }
     return "unknown status";
 }
@@ -546,7 +548,7 @@ static void put_found(const gcv_raw_found *raw, const char *texts, gcv_found *ou
 gcv_status gcv_search(const char *folder, size_t length, const gcv_fact *facts, size_t count,
                       char *GCV_TO buffer, size_t capacity, gcv_found *GCV_TO out)
 {
-    static const gcv_fact none;
+    static const gcv_fact none = {"", 0, "", 0, GCV_VARIABLE, 0};
     gcv_raw_found raw;
     gcv_status status = gcv_raw_search(bytes_of(folder, length), length, count == 0 ? &none : facts, count,
                                        room_of(buffer, capacity), capacity, &raw);

@@ -1,65 +1,30 @@
-/* Prints six of the settings that Git reads in a repository, each with its scope, its file and its line:
- * six_settings FOLDER, which has a directory .git. The tool does not look who owns it. */
-#define _DEFAULT_SOURCE
+/* Prints six of the settings that Git reads in a folder, each with its scope, its file and its line. With a name it sets
+ * user.name of the repository: six_settings FOLDER [NAME] */
 #include <gix_config_value.h>
 #include <stdio.h>
-#include <stdlib.h>
-#include <string.h>
-#include <unistd.h>
 
-static const char *const keys[] = {"core.bare",    "core.editor", "user.name",
-                                   "push.default", "pull.rebase", "remote.origin.url"};
-static char texts[6][4096];
-static const char *names[6], *scopes[6];
-static size_t count;
-
-static void add(const char *scope, const char *folder, const char *name)
+int main(int count, char **arguments)
 {
-    if (folder && snprintf(texts[count], sizeof texts[0], "%s%s", folder, name) > 0) {
-        names[count] = texts[count];
-        scopes[count++] = scope;
-    }
-}
-
-int main(int argc, char **argv)
-{
-    static const char ref[] = "ref: refs/heads/";
-    const char *home = getenv("HOME"), *xdg = getenv("XDG_CONFIG_HOME"), *system_file = getenv("GIT_CONFIG_SYSTEM");
-    const char *user_file = getenv("GIT_CONFIG_GLOBAL");
-    int is_there = argc == 2 && chdir(argv[1]) == 0, has_worktrees = 0;
-    gcv_file head = {NULL, 0, NULL};
-    gcv_settings settings = GCV_NO_SETTINGS;
-    if (!is_there || gcv_open_file(NULL, ".git/HEAD", &head) != GCV_OK || !head.real_dir) {
-        return 2;
-    }
-    int is_branch = head.length > sizeof ref && memcmp(head.text, ref, sizeof ref - 1) == 0;
-    gcv_known known = {NULL, 0, home, home ? strlen(home) : 0, NULL, 0, head.real_dir, strlen(head.real_dir), NULL, 0,
-                       is_branch ? head.text + sizeof ref - 1 : NULL, head.length - sizeof ref, NULL, 0, 0};
-    add("system", system_file ? system_file : "/etc/gitconfig", "");
-    add("global", user_file ? NULL : xdg && *xdg ? xdg : home, xdg && *xdg ? "/git/config" : "/.config/git/config");
-    add("global", user_file ? user_file : home, user_file ? "" : "/.gitconfig");
-    add("local", ".git/config", "");
-    gcv_status status = gcv_read_files(&settings, &names[count - 1], 1, NULL, gcv_open_file, NULL);
-    const gcv_setting *found = gcv_find_setting(&settings, "extensions.worktreeConfig");
-    if (found && gcv_parse_bool(found->value, &has_worktrees, NULL) == GCV_OK && has_worktrees) {
-        add("worktree", ".git/config.worktree", "");
-    }
-    gcv_free_settings(&settings);
-    scopes[count++] = "command"; /* its name is null */
-    status = gcv_read_files(&settings, names, count, &known, gcv_open_file, NULL);
+    static const char *const keys[] = {"core.bare",    "core.editor", "user.name",
+                                       "push.default", "pull.rebase", "remote.origin.url"};
+    gcv_here here;
+    gcv_status status = gcv_read_here(count > 1 ? arguments[1] : NULL, &here);
+    const char *own = gcv_file_of_scope(&here, GCV_LOCAL);
     if (status != GCV_OK) {
-        fprintf(stderr, "%s:%zu: %s\n", settings.file ? settings.file : "", settings.line, gcv_status_text(status));
+        fprintf(stderr, "%s:%zu: %s\n", here.settings.file ? here.settings.file : "", here.settings.line, here.why);
+    } else if (count > 2) {
+        status = own ? gcv_set_in_file(own, "user.name", arguments[2]) : GCV_ABSENT;
+        fprintf(stderr, "%s: %s\n", own ? own : "no repository", gcv_status_text(status));
     }
-    for (size_t at = 0; status == GCV_OK && at < sizeof keys / sizeof keys[0]; at++) {
-        if ((found = gcv_find_setting(&settings, keys[at])) == NULL) {
+    for (size_t at = 0; status == GCV_OK && count == 2 && at < sizeof keys / sizeof keys[0]; at++) {
+        const gcv_setting *found = gcv_find_setting(&here.settings, keys[at]);
+        if (found) {
+            const char *scope = gcv_scope_text(here.scopes[found->source]), *value = found->value;
+            printf("%s\t%s:%zu\t%s = %s\n", scope, found->file, found->line, keys[at], value ? value : "true");
+        } else {
             printf("%s is not set\n", keys[at]);
-            continue;
         }
-        const char *scope = scopes[found->source], *value = found->value;
-        printf("%s\t%s:%zu\t%s = %s\n", scope, found->file, found->line, keys[at], value ? value : "true");
     }
-    gcv_free_settings(&settings);
-    free(head.text);
-    free(head.real_dir);
+    gcv_free_here(&here);
     return status == GCV_OK ? 0 : 1;
 }

@@ -83,7 +83,8 @@ typedef GCV_ENUM(gcv_status) {
     GCV_ASKS = 37,          /* a search needs a fact that it was not told */
     /* only of calls over files: one is not read, and errno says why; the settings of a command include a relative name;
      * another program holds the lock of a file; the lock is not made or the new text not written, and errno says why */
-    GCV_NOT_READ = 64, GCV_RELATIVE = 65, GCV_LOCKED = 66, GCV_NOT_WRITTEN = 67
+    GCV_NOT_READ = 64, GCV_RELATIVE = 65, GCV_LOCKED = 66, GCV_NOT_WRITTEN = 67,
+    GCV_BAD_FORMAT = 68     /* Git does not know a setting of a repository's format, or a variable of its own */
 } gcv_status;
 
 /* The kinds of values: k, m and g; a number with at most one suffix; the product of both; a truth value; the name of a
@@ -430,6 +431,34 @@ typedef struct gcv_found {
  * GCV_SHORT_BUFFER the buffer is unchanged, and needs the capacity `out->size`. It allocates, and keeps nothing. */
 GCV_CALL((7)) gcv_search(const char *folder, size_t length, const gcv_fact *facts, size_t count,
                          char *GCV_TO buffer, size_t capacity, gcv_found *GCV_TO out);
+
+/* Answers to a search. A gcv_answer_call writes the text of the answer, with memory of malloc, or null if there is none,
+ * and returns GCV_OK, or why to stop. gcv_answer answers by this system, and needs no state. gcv_find_here searches in a
+ * folder with these answers, and writes what it has found, and the memory of its texts, which the caller frees. */
+typedef gcv_status gcv_answer_call(void *state, gcv_subject subject, const char *name, char **text, size_t *length);
+GCV_CALL((3, 4, 5)) gcv_answer(void *state, gcv_subject subject, const char *name, char **text, size_t *length);
+GCV_CALL((1, 2, 4, 5)) gcv_find_here(const char *folder, gcv_answer_call *call, void *state, char **texts,
+                                     gcv_found *out);
+
+/* All that Git reads in a folder of this system. The sources of the settings have names, of which that of the command is
+ * null, and scopes: `scopes[setting->source]` is that of a setting. `found.outcome` is GCV_REFUSES if Git uses no
+ * repository although one is there, and `found.reason` why; then there are no settings of it. */
+typedef struct gcv_here {
+    gcv_settings settings; gcv_found found;
+    const char *const *names; const gcv_scope *scopes; size_t count;
+    const char *why; /* null, or after another status than GCV_OK why, in words */
+    struct gcv_place *memory;
+} gcv_here;
+
+/* Reads what Git reads in a folder, null for the current one: it searches by gcv_answer, and reads by gcv_open_file.
+ * Returns the statuses of gcv_read_files, also for what the search has read, and GCV_BAD_FORMAT; `settings.file` and
+ * `.line` say where. Whatever the status, gcv_free_here frees `*out`, which needs no value before. gcv_file_of_scope
+ * returns the name of the file that `git config --local` or the like would change, for gcv_set_in_file, or null if Git
+ * reads none of the scope here. gcv_scope_text returns the name of a scope, as `git config --show-scope` prints it. */
+GCV_CALL((2)) gcv_read_here(const char *folder, gcv_here *out);
+GCV_NONNULL((1)) const char *gcv_file_of_scope(const gcv_here *here, gcv_scope scope);
+GCV_NONNULL((1)) void gcv_free_here(gcv_here *here);
+const char *gcv_scope_text(gcv_scope scope);
 
 /* Edits of the text of a configuration file. Each writes the new text, in which all other bytes stay. A key is as Git
  * takes it, and so is the name of a section ("branch.Main").

@@ -9,6 +9,7 @@ use std::alloc::{AllocError, Global};
 
 /// What a search tells. A text is an index in the buffer, at which it begins; a NUL is at its end. A text that does not
 /// belong to the outcome is empty.
+#[derive(Drop)]
 #[repr(C)]
 pub struct GcvFound {
     /// The folder in which Git works; and the name that a question is about.
@@ -170,6 +171,8 @@ fn refusal_number(refusal: &Refusal) -> u32 {
         Refusal::ExtensionOfLater(_) => 4,
         Refusal::Owner(_) => 5,
         Refusal::Bare(_) => 6,
+        // none that a header of this version names
+        _ => 0,
     }
 }
 
@@ -188,6 +191,8 @@ fn fault_number(kind: FaultKind) -> u32 {
         FaultKind::ForbiddenUrl => 10,
         FaultKind::Value => 11,
         FaultKind::Command => 12,
+        // none that a header of this version names
+        _ => 0,
     }
 }
 

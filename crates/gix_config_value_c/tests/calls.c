@@ -378,10 +378,10 @@ static void status_texts(void)
 {
     const char *unknown = gcv_status_text((gcv_status)11);
     count(strcmp(unknown, "unknown status") == 0 && gcv_status_text((gcv_status)UINT32_MAX) == unknown, unknown);
-    for (uint32_t status = GCV_OK; status <= GCV_NOT_WRITTEN; status++) {
+    for (uint32_t status = GCV_OK; status <= GCV_BAD_FORMAT; status++) {
         const char *text = gcv_status_text((gcv_status)status);
-        int is_none = status == 11 || (status > GCV_FORBIDDEN_URL && status < GCV_NOT_READ), differs = strlen(text) > 0;
-        for (uint32_t other = status + 1; other <= GCV_NOT_WRITTEN + 1; other++) {
+        int is_none = status == 11 || (status > GCV_ASKS && status < GCV_NOT_READ), differs = strlen(text) > 0;
+        for (uint32_t other = status + 1; other <= GCV_BAD_FORMAT + 1; other++) {
             differs = differs && (is_none || strcmp(text, gcv_status_text((gcv_status)other)) != 0);
         }
         count(differs && is_none == (text == unknown), text);

@@ -86,12 +86,11 @@ OTHER_NAMES = {"GCV_FAULT_ILL_FORMED_WHOLE": "GCV_FAULT_ILL_FORMED_PATH", "GCV_K
 # the types of C for those of Rattle, and their sizes
 TYPES = {"i64": "int64_t", "u32": "uint32_t", "u8": "uint8_t", "usize": "size_t"}
 TYPES |= {f"Gcv{it.title()}": f"gcv_{it}" for it in ("integer", "name", "color", "frame")}
-TYPES |= {f"Gcv{it.title()}": f"gcv_raw_{it}" for it in ("known", "step", "found")}
-TYPES["Fact"] = "gcv_fact"
+TYPES |= {"Fact": "gcv_fact"} | {f"Gcv{it.title()}": f"gcv_raw_{it}" for it in ("known", "step", "found")}
 # the enums of C are numbers of 32 bits, and a text is of chars
 NUMBERED = re.compile(r"\bgcv_(status|kind|fault|suffix|depth|tag|role|subject|outcome)\b")
 # the pointers to what is in slices: bytes, and texts
-SLICES = {"&[u8]": "const uint8_t *", "&[&[u8]]": "const gcv_text *"}
+SLICES = {"&[u8]": "const uint8_t *", "&[&[u8]]": "const gcv_text *", "&[Fact]": "const gcv_fact *"}
 SIZES = {"int64_t": (8, 8), "uint32_t": (4, 4), "uint8_t": (1, 1), "size_t": (8, 8)}
 SIZES |= dict.fromkeys(SLICES.values(), (8, 8))
 LIFETIMES = re.compile(r"<'[^>]*>|'\w+ ")

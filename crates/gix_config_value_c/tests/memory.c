@@ -272,6 +272,50 @@ static gcv_status command(const void *state, char *buffer, size_t capacity, size
     return gcv_command_text(variable, NULL, buffer, capacity, size);
 }
 
+/* Reads all that Git reads in the current folder, where 4 settings are. */
+static gcv_status read_here(void)
+{
+    gcv_here here;
+    gcv_status status = gcv_read_here(NULL, &here);
+    int is_right = (status == GCV_OK) == (here.why == NULL) && (status != GCV_OK || error == EIO || here.settings.count == 4);
+    gcv_free_here(&here);
+    return is_right ? status : UNTOUCHED;
+}
+
+/* A search and its reader refuse no request unseen: without memory they say so, unless it was to see whether a file of the
+ * user is read, and after any other error they lose no memory. */
+static int tells_here(void)
+{
+    static const char *const made[][2] = {{".git/HEAD", "ref: refs/heads/main\n"}, {".git/config", "[core]\n\tbare = no\n[include]path=in\n"},
+                                          {".git/in", "[a]\nb\n"}, {".gitconfig", "[user]name=A\n"}};
+    char folder[] = "/tmp/gcv_XXXXXX";
+    HOLDS(mkdtemp(folder) && chdir(folder) == 0 && mkdir(".git", 0700) == 0 && mkdir(".git/objects", 0700) == 0 && mkdir(".git/refs", 0700) == 0);
+    for (size_t at = 0; at < 4; at++) {
+        FILE *file = fopen(made[at][0], "w");
+        HOLDS(file && fputs(made[at][1], file) >= 0 && fclose(file) == 0);
+    }
+    HOLDS(setenv("HOME", folder, 1) == 0 && setenv("GIT_CONFIG_NOSYSTEM", "1", 1) == 0 && unsetenv("XDG_CONFIG_HOME") == 0);
+    requests = refused_at = blocks = 0;
+    error = ENOMEM;
+    HOLDS(read_here() == GCV_OK && blocks == 0);
+    unsigned long wanted = requests, unseen = 0;
+    for (unsigned long at = 2; at < 2 * wanted + 2; at++) {
+        requests = 0;
+        refused_at = at / 2;
+        error = at % 2 ? EIO : ENOMEM;
+        gcv_status status = read_here();
+        HOLDS(status != UNTOUCHED && blocks == 0);
+        unseen += status != GCV_NO_MEMORY && at % 2 == 0;
+    }
+    refused_at = 0;
+    HOLDS(wanted > 100 && unseen <= 2);
+    for (size_t at = 0; at < 4; at++) {
+        HOLDS(unlink(made[at][0]) == 0);
+    }
+    HOLDS(rmdir(".git/objects") == 0 && rmdir(".git/refs") == 0 && rmdir(".git") == 0 && chdir("/") == 0 && rmdir(folder) == 0);
+    return 1;
+}
+
 #define TEXT(text) text, sizeof text - 1
 #define EDIT(name, ...)                                                                                                           \
     static gcv_status name(const void *state, char *buffer, size_t capacity, size_t *size)                                        \
@@ -336,6 +380,7 @@ int main(void)
           "a file without an end takes no more than 1 GiB");
     close(made);
     unlink(file_name);
+    count(tells_here(), "a search");
     static gcv_user room;
     requests = 0;
     count((gcv_find_user(&room, "root", 4), requests == 0), "find_user");

@@ -85,8 +85,9 @@ nm -g --defined-only "$archive" | sed -n 's/.* [A-Z] //p' | sort > "$work/shown"
 holds "the archive shows the calls of the header" diff "$work/declared" "$work/shown"
 nm -D --defined-only "$prefix/lib/libgix_config_value.so" | sed -n 's/.* [A-Z] //p' | sort > "$work/shown"
 holds "the shared library shows the calls of the header" diff "$work/declared" "$work/shown"
-printf '%s\n' __errno_location calloc close fchmod free fsync getenv getpwnam_r lseek malloc memchr memcmp memcpy memmove \
-    memset open read readlink realloc realpath rename strcat strcmp strcpy strlen strncmp strrchr syscall unlink write > "$work/known"
+printf '%s\n' __errno_location __xpg_strerror_r access calloc close fchmod free fsync getenv geteuid getpwnam_r lseek malloc \
+    memchr memcmp memcpy memmove memset open read readlink realloc realpath rename snprintf sprintf strcat strcmp strcpy \
+    strlen strncmp strrchr syscall unlink write > "$work/known"
 nm -u "$archive" | sed -n 's/^ *U //p' | grep -v '^gcv_\|^_GLOBAL_OFFSET_TABLE_$' | sort -u > "$work/needed"
 holds "the archive needs no more than docs/C.md says" test -z "$(comm -13 "$work/known" "$work/needed")"
 holds "the shared library is small" test "$(wc -c < "$prefix/lib/libgix_config_value.so")" -lt 250000
@@ -180,6 +181,7 @@ if command -v git > /dev/null; then
     printf '[includeIf "hasconfig:remote.*.url:https://x/**"]\n\tpath = url\n' >> "$work/repository/.git/more"
     printf '[some]\n\tk = of the folder\n' > "$work/repository/.git/some"
     printf '[some]\n\tk = "of the URL"\n' > "$work/repository/.git/url"
+    git config -f "$work/repository/.git/config" color.table.header "#ff0000 ul"
 fi
 body() {
     printf '#include <gix_config_value.h>\n#include <string.h>\nint main(void)\n{\n    char t[64] = "1";\n'
@@ -235,7 +237,7 @@ for compiler in gcc clang g++ clang++; do
             *) set -- -L"$prefix/lib" -lgix_config_value ;;
         esac
         by="by $compiler, $linked"
-        for example in theme check config six_settings; do
+        for example in theme check config six_settings table; do
             # shellcheck disable=SC2086
             holds "$example $by" "$compiler" $language $warnings -I"$prefix/include" -o "$work/$example" \
                 "$root/examples/c/$example.c" -x none "$@"
@@ -256,6 +258,10 @@ for compiler in gcc clang g++ clang++; do
             wanted=$(HOME=$work/home git -C "$work/repository" config --get "$key")
             holds "config $by, $key" answers $? "$wanted\$" env HOME="$work/home" "$work/config" "$work/repository/.git" "$key"
         done
+        holds "six_settings $by, sets" env HOME="$work/home" "$work/six_settings" "$work/repository" 'A B'
+        holds "six_settings $by, has set" test "$(git config -f "$work/repository/.git/config" user.name)" = 'A B'
+        holds "table $by" answers 0 "$(printf '\033')\[1;4;31mbranch" env HOME="$work/home" TERM=xterm \
+            "$work/table" "$work/repository" always
         holds "config $by, another subsection" test -z "$(HOME=$work/home "$work/config" "$work/repository/.git" remote.o.url)"
     done
 done
@@ -303,7 +309,10 @@ for builder in $pythons; do
     done
 done
 if [ -n "$pythons" ]; then
-    counted "what Python reads in a folder" python3 "$root/compare/here.py" --places 60 --python "$work/site"
+    # shellcheck disable=SC2086
+    holds "a reader of folders" "${CC:-cc}" -std=c99 $warnings -I"$prefix/include" -o "$work/here" "$tests/here.c" "$archive"
+    counted "what C and Python read in a folder" python3 "$root/compare/here.py" --places 60 --python "$work/site" \
+        --c "$work/here"
     counted "includes in Python" python3 "$root/compare/config_file.py" --reader \
         "python3 -I -B $tests/listed.py $work/site"
 fi
