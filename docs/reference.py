@@ -23,7 +23,7 @@ LIBRARY = ("gix_config_value", "config_text", "config_integer", "config_boolean"
            "config_host", "config_checks", "config_answers")
 LISTED = (*LIBRARY, "uses")
 # the crates whose paths callers write: CHANGELOG promises them
-PROMISED = ("gix_config_value", "config_file", "config_edit", "config_url", "config_search", "config_host")
+PROMISED = ("gix_config_value", "config_file", "config_edit", "config_url", "config_host")
 # the pages that stand in the folder too, and what C and Python declare
 PAGES = ("CALLING.md", *(f"docs/{it}.md" for it in ("GRAMMAR", "READING", "C", "CHECKING", "DIFFERENCES")))
 OTHERS = {"C": ("crates/gix_config_value_c/include/gix_config_value.h",

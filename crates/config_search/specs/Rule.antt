@@ -1,4 +1,8 @@
 -- Which git directory Git uses in a folder: the rule, over a snapshot of a system.
+--
+-- Look for: a system is one function from a subject and a name to a text or none, and a fact is one value of
+-- it. An empty folder is the current one. `is_git_dir` counts a folder whose file commondir names nothing,
+-- since Git stops there. `find_in`: `.git` before the folder itself.
 use Rattle.std.specs.Prelude.{ℕ, Bool, true, false, not, List, [], Option, None, Some, if◌then◌else◌, ◌==◌, ◌&&◌, ◌||◌, leb, codes, length, take, drop, is_some}
 use Rattle.std.specs.List.{prefix_len}
 use Rattle.std.specs.Str.{bytes_eq}
