@@ -100,7 +100,8 @@ def results(others):
             for comment, name, item in [(page, "page", None), *((item.doc, item.name, item) for item in items)]:
                 found = blocks(comment)
                 if item in public and item.kind in ("struct", "enum", "trait"):
-                    checked.append((f"{file}: {name} has no example", bool(found)))
+                    is_shown = found or re.search(r"example\s+of \[`", comment)
+                    checked.append((f"{file}: {name} has no example", bool(is_shown)))
                 missing -= {name} if found else set()
                 for block in found:
                     label = re.sub(r"(?<=[a-z])(?=[A-Z])", "_", f"{crate}_{file.stem}_{name}").lower()

@@ -6,6 +6,21 @@ use itoa::Buffer;
 use std::alloc::{AllocError, Global};
 
 /// What Git does in a folder.
+///
+/// ```rust
+/// use config_search::{Fact, FaultKind, LEADS, Outcome, VARIABLE, search};
+///
+/// let mut facts = Vec::new(alloc);
+/// for name in ["PWD", "GIT_CONFIG_NOSYSTEM", "GIT_CONFIG_SYSTEM", "GIT_CONFIG_GLOBAL", "XDG_CONFIG_HOME", "HOME"] {
+///     facts.push(Fact { name: name.as_bytes(), text: b"", subject: VARIABLE, has: 0 })?; // it is not set
+/// }
+/// facts.push(Fact { name: b"gone", text: b"", subject: LEADS, has: 0 })?; // there is no such folder
+/// let Ok(answer) = search(alloc, b"gone", &facts) else {
+///     panic!(rt; "an answer");
+/// };
+/// assert_eq!(rt; answer.files[0].name.as_slice(), b"/etc/gitconfig".as_slice());
+/// assert!(rt; matches!(answer.outcome, Outcome::Stops(fault) if matches!(fault.kind, FaultKind::Folder)));
+/// ```
 #[derive(Drop)]
 pub struct Answer {
     /// The folder in which Git works: the top of the work tree, or the folder itself. It is empty if that is the current
@@ -18,7 +33,7 @@ pub struct Answer {
     pub files: Vec<Named>,
 }
 
-/// A file that Git reads if it is there.
+/// A file that Git reads if it is there. The example of [`Answer`] shows how it comes.
 #[derive(Drop)]
 pub struct Named {
     /// Where Git has it from.
@@ -27,7 +42,7 @@ pub struct Named {
     pub name: Vec<u8>,
 }
 
-/// What Git does once it has looked for a repository.
+/// What Git does once it has looked for a repository. The example of [`Answer`] shows how it comes.
 #[derive(Drop)]
 pub enum Outcome {
     /// It uses this repository.
@@ -40,7 +55,7 @@ pub enum Outcome {
     Stops(Fault),
 }
 
-/// The repository that Git uses.
+/// The repository that Git uses. The example of [`Answer`] shows how it comes.
 #[derive(Drop)]
 pub struct Repository {
     /// The path of the git directory from the root, with its links kept.
@@ -58,6 +73,13 @@ pub struct Repository {
 }
 
 /// Why Git uses no repository although one is there. It then reads no settings of it.
+///
+/// ```rust
+/// use config_search::Refusal;
+///
+/// let words = Refusal::Version(2).words(alloc)?;
+/// assert_eq!(rt; words.as_slice(), b"Expected git repo version <= 1, found 2".as_slice());
+/// ```
 #[derive(Drop)]
 #[non_exhaustive]
 pub enum Refusal {
@@ -110,7 +132,7 @@ impl Refusal {
     }
 }
 
-/// Where Git stops as it looks for a repository, and why.
+/// Where Git stops as it looks for a repository, and why. The example of [`Answer`] shows how it comes.
 #[derive(Drop)]
 pub struct Fault {
     /// What is wrong.
@@ -123,7 +145,7 @@ pub struct Fault {
     pub reason: Vec<u8>,
 }
 
-/// What is wrong where Git stops.
+/// What is wrong where Git stops. The example of [`Answer`] shows how it comes.
 #[derive(Clone, Copy)]
 #[non_exhaustive]
 pub enum FaultKind {

@@ -10,7 +10,8 @@ use crate::name::{inside, is_inside};
 use std::alloc::{AllocError, Global};
 use std::cell::Cell;
 
-/// A fact: the answer to a question about a subject, which is one of the numbers of this crate, and a name.
+/// A fact: the answer to a question about a subject, which is one of the numbers of this crate, and a name. The
+/// example of [`Answer`](crate::Answer) tells some.
 #[repr(C)]
 #[derive(Clone, Copy)]
 pub struct Fact<'t> {
@@ -24,7 +25,7 @@ pub struct Fact<'t> {
     pub has: u32,
 }
 
-/// A question.
+/// A question. The example of [`search`](crate::search) gets one.
 #[derive(Drop)]
 pub struct Question {
     /// Its subject.

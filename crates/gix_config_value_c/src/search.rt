@@ -197,7 +197,11 @@ fn fault_number(kind: FaultKind) -> u32 {
 }
 
 /// What the search in a folder tells by these facts, and the status of that.
-fn told(alloc: Global, folder: &[u8], facts: &[Fact<'_>]) -> Result<(Told, u32), AllocError> {
+fn search_told(
+    alloc: Global,
+    folder: &[u8],
+    facts: &[Fact<'_>],
+) -> Result<(Told, u32), AllocError> {
     let mut told = Told::new(alloc);
     match search(alloc, folder, facts) {
         Ok(answer) => {
@@ -227,7 +231,7 @@ pub extern "C" fn gcv_raw_search(
     buffer: &mut [u8],
     out: &mut GcvFound,
 ) -> u32 {
-    let Ok((Told { bytes, mut found }, status)) = told(alloc, folder, facts) else {
+    let Ok((Told { bytes, mut found }, status)) = search_told(alloc, folder, facts) else {
         return Status::NoMemory as u32;
     };
     found.size = bytes.len();
