@@ -327,16 +327,30 @@ static gcv_status add_answers(facts *of, const gcv_found *asked)
     return status == GCV_OK && asked->subject == GCV_DEVICE ? tell_above(of) : status;
 }
 
+/* Tells the variables that most searches ask for, so that it need not stop for each. */
+static gcv_status tell_variables(facts *of)
+{
+    static const char *const names[] = {
+        "PWD", "GIT_DIR", "GIT_COMMON_DIR", "GIT_OBJECT_DIRECTORY", "GIT_TEST_ASSUME_DIFFERENT_OWNER",
+        "GIT_REFERENCE_BACKEND", "GIT_WORK_TREE", "GIT_CONFIG_NOSYSTEM", "GIT_CONFIG_SYSTEM", "GIT_CONFIG_GLOBAL",
+        "XDG_CONFIG_HOME", "HOME"};
+    gcv_status status = GCV_OK;
+    for (size_t at = 0; at < sizeof names / sizeof *names && status == GCV_OK; at++) {
+        status = add_answer(of, GCV_VARIABLE, names[at], strlen(names[at]));
+    }
+    return status;
+}
+
 gcv_status gcv_find_here(const char *folder, gcv_answer_call *call, void *state, char **texts, gcv_found *out)
 {
     facts of = {NULL, NULL, 0, 0, call, state};
     size_t capacity = LEAST_ROOM;
     char *buffer = malloc(capacity), *more;
-    gcv_status status = buffer ? GCV_ASKS : GCV_NO_MEMORY;
+    gcv_status told = buffer ? tell_variables(&of) : GCV_NO_MEMORY, status = told == GCV_OK ? GCV_ASKS : told;
     while (status == GCV_ASKS || status == GCV_SHORT_BUFFER) {
         status = gcv_search(folder, strlen(folder), of.list, of.count, buffer, capacity, out);
         if (status == GCV_ASKS) {
-            gcv_status told = add_answers(&of, out);
+            told = add_answers(&of, out);
             status = told == GCV_OK ? status : told;
         } else if (status == GCV_SHORT_BUFFER) {
             capacity = out->size;
