@@ -7,6 +7,7 @@ use crate::wanted::section_and_name;
 use config_file::{Key, Setting, Settings};
 use config_host::HostError;
 use config_host::environment::variable;
+use config_host::terminal::When;
 use config_host::text::Text;
 use config_url::{Url, last_for_url};
 use gix_config_value::canonical::{Kind, TryRead};
@@ -55,41 +56,6 @@ fn is_passed_over(shown: Shown, setting: &Setting<'_>) -> bool {
         Shown::Escape => true,
         Shown::Path => setting.value.is_none(),
         _ => false,
-    }
-}
-
-/// When output is colored.
-#[derive(Clone, Copy)]
-enum Use {
-    /// Never.
-    Never,
-    /// Always.
-    Always,
-    /// On a terminal.
-    OnTerminal,
-}
-
-/// The words that say when output is colored.
-const USES: &[(&[u8], Use)] = &[
-    (b"never", Use::Never),
-    (b"always", Use::Always),
-    (b"auto", Use::OnTerminal),
-];
-
-impl Use {
-    /// What a setting says, or `None` if it says nothing of the kind.
-    fn of(setting: &Setting<'_>) -> Option<Use> {
-        let text = setting.text();
-        for (word, means) in USES {
-            if text.eq_ignore_ascii_case(word) {
-                return Some(*means);
-            }
-        }
-        match Boolean::try_read(text) {
-            Ok(Boolean(is_true)) if is_true => Some(Use::OnTerminal),
-            Ok(_) => Some(Use::Never),
-            Err(_) => None,
-        }
     }
 }
 
@@ -209,12 +175,12 @@ impl<'t> Reading<'_, 't> {
 
     /// What the settings that were found say of the output of this key, or `None` if one of them is wrong,
     /// which is told.
-    fn decided_use(&mut self, key: &str) -> Result<Option<Use>, HostError> {
+    fn decided_use(&mut self, key: &str) -> Result<Option<When>, HostError> {
         let (mut own, mut of_diff, mut of_all) = (None, None, None);
         let found = self.taken();
         for setting in &found {
             let listed = setting.entry.key_text(self.rt.alloc())?;
-            let Some(means) = Use::of(setting) else {
+            let Some(means) = When::read(setting.text()) else {
                 self.tell_setting(Shown::Canonical(Kind::Boolean), setting, &listed);
                 return Ok(None);
             };
@@ -230,7 +196,7 @@ impl<'t> Reading<'_, 't> {
             of_diff = None;
         }
         let decided = own.or(of_diff).or(of_all);
-        Ok(Some(decided.unwrap_or(Use::OnTerminal)))
+        Ok(Some(decided.unwrap_or(When::Auto)))
     }
 
     /// Whether the output is a terminal with colors, or `None` if what is said of it is no boolean, which is
@@ -268,9 +234,9 @@ impl<'t> Reading<'_, 't> {
             return Ok(Ending::Refused);
         };
         let is_colored = match means {
-            Use::Never => false,
-            Use::Always => true,
-            Use::OnTerminal => has_terminal,
+            When::Never => false,
+            When::Always => true,
+            When::Auto => has_terminal,
         };
         if said.is_some() {
             self.found.writer.output.extend_from_slice(if is_colored {
