@@ -260,7 +260,7 @@ for compiler in gcc clang g++ clang++; do
         done
         holds "six_settings $by, sets" env HOME="$work/home" "$work/six_settings" "$work/repository" 'A B'
         holds "six_settings $by, has set" test "$(git config -f "$work/repository/.git/config" user.name)" = 'A B'
-        holds "table $by" answers 0 "$(printf '\033')\[1;4;31mbranch" env HOME="$work/home" TERM=xterm \
+        holds "table $by" answers 0 "$(printf '\033')\[1;4;91mbranch" env HOME="$work/home" TERM=xterm \
             "$work/table" "$work/repository" always
         holds "config $by, another subsection" test -z "$(HOME=$work/home "$work/config" "$work/repository/.git" remote.o.url)"
     done
