@@ -320,20 +320,10 @@ static gcv_status tell_above(facts *of)
     return status;
 }
 
-/* Adds the answer to what a search has asked, and those that it asks next. */
-static gcv_status add_answers(facts *of, const gcv_found *asked)
-{
-    gcv_status status = add_answer(of, asked->subject, asked->name, asked->name_length);
-    return status == GCV_OK && asked->subject == GCV_DEVICE ? tell_above(of) : status;
-}
-
-/* Tells the variables that most searches ask for, so that it need not stop for each. */
+/* After the variable for the files of the system, tells those that a search asks next, to name the files of the user. */
 static gcv_status tell_variables(facts *of)
 {
-    static const char *const names[] = {
-        "PWD", "GIT_DIR", "GIT_COMMON_DIR", "GIT_OBJECT_DIRECTORY", "GIT_TEST_ASSUME_DIFFERENT_OWNER",
-        "GIT_REFERENCE_BACKEND", "GIT_WORK_TREE", "GIT_CONFIG_NOSYSTEM", "GIT_CONFIG_SYSTEM", "GIT_CONFIG_GLOBAL",
-        "XDG_CONFIG_HOME", "HOME"};
+    static const char *const names[] = {"GIT_CONFIG_SYSTEM", "GIT_CONFIG_GLOBAL", "XDG_CONFIG_HOME", "HOME"};
     gcv_status status = GCV_OK;
     for (size_t at = 0; at < sizeof names / sizeof *names && status == GCV_OK; at++) {
         status = add_answer(of, GCV_VARIABLE, names[at], strlen(names[at]));
@@ -341,16 +331,26 @@ static gcv_status tell_variables(facts *of)
     return status;
 }
 
+/* Adds the answer to what a search has asked, and those that it asks next. */
+static gcv_status add_answers(facts *of, const gcv_found *asked)
+{
+    gcv_status status = add_answer(of, asked->subject, asked->name, asked->name_length);
+    if (status == GCV_OK && asked->subject == GCV_VARIABLE && strcmp(asked->name, "GIT_CONFIG_NOSYSTEM") == 0) {
+        return tell_variables(of);
+    }
+    return status == GCV_OK && asked->subject == GCV_DEVICE ? tell_above(of) : status;
+}
+
 gcv_status gcv_find_here(const char *folder, gcv_answer_call *call, void *state, char **texts, gcv_found *out)
 {
     facts of = {NULL, NULL, 0, 0, call, state};
     size_t capacity = LEAST_ROOM;
     char *buffer = malloc(capacity), *more;
-    gcv_status told = buffer ? tell_variables(&of) : GCV_NO_MEMORY, status = told == GCV_OK ? GCV_ASKS : told;
+    gcv_status status = buffer ? GCV_ASKS : GCV_NO_MEMORY;
     while (status == GCV_ASKS || status == GCV_SHORT_BUFFER) {
         status = gcv_search(folder, strlen(folder), of.list, of.count, buffer, capacity, out);
         if (status == GCV_ASKS) {
-            told = add_answers(&of, out);
+            gcv_status told = add_answers(&of, out);
             status = told == GCV_OK ? status : told;
         } else if (status == GCV_SHORT_BUFFER) {
             capacity = out->size;
