@@ -23,7 +23,7 @@ use crate::failure::{Failure, status, written};
 use crate::options::{
     ABOUT, Asked, TABLES, VERSION, check_once, git_of, ignored_by, values_of, with_those_of,
 };
-use crate::rows::{built_in, rows_of, shared};
+use crate::rows::{built_in, read_shared, rows_of};
 use bumpalo::Bump;
 use config_checks::git::SETTINGS;
 use config_host::environment::{arguments, words_of};
@@ -38,7 +38,7 @@ fn run_check<'m>(
     given: &Options<'m>,
 ) -> Result<u8, Failure<'m>> {
     let alloc = rt.alloc();
-    let shared = shared(rt, texts)?;
+    let shared = read_shared(rt, texts)?;
     let (words, text) = match &shared {
         Some(shared) => (shared.words.as_slice(), Some(shared.rows)),
         None => ([].as_slice(), None),
@@ -63,7 +63,7 @@ fn run_explain<'m>(
     }
     let git = git_of(rt, options)?;
     let files = values_of(rt.alloc(), options, "settings")?;
-    let text = match shared(rt, texts)? {
+    let text = match read_shared(rt, texts)? {
         Some(shared) => Some(shared.rows),
         None => None,
     };

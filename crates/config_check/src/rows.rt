@@ -249,7 +249,7 @@ pub(crate) struct Shared<'t> {
 }
 
 /// What the file of rows at the top of the repository of the current folder has, if it is there.
-pub(crate) fn shared<'t>(
+pub(crate) fn read_shared<'t>(
     rt: &'t HostRuntime,
     texts: &'t Bump,
 ) -> Result<Option<Shared<'t>>, Failure<'static>> {

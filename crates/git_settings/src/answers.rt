@@ -1,7 +1,7 @@
 //! Answers about a URL, a color, and whether output is colored.
 
 use crate::files::Reading;
-use crate::output::{Ending, Name, tell};
+use crate::output::{Ending, tell};
 use crate::shown::{Outcome, Shown, Wrong, tell_wrong};
 use crate::wanted::section_and_name;
 use config_file::{Key, Setting, Settings};
@@ -113,13 +113,7 @@ impl<'t> Reading<'_, 't> {
 
     /// Appends a setting that decides for a URL, or tells that it has no value of its type.
     fn answer_for_url(&mut self, setting: &Setting<'_>, key: &[u8]) -> Result<Ending, HostError> {
-        let place = self.found.writer.unfiled.place(setting);
-        let value = setting.value.as_deref();
-        let name = Name::Text(key);
-        let outcome = self
-            .found
-            .writer
-            .put(&self.found.values, value, &place, name)?;
+        let outcome = self.found.put(setting, key)?;
         if matches!(outcome, Outcome::Refused) {
             self.tell_setting(self.request.shown, setting, key);
             if !is_passed_over(self.request.shown, setting) {

@@ -1,9 +1,9 @@
 //! Lists the entries of texts, or prints values of them.
 ghost use Rattle.std.specs.Prelude.{⊤};
 
-use crate::output::{Ending, form_of};
+use crate::output::{Ending, Name, form_of};
 use crate::request::{Request, Subject};
-use crate::shown::{Shown, System, Values, Wrong, homes_of, tell_wrong};
+use crate::shown::{Outcome, Shown, System, Values, Wrong, homes_of, tell_wrong};
 use crate::sources::{Opened, open_texts, tell_stop, unfiled};
 use crate::wanted::{Patterns, Unclear, choice_of};
 use bumpalo::Bump;
@@ -32,7 +32,26 @@ pub struct Found<'t> {
     pub writer: Writer,
 }
 
-impl Found<'_> {
+impl<'t> Found<'t> {
+    /// Appends a setting, as it is listed under this key.
+    pub fn put(&mut self, setting: &Setting<'_>, key: &[u8]) -> io::Result<Outcome> {
+        let place = self.writer.unfiled.place(setting);
+        let value = setting.value.as_deref();
+        self.writer
+            .put(&self.values, value, &place, Name::Text(key))
+    }
+
+    /// Appends the values of these settings, or the default under this key, and nothing if one is refused.
+    fn answer_or<'s>(
+        &mut self,
+        settings: &'s [Setting<'t>],
+        key: &[u8],
+        default: Option<&[u8]>,
+    ) -> io::Result<Answer<'s, 't>> {
+        self.writer.output.clear();
+        self.writer.answer_or(&self.values, settings, key, default)
+    }
+
     /// Writes the output so far.
     fn write(&mut self) -> io::Result<()> {
         self.values.host.0.stdout().write_all(&self.writer.output)?;
@@ -131,12 +150,8 @@ impl<'t> Reading<'_, 't> {
     /// is refused, there is no output.
     fn answer_key(&mut self, key: &str) -> Result<Ending, HostError> {
         let settings = self.taken();
-        self.found.writer.output.clear();
         let default = self.request.default.map(str::as_bytes);
-        let answer = self
-            .found
-            .writer
-            .answer_or(&self.found.values, &settings, key.as_bytes(), default)?;
+        let answer = self.found.answer_or(&settings, key.as_bytes(), default)?;
         match answer {
             Answer::Written | Answer::Absent => {}
             Answer::NoDefault => self.tell_default(key, self.request.default.unwrap_or("")),
