@@ -19,7 +19,7 @@ begin=$(dirname -- "$0")/packaging
 dest=$(CDPATH='' cd -- "$word" && pwd)
 [ "$dest" != "$root" ] || { echo "$dest is this repository" >&2; exit 2; }
 library="config_text config_integer config_boolean config_word config_color config_path gix_config_value config_file \
-config_edit config_url config_search config_host"
+config_edit config_url config_host"
 own=crates/gix_config_value
 list=$own/vendored
 

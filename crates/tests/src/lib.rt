@@ -15,7 +15,6 @@ mod memory;
 #[cfg(test)]
 mod refusals;
 #[cfg(test)]
-mod search;
 #[cfg(test)]
 mod settings;
 #[cfg(test)]
