@@ -38,12 +38,11 @@ fn run_check<'m>(
     given: &Options<'m>,
 ) -> Result<u8, Failure<'m>> {
     let alloc = rt.alloc();
-    let shared = read_shared(rt, texts)?;
-    let (words, text) = match &shared {
-        Some(shared) => (shared.words.as_slice(), Some(shared.rows)),
-        None => ([].as_slice(), None),
+    let (words, text) = match read_shared(rt, texts)? {
+        Some(shared) => (shared.words, Some(shared.rows)),
+        None => (Vec::new(alloc), None),
     };
-    let options = with_those_of(alloc, words, given)?;
+    let options = with_those_of(alloc, &words, given)?;
     let ignored = ignored_by(alloc, &values_of(alloc, &options, "ignore")?)?;
     let asked = Asked::of(rt, &options, &ignored)?;
     let files = values_of(alloc, &options, "settings")?;
