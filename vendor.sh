@@ -1,7 +1,7 @@
 #!/bin/sh
 # Copies the library into another repository: sh vendor.sh [--diff] DEST
 #
-# DEST is the top of that repository, or an empty folder. It gets the folders of the library's eleven crates in
+# DEST is the top of that repository, or an empty folder. It gets the folders of the library's twelve crates in
 # DEST/crates, and their lines in DEST/crates.txt, each line once. A crate of DEST then uses the library by a line such
 # as `NAME: gix_config_value config_file`, with config_host if it opens files. The two licenses, and the pages that
 # comments cite, are in DEST/crates/gix_config_value. `vendored` there has the version and the sum of each file that is
@@ -19,7 +19,7 @@ begin=$(dirname -- "$0")/packaging
 dest=$(CDPATH='' cd -- "$word" && pwd)
 [ "$dest" != "$root" ] || { echo "$dest is this repository" >&2; exit 2; }
 library="config_text config_integer config_boolean config_word config_color config_path gix_config_value config_file \
-config_edit config_url config_host"
+config_edit config_url config_search config_host"
 own=crates/gix_config_value
 list=$own/vendored
 

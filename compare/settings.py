@@ -313,6 +313,8 @@ CLASSES = {
     "a ref at which only git notes stops": lambda case: case.question.row == "core.notesRef" and case.git == "takes",
     "the mark of a path, which Git knows since 2.52": lambda case: (case.question.value or "").startswith(":(optional)"),
     "a right value with an effect that fails": lambda case: case.question.row in EFFECTS and case.ours == "takes",
+    "a message that only a newer fsck has": lambda case: case.ours == "takes"
+    and re.search(r"fsck\.(?!skipList)", case.question.row),
     "a kind that takes more than Git": lambda case: case.question.row in WIDER and case.ours == "takes",
 }
 

@@ -272,75 +272,6 @@ static gcv_status add_answer(facts *of, gcv_subject subject, const char *asked, 
     return GCV_OK;
 }
 
-/* The last of the first facts about this subject, or null. */
-static const gcv_fact *last_of(const facts *of, size_t count, gcv_subject subject, const char *name)
-{
-    while (count > 0 && (of->list[count - 1].subject != subject || (name && strcmp(of->list[count - 1].name, name) != 0))) {
-        count--;
-    }
-    return count > 0 ? &of->list[count - 1] : NULL;
-}
-
-/* Whether the last fact is about a folder from the root that is on the device of the folder below. */
-static int climbs(const facts *of)
-{
-    const gcv_fact *last = &of->list[of->count - 1], *below = last_of(of, of->count - 1, GCV_DEVICE, NULL);
-    return *last->name == '/' && last->has == 1 && below && below->has == 1 && last->text_length == below->text_length &&
-           memcmp(last->text, below->text, last->text_length) == 0;
-}
-
-/* Whether a folder has no file of this name. Tells it to the search. */
-static int has_none(facts *of, char *folder, size_t length, const char *name, gcv_status *status)
-{
-    strcpy(folder + length, name);
-    *status = *status == GCV_OK ? add_answer(of, GCV_FILE_KIND, folder, strlen(folder)) : *status;
-    return *status == GCV_OK && of->list[of->count - 1].has == 0;
-}
-
-/* After the device of a folder, tells what a search asks that climbs, so that it need not stop for each folder above: of
- * this one, and of all above if there is no ceiling. */
-static gcv_status tell_above(facts *of)
-{
-    char name[PATH_MAX + sizeof "/.git"];
-    const gcv_fact *ceilings = last_of(of, of->count, GCV_VARIABLE, "GIT_CEILING_DIRECTORIES");
-    int is_free = ceilings && ceilings->has == 0;
-    gcv_status status = GCV_OK;
-    while (status == GCV_OK && climbs(of) && of->list[of->count - 1].name_length < PATH_MAX) {
-        const gcv_fact *folder = &of->list[of->count - 1];
-        size_t length = folder->name_length == 1 ? 0 : folder->name_length;
-        memcpy(name, folder->name, length);
-        if (!has_none(of, name, length, "/.git", &status) || !has_none(of, name, length, "/HEAD", &status) || !is_free ||
-            length == 0) {
-            return status;
-        }
-        name[length] = '\0';
-        length = (size_t)(strrchr(name, '/') - name);
-        status = add_answer(of, GCV_DEVICE, name, length == 0 ? 1 : length);
-    }
-    return status;
-}
-
-/* After the variable for the files of the system, tells those that a search asks next, to name the files of the user. */
-static gcv_status tell_variables(facts *of)
-{
-    static const char *const names[] = {"GIT_CONFIG_SYSTEM", "GIT_CONFIG_GLOBAL", "XDG_CONFIG_HOME", "HOME"};
-    gcv_status status = GCV_OK;
-    for (size_t at = 0; at < sizeof names / sizeof *names && status == GCV_OK; at++) {
-        status = add_answer(of, GCV_VARIABLE, names[at], strlen(names[at]));
-    }
-    return status;
-}
-
-/* Adds the answer to what a search has asked, and those that it asks next. */
-static gcv_status add_answers(facts *of, const gcv_found *asked)
-{
-    gcv_status status = add_answer(of, asked->subject, asked->name, asked->name_length);
-    if (status == GCV_OK && asked->subject == GCV_VARIABLE && strcmp(asked->name, "GIT_CONFIG_NOSYSTEM") == 0) {
-        return tell_variables(of);
-    }
-    return status == GCV_OK && asked->subject == GCV_DEVICE ? tell_above(of) : status;
-}
-
 gcv_status gcv_find_here(const char *folder, gcv_answer_call *call, void *state, char **texts, gcv_found *out)
 {
     facts of = {NULL, NULL, 0, 0, call, state};
@@ -350,7 +281,7 @@ gcv_status gcv_find_here(const char *folder, gcv_answer_call *call, void *state,
     while (status == GCV_ASKS || status == GCV_SHORT_BUFFER) {
         status = gcv_search(folder, strlen(folder), of.list, of.count, buffer, capacity, out);
         if (status == GCV_ASKS) {
-            gcv_status told = add_answers(&of, out);
+            gcv_status told = add_answer(&of, out->subject, out->name, out->name_length);
             status = told == GCV_OK ? status : told;
         } else if (status == GCV_SHORT_BUFFER) {
             capacity = out->size;

@@ -27,11 +27,11 @@ CALLS = {
     "config_file": ("text", "get", "spell_value", "is_remote_url"),
     "config_edit": ("set", "add", "unset", "rename_section"),
     "config_url": ("last_for_url",),
+    "config_search": ("search",),
     "config_host": ("settings_here", "Locked"),
 }
 # the crates that use the library
 MORE = {"config_checks": ("check_file", "Options", "Setting", "Version"), "config_answers": (),
-        "config_search": ("search",),
         "uses": ("color_of_both", "default_warning", "is_bare", "path_at_home", "path_of_user", "preview",
                  "push_default", "read", "six_settings", "value_of")}
 FENCED = re.compile(r"^```(\w*)\n(.*?)^```$", re.MULTILINE | re.DOTALL)

@@ -43,9 +43,9 @@ HELD = {"held/HEAD": b"ref: refs/heads/main\n", "held/objects/x": b"", "held/ref
         "held/config": b"[core]\n\trepositoryformatversion = 0\n[extensions]\n\tworktreeConfig\n",
         "held/config.worktree": b"[a]\n\tb = 1\n[includeIf \"onbranch:main\"]\n\tpath = more\n",
         "held/more": b"[remote \"o\"]\n\turl = x\n[includeIf \"gitdir:**/held\"]\n\tpath = ../link.more\n",
-        "link.more": b"[core]\n\tbare = ys\n"}
+        "link.more": b"[core]\n\tbare = tru\n"}
 READ = b"core.repositoryformatversion=0\nextensions.worktreeconfig\na.b=1\nincludeif.onbranch:main.path=more\n" \
-    b"remote.o.url=x\nincludeif.gitdir:**/held.path=../link.more\ncore.bare=ys\na.c=d\n"
+    b"remote.o.url=x\nincludeif.gitdir:**/held.path=../link.more\ncore.bare=tru\na.c=d\n"
 # after another error than this one Git takes the repository for none, and so does the program
 HERE = Run("", files=HELD, known={"GIT_DIR": "link", "GIT_CONFIG_PARAMETERS": "'a.c'='d'", "HOME": "/h"},
            errors=(errno.ENOMEM,))
@@ -63,10 +63,10 @@ SETTINGS = [
     Run("unset --file edit a.l", files=EDITED, changed={"edit": b"[a]\n\tk = v # c\n"}),
     Run("rename-section --file edit a b", files=EDITED, changed={"edit": b"[b]\n\tk = v # c\n\tl = 1\n"}),
 ]
-WRONG = {"f": b"[core]\n\tbare = ys\n\teditor = vi\n[include]\n\tpath = g\n", "g": b"[core]\n\tbare = on\n"}
-MENDED = {"f": b"[core]\n\tbare = yes\n\teditor = vi\n[include]\n\tpath = g\n"}
-FOUND = b":2:2: error: core.bare: 'ys': Booleans need to be 'no', 'off', 'false', '' or 'yes', 'on', 'true' or any" \
-    b" number; did you mean yes? [bad-boolean]\n"
+WRONG = {"f": b"[core]\n\tbare = tru\n\teditor = vi\n[include]\n\tpath = g\n", "g": b"[core]\n\tbare = on\n"}
+MENDED = {"f": b"[core]\n\tbare = true\n\teditor = vi\n[include]\n\tpath = g\n"}
+FOUND = b":2:2: error: core.bare: 'tru': Booleans need to be 'no', 'off', 'false', '' or 'yes', 'on', 'true' or any" \
+    b" number; did you mean true? [bad-boolean]\n"
 CHECK = [
     Run("f", b"f" + FOUND, 1, WRONG),
     Run("-q --color=never -", b"-" + FOUND, 1, {"g": WRONG["g"]}, given=WRONG["f"]),

@@ -11,7 +11,7 @@ import sys
 import tempfile
 
 ROOT = pathlib.Path(__file__).resolve().parent.parent.parent
-LIBRARY = "text integer boolean word color path file edit url host".split()
+LIBRARY = "text integer boolean word color path file edit url search host".split()
 CRATES = [*(f"config_{name}" for name in LIBRARY), "gix_config_value"]
 COPIED = "crates/config_text/src/lib.rt"
 OWN = pathlib.PurePath("crates/gix_config_value")

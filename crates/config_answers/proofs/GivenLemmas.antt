@@ -1,33 +1,16 @@
 -- A loop over the steps of a walk, of which it is handed on what is asked for.
-use Rattle.std.proofs.Common.{arith, inl, inr, ◌≡◌, ◌++◌, ℕ, Bool, true, false, List, [], ◌∷◌, subst, sym}
-use Rattle.std.proofs.Common.{refl, length, map}
+use Rattle.std.proofs.Common.{◌≡◌, ◌++◌, ℕ, Bool, true, false, List, [], ◌∷◌, sym}
 use Rattle.std.specs.Prelude.{Ok, Err}
-use Rattle.std.proofs.lemmas.List.{append_assoc, append-nil, map-append}
-use Rattle.std.proofs.lemmas.List.Elements.{Contains-push, Contains-append_left, Contains-append_right}
-use Rattle.std.proofs.lemmas.List.Elements.{Contains-append_cases, Contains-push_cases}
+use Rattle.std.proofs.lemmas.List.{append_assoc, append-nil}
 use Rattle.config_file.specs.File.{Entry}
-use Rattle.config_file.specs.Settings.{TellsStop, found_item, IsPassed, IsEntered, IsStop}
-use Rattle.config_file.specs.Walk.{Content, Item, Stops, Stop, WalksText}
-use Rattle.config_file.specs.Walk as w
-use Rattle.config_file.specs.Reading.Adds.{Comes}
-use Rattle.config_file.specs.Reading.Walks.{Left, nothing, Enters, Passes, Said, Takes}
-use Rattle.config_file.specs.Views.{entry_of}
-use Rattle.config_file.specs.declared.entry.Entry as code
-use Rattle.config_file.specs.declared.errors.FileError.{FileError}
-use Rattle.config_file.specs.declared.walk.Include.{Include}
-use Rattle.config_file.specs.declared.walk.Include.TheVariants.{NotFollowed, MissingValue, UnknownDirectory}
-use Rattle.config_file.specs.declared.walk.Include.TheVariants.{Named}
-use Rattle.config_file.specs.declared.walk.Include.TheVariants as what
-use Rattle.config_file.specs.declared.walk.Step.TheVariants as step
-use Rattle.config_file.specs.declared.scope.Scope.{Scope}
-use Rattle.config_file.specs.declared.settings.AddError.TheVariants as error
-use Rattle.config_file.specs.declared.settings.IncludeFault.{IncludeFault}
-use Rattle.config_file.specs.declared.settings.IncludeFault.TheVariants as fault
+use Rattle.config_file.specs.Walk.{Content, Stops}
+use Rattle.config_file.specs.Reading.Walks.{Enters, Said}
 use Rattle.config_file.specs.declared.settings.Setting.{Setting}
+use Rattle.config_file.specs.declared.scope.Scope.{Scope}
 use Rattle.config_file.specs.declared.walk.Frame.{Frame}
 use Rattle.config_file.specs.declared.walk.Known.{Known}
-use Rattle.config_file.specs.declared.walk.FilePlace.{FilePlace}
-use Rattle.config_file.proofs.Steps.{all_of, cut_here, walks_as}
+use Rattle.config_file.proofs.Coming.{Came, came_first, came_on, walked, walked_all}
+use Rattle.config_file.proofs.Steps.{cut_here}
 use Rattle.config_answers.specs.Choices.{Choice}
 use Rattle.config_answers.specs.Given as given
 use Rattle.config_answers.specs.Given.{GivesEach, Reads, one_more}
@@ -36,208 +19,52 @@ use Rattle.config_answers.specs.declared.read.Stopped.{Stopped}
 use Rattle.config_answers.specs.declared.read.Stopped.TheVariants.{Git, System}
 use Rattle.config_answers.specs.declared.read.Text.{Text}
 
-pub each_both : {R : Type 0} {receives : R → Setting → R → Type 0} {choice : Choice} {scope : Scope} {old mid new : R}
+each_both : {R : Type 0} {receives : R → Setting → R → Type 0} {choice : Choice} {scope : Scope} {old mid new : R}
     {found more : List (List ℕ × Entry)} → GivesEach receives choice scope old found mid
     → GivesEach receives choice scope mid more new → GivesEach receives choice scope old (found ++ more) new
 each_both {found = found} first given.nothing = rw (append-nil found) first
 each_both {found = found} first (one_more {found = more} one so_far gives) =
     rw (sym (append_assoc found more (one ∷ []))) (one_more one (each_both first so_far) gives)
 
-none_said : (name : List ℕ) (content : Content) → Said [] name content → ⊥
-none_said name content said = let below = said.1 in omega arith
-
-module _ (contents : List ℕ → Content → Type 0) (known : Known) where
-  comes_from : (old new : List Frame) (items : List (List ℕ × Item))
-      → ((answers : List (List ℕ × Content)) → Passes answers known old items new)
-      → Comes contents known old items new
-  comes_from old new items passes =
-      ([], λ name content said. absurd (none_said name content said), λ more within. passes more)
-
-  comes_with : (old new : List Frame) (items : List (List ℕ × Item)) (name : List ℕ) (content : Content)
-      → contents name content
-      → ((answers : List (List ℕ × Content)) → Said answers name content → Passes answers known old items new)
-      → Comes contents known old items new
-  comes_with old new items name content is passes = (
-    (name, content) ∷ [],
-    λ n c said. elim (Contains-push_cases [] (name, content) (n, c) said) [
-      | inl none ↦ absurd (none_said n c none)
-      | inr same ↦ subst (λ p. contents p.0 p.1) same is
-    ],
-    λ more within. passes more (within name content (Contains-push [] (name, content))),
-  )
-
-  comes_none : (frames : List Frame) → Comes contents known frames [] frames
-  comes_none frames = comes_from frames frames [] (λ answers left whole has. has)
-
-  comes_both : (old mid new : List Frame) (items more : List (List ℕ × Item)) → Comes contents known old items mid
-      → Comes contents known mid more new → Comes contents known old (items ++ more) new
-  comes_both old mid new items more (said, among, passes) (said2, among2, passes2) = (
-    said ++ said2,
-    λ n c is. elim (Contains-append_cases said said2 (n, c) is) [ inl one ↦ among n c one | inr two ↦ among2 n c two ],
-    λ all within left whole has. rw (append_assoc items more left)
-        (passes all (λ n c is. within n c (Contains-append_left said said2 (n, c) is)) (more ++ left) whole
-        (passes2 all (λ n c is. within n c (Contains-append_right said said2 (n, c) is)) left whole has)),
-  )
-
-  -- an entry that is passed
-  pub passed_next : (old new : List Frame) (place : FilePlace) (entry : code.Entry) (include : Include)
-      → ((answers : List (List ℕ × Content)) → Takes answers known old (step.Entry place entry include) new)
-      → IsPassed contents include
-      → Comes contents known old (found_item (place.name.now, entry_of entry) ∷ []) new
-  passed_next old new place entry NotFollowed takes is =
-      comes_from old new (found_item (place.name.now, entry_of entry) ∷ []) takes
-  passed_next old new place entry (Named name) takes is =
-      comes_with old new (found_item (place.name.now, entry_of entry) ∷ []) name.items w.Missing is
-      (λ answers said. (takes answers).missing said)
-  passed_next old new place entry include takes is = absurd is
-
-  -- an entry that is followed
-  pub entered_next : (old new newer : List Frame) (place at : FilePlace) (entry : code.Entry) (include : Include)
-      (text : List ℕ)
-      → ((answers : List (List ℕ × Content)) → Takes answers known old (step.Entry place entry include) new)
-      → IsEntered contents at text include → Enters new at text newer
-      → Comes contents known old (found_item (place.name.now, entry_of entry) ∷ []) newer
-  entered_next old new newer place at entry (Named name) text takes (same, is) enters =
-      comes_with old newer (found_item (place.name.now, entry_of entry) ∷ []) at.name.now (w.Text at.real_dir.now text) is
-      (λ answers said. (takes answers).entered at text newer same said enters)
-  entered_next old new newer place at entry include text takes is enters = absurd is
-
-  -- an entry that is included too deep
-  pub deep_next : (old new : List Frame) (place at : FilePlace) (entry : code.Entry) (include : Include)
-      (text : List ℕ)
-      → ((answers : List (List ℕ × Content)) → Takes answers known old (step.Entry place entry include) new)
-      → IsEntered contents at text include → length new ≡ 11
-      → Comes contents known old (found_item (place.name.now, entry_of entry)
-      ∷ (place.name.now, Stops (w.TooDeep (entry_of entry))) ∷ []) new
-  deep_next old new place at entry (Named name) text takes (same, is) full =
-      comes_with old new
-      (found_item (place.name.now, entry_of entry) ∷ (place.name.now, Stops (w.TooDeep (entry_of entry))) ∷ [])
-      name.items (w.Text at.real_dir.now text) (rw same at is)
-      (λ answers said. (takes answers).too_deep at.real_dir.now text said full)
-  deep_next old new place at entry include text takes is full = absurd is
-
-  -- an entry at which Git stops
-  pub stop_comes : (old new : List Frame) (place : FilePlace) (entry : code.Entry) (include : Include)
-      (why : IncludeFault)
-      → ((answers : List (List ℕ × Content)) → Takes answers known old (step.Entry place entry include) new)
-      → IsStop contents include why
-      → (stop : Stop) × TellsStop place.name.now stop (error.Include place.name entry.line why)
-      × Comes contents known old (found_item (place.name.now, entry_of entry) ∷ (place.name.now, Stops stop) ∷ []) new
-  stop_comes old new place entry MissingValue why takes is = (
-    w.NoValue (entry_of entry),
-    (refl, refl, rw is tt),
-    comes_from old new
-        (found_item (place.name.now, entry_of entry) ∷ (place.name.now, Stops (w.NoValue (entry_of entry))) ∷ []) takes,
-  )
-  stop_comes old new place entry UnknownDirectory why takes is = (
-    w.Unknown (entry_of entry),
-    (refl, refl, rw is tt),
-    comes_from old new
-        (found_item (place.name.now, entry_of entry) ∷ (place.name.now, Stops (w.Unknown (entry_of entry))) ∷ []) takes,
-  )
-  stop_comes old new place entry what.ForbiddenUrl why takes is = (
-    w.ForbiddenUrl (entry_of entry),
-    (refl, refl, rw is tt),
-    comes_from old new
-        (found_item (place.name.now, entry_of entry) ∷ (place.name.now, Stops (w.ForbiddenUrl (entry_of entry))) ∷ [])
-        takes,
-  )
-  stop_comes old new place entry (Named name) (fault.Unreadable why) takes is = (
-    w.NotRead (entry_of entry),
-    (refl, refl, tt),
-    comes_with old new
-        (found_item (place.name.now, entry_of entry) ∷ (place.name.now, Stops (w.NotRead (entry_of entry))) ∷ [])
-        name.items w.Unreadable is (λ answers said. (takes answers).not_read said),
-  )
-  stop_comes old new place entry include why takes is = absurd is
-
-  -- a line that cannot be read
-  pub line_next : (old new : List Frame) (place : FilePlace) (at : FileError)
-      → ((answers : List (List ℕ × Content)) → Takes answers known old (step.Line place at) new)
-      → Comes contents known old ((place.name.now, Stops (w.Line at)) ∷ []) new
-  line_next old new place at takes = comes_from old new ((place.name.now, Stops (w.Line at)) ∷ []) takes
-
-  -- the end
-  pub ends_next : (old new : List Frame) → ((answers : List (List ℕ × Content)) → Takes answers known old step.Ends new)
-      → (new ≡ []) × Comes contents known old [] new
-  ends_next old new takes = ((takes []).0, comes_from old new [] (λ answers. (takes answers).1))
-
 -- what the loop keeps: what is asked for is handed on of the entries that the walk has come to
 pub record Keeps {R : Type 0} (contents : List ℕ → Content → Type 0) (known : Known)
     (receives : R → Setting → R → Type 0) (choice : Choice) (text : Text) (start now : R) (frames : List Frame)
     : Type 0 where
-  pub first : List Frame
-  pub enters : Enters [] text.place text.text.now first
-  pub found : List (List ℕ × Entry)
-  pub gives : GivesEach receives choice text.scope start found now
-  pub comes : Comes contents known first (map found_item found) frames
+  pub came : Came contents known text.place text.text.now frames
+  pub gives : GivesEach receives choice text.scope start came.found now
 
 pub first_kept : {R : Type 0} (contents : List ℕ → Content → Type 0) (known : Known)
     (receives : R → Setting → R → Type 0) (choice : Choice) (text : Text) (start : R) (frames : List Frame)
     → Enters [] text.place text.text.now frames → Keeps contents known receives choice text start start frames
-first_kept contents known receives choice text start frames enters = record {
-  first = frames;
-  enters = enters;
-  found = [];
-  gives = given.nothing;
-  comes = comes_none contents known frames;
-}
+first_kept contents known receives choice text start frames enters =
+    record { came = came_first contents known text.place text.text.now frames enters; gives = given.nothing }
 
 module _ {R : Type 0} {contents : List ℕ → Content → Type 0} {known : Known} {receives : R → Setting → R → Type 0}
     {choice : Choice} {text : Text} {start now : R} {frames : List Frame}
     (keeps : Keeps contents known receives choice text start now frames) where
-  comes_on : (more : List (List ℕ × Entry)) (rest : List (List ℕ × Item)) (to : List Frame)
-      → Comes contents known frames (map found_item more ++ rest) to
-      → Comes contents known keeps.first (map found_item (keeps.found ++ more) ++ rest) to
-  comes_on more rest to step =
-      rw (map-append found_item keeps.found more, append_assoc (map found_item keeps.found) (map found_item more) rest)
-      (comes_both contents known keeps.first frames to (map found_item keeps.found) (map found_item more ++ rest)
-      keeps.comes step)
-
-  -- the walk that is left, if nothing more comes
-  walked : (more : List (List ℕ × Entry)) (rest : List (List ℕ × Item)) (to : List Frame) (whole : Bool)
-      → Comes contents known frames (map found_item more ++ rest) to
-      → ((answers : List (List ℕ × Content)) → Left (Said answers) known to [] whole)
-      → WalksText contents known text.place text.text.now (map found_item (keeps.found ++ more) ++ rest) whole
-  walked more rest to whole step ended =
-      let items = map found_item (keeps.found ++ more) ++ rest in
-      let (said, among, passes) = comes_on more rest to step in
-      let (entries, error, reads, walks) = all_of (Said said) known text.place text.text.now keeps.first items whole keeps.enters
-      (rw (append-nil items) at (passes said (λ n c is. is) [] whole (ended said))) in
-      (entries, error, reads, walks_as among whole (λ e. e) walks)
-
   pub more_kept : (newer : R) (to : List Frame) (b : Bool) → b ≡ true
       → GivesNext contents known receives choice text.scope frames to now newer (Ok b)
       → Keeps contents known receives choice text start newer to
   more_kept newer to false e next = cc
-  more_kept newer to true e (one, gives, step) = record {
-    first = keeps.first;
-    enters = keeps.enters;
-    found = keeps.found ++ one ∷ [];
-    gives = one_more one keeps.gives gives;
-    comes = rw (append-nil (map found_item (keeps.found ++ one ∷ []))) at (comes_on (one ∷ []) [] to step);
-  }
+  more_kept newer to true e (one, gives, step) =
+      record { came = came_on keeps.came one to step; gives = one_more one keeps.gives gives }
 
   pub end_read : (newer : R) (to : List Frame) (b : Bool) (u : Unit {0}) → b ≡ false
       → GivesNext contents known receives choice text.scope frames to now newer (Ok b)
       → Reads contents known receives choice text start newer (Ok u)
   end_read newer to true u e next = cc
-  end_read newer to false u e (same, none, step) = (
-    keeps.found,
-    rw same keeps.gives,
-    rw (append-nil keeps.found, append-nil (map found_item keeps.found)) at (walked [] [] to true step
-        (λ answers. rw none nothing)),
-  )
+  end_read newer to false u e (same, none, step) =
+      (keeps.came.found, rw same keeps.gives, walked_all keeps.came (rw none at step))
 
   pub stop_read : (newer : R) (to : List Frame) (e : Stopped)
       → GivesNext contents known receives choice text.scope frames to now newer (Err e)
       → Reads contents known receives choice text start newer (Err e)
   stop_read newer to (System error) next = tt
   stop_read newer to (Git error) (more, file, stop, gives, tells, (last, small, step)) = (
-    keeps.found ++ more,
+    keeps.came.found ++ more,
     file,
     stop,
     each_both keeps.gives gives,
     tells,
-    walked more ((file, Stops stop) ∷ []) last false step (λ answers. cut_here (Said answers) known last small),
+    walked keeps.came more ((file, Stops stop) ∷ []) last false step (λ answers. cut_here (Said answers) known last small),
   )

@@ -1,8 +1,8 @@
 //! Changes the entries of a file that have findings with one suggestion.
 
-use crate::diff::Span;
+use crate::diff::{Span, lines_after};
 use config_checks::finding::Finding;
-use config_checks::fix::{Fix, Judge, change_for, mend};
+use config_checks::fix::{Fix, Judge, Safety, mend};
 use config_checks::options::Options;
 use config_checks::row::Row;
 use config_checks::setting::Setting;
@@ -24,6 +24,16 @@ pub(crate) struct Mended {
     pub(crate) value: Option<Vec<u8>>,
     /// The key that it has from now on, as Git lists it, if its last part changes.
     pub(crate) key: Option<Vec<u8>>,
+    pub(crate) safety: Safety,
+    /// Its lines after the change, without their last end, if they are asked for.
+    pub(crate) lines: Option<Vec<u8>>,
+}
+
+impl Mended {
+    /// Whether it may be made unseen.
+    pub(crate) fn is_safe(&self) -> bool {
+        matches!(self.safety, Safety::Safe)
+    }
 }
 
 /// The key of this text as Git lists it.
@@ -40,8 +50,6 @@ fn listed(alloc: Global, text: &[u8]) -> Result<Vec<u8>, AllocError> {
 pub(crate) struct Mender<'r, 'w, 't> {
     judge: Judge<'r, 'w>,
     options: Options<'t>,
-    /// Whether changes are made that are not safe, too.
-    guesses: bool,
     /// The changes so far, in the order of the entries. None mends a file that Git does not read to its end.
     pub(crate) changes: Vec<Mended>,
 }
@@ -52,12 +60,10 @@ impl<'r, 'w, 't> Mender<'r, 'w, 't> {
         alloc: Global,
         rows: &'r [Row<'w>],
         options: Options<'t>,
-        guesses: bool,
     ) -> Result<Mender<'r, 'w, 't>, AllocError> {
         Ok(Mender {
             judge: Judge::new(alloc, rows)?,
             options,
-            guesses,
             changes: Vec::new(alloc),
         })
     }
@@ -81,19 +87,20 @@ impl<'r, 'w, 't> Mender<'r, 'w, 't> {
             name: None,
             value: None,
             key: None,
+            safety: Safety::Unsafe,
+            lines: None,
         };
-        let change = if self.guesses {
-            change_for(alloc, &self.judge, &self.options, setting, finding)?
-        } else {
-            mend(alloc, &self.judge, &self.options, setting, finding)?
+        let Some((change, safety)) = mend(alloc, &self.judge, &self.options, setting, finding)?
+        else {
+            return Ok(None);
         };
+        mended.safety = safety;
         match change {
-            Some(Fix::Name(name)) => {
+            Fix::Name(name) => {
                 mended.name = Some(name.to_vec(alloc)?);
                 mended.key = Some(listed(alloc, finding.suggested_key.unwrap_or(b""))?);
             }
-            Some(Fix::Value(value)) => mended.value = Some(value.to_vec(alloc)?),
-            None => return Ok(None),
+            Fix::Value(value) => mended.value = Some(value.to_vec(alloc)?),
         }
         Ok(Some(mended))
     }
@@ -131,19 +138,19 @@ fn given_twice(
     Ok((given, twice))
 }
 
-/// These changes without those by which an entry gets a key that this file, what it includes, or another of the
-/// changes has too: Git would take another value than before, so such a change is a guess.
-pub(crate) fn without_rivals<'t>(
+/// Calls those of these changes guesses by which an entry gets a key that this file, what it includes, or another of
+/// the changes has too: Git would take another value than before.
+pub(crate) fn heed_rivals<'t>(
     alloc: Global,
     disk: &Disk<'t>,
     surroundings: &Surroundings<'t>,
     file: &[u8],
     text: &'t [u8],
-    changes: Vec<Mended>,
-) -> Result<Vec<Mended>, AllocError> {
-    let (given, mut rivals) = given_twice(alloc, &changes)?;
+    changes: &mut Vec<Mended>,
+) -> Result<(), AllocError> {
+    let (given, mut rivals) = given_twice(alloc, changes)?;
     if given.is_empty() {
-        return Ok(changes);
+        return Ok(());
     }
     let mut walk = Walk::new(disk.place(file)?, text);
     for _ in 0..u64::MAX {
@@ -158,17 +165,45 @@ pub(crate) fn without_rivals<'t>(
             _ => break,
         }
     }
-    let mut left = Vec::new(alloc);
-    for change in changes {
+    for change in changes.iter_mut() {
         let has_rival = match &change.key {
             Some(key) => rivals.contains(key),
             None => false,
         };
-        if !has_rival {
-            left.push(change)?;
+        if has_rival {
+            change.safety = Safety::Unsafe;
         }
     }
-    Ok(left)
+    Ok(())
+}
+
+/// Those of these changes that are safe.
+pub(crate) fn safe_ones(alloc: Global, changes: Vec<Mended>) -> Result<Vec<Mended>, AllocError> {
+    let mut safe = Vec::new(alloc);
+    for change in changes {
+        if change.is_safe() {
+            safe.push(change)?;
+        }
+    }
+    Ok(safe)
+}
+
+/// Keeps with each change what its lines become, unless one of them is none that a file can have.
+pub(crate) fn keep_lines(
+    alloc: Global,
+    text: &[u8],
+    changes: &mut Vec<Mended>,
+) -> Result<(), AllocError> {
+    let new = match changed(alloc, text, changes) {
+        Ok(new) => new,
+        Err(Unchanged::Memory) => return Err(AllocError),
+        Err(_) => return Ok(()),
+    };
+    let lines = lines_after(alloc, &new, changes)?;
+    for (change, lines) in changes.iter_mut().zip(lines) {
+        change.lines = Some(lines);
+    }
+    Ok(())
 }
 
 /// Why a file is not changed. It then has its old text.

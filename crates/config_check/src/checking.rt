@@ -1,7 +1,8 @@
 //! A run over files, each of which is checked once, and over the files that they include.
 
+use crate::aliases::Aliases;
 use crate::baseline::fingerprints;
-use crate::changes::{Mended, Mender, change_file, changed, without_rivals};
+use crate::changes::{Mended, Mender, change_file, changed, heed_rivals, keep_lines, safe_ones};
 use crate::diff::diff_of;
 use crate::failure::{Failure, failed, tell, written};
 use crate::options::{Asked, Format, Output};
@@ -12,80 +13,32 @@ use crate::source::Source;
 use bstr::BStr;
 use bumpalo::Bump;
 use config_checks::check::{Counts, Receiver, check_file};
-use config_checks::code::Code;
-use config_checks::finding::{Finding, key_text};
+use config_checks::finding::key_text;
 use config_checks::git::{MODULES, SETTINGS};
 use config_checks::key::covers;
 use config_checks::options::Options;
 use config_checks::outcome::Outcome;
 use config_checks::paths::{self, is_homeless};
-use config_checks::reason::Severity;
 use config_checks::row::Row;
 use config_checks::setting::Setting;
+use config_checks::shape::is_submodule_name;
+use config_checks::wrong::{Wrong, wrong_finding};
 use config_file::key::Key;
-use config_file::{Condition, Content, Entry, FilePlace, Files, Include, Step, Walk};
+use config_file::{Condition, Content, Entries, Entry, FilePlace, Files, Include, Step, Walk};
 use config_host::surroundings::{Followed, has_includes};
 use config_host::{Disk, Surroundings, Users, files_here};
 use gix_config_value::path::parts::joint_of;
 use std::alloc::{AllocError, Global};
 use std::collections::BTreeSet;
-use std::fmt;
 use std::io::{BufWriter, IsTerminal, Write};
-
-/// What is wrong with an include.
-#[derive(Clone, Copy)]
-struct Wrong<'w> {
-    code: Code,
-    severity: Severity,
-    why: &'w str,
-}
-
-const LOOP: Wrong<'static> = Wrong {
-    code: Code::IncludeLoop,
-    severity: Severity::Error,
-    why: "the file includes itself, at which Git stops",
-};
-
-const TOO_DEEP: Wrong<'static> = Wrong {
-    code: Code::IncludeDepth,
-    severity: Severity::Error,
-    why: "Git stops at more than ten includes, one in the other",
-};
-
-const UNKNOWN_DIRECTORY: Wrong<'static> = Wrong {
-    code: Code::IncludePath,
-    severity: Severity::Error,
-    why: "no such user or no home directory, at which Git stops",
-};
-
-const UNKNOWN_CONDITION: Wrong<'static> = Wrong {
-    code: Code::UnknownCondition,
-    severity: Severity::Warning,
-    why: "not a condition of Git: not one of: gitdir, gitdir/i, onbranch, hasconfig:remote.*.url",
-};
-
-const MISSING_SETTING: Wrong<'static> = Wrong {
-    code: Code::MissingSetting,
-    severity: Severity::Error,
-    why: "no file has this setting, which the row asks for",
-};
-
-/// Git opens the file that includes it by its full name, and so its folder.
-const FOLDER: Wrong<'static> = Wrong {
-    code: Code::IncludePath,
-    severity: Severity::Error,
-    why: "it is no regular file",
-};
-
-const MISSING: Wrong<'static> = Wrong {
-    code: Code::MissingFile,
-    severity: Severity::Note,
-    why: "no such file",
-};
+use std::mem;
 
 /// For how many files no more is read than the rows of their own sections. Later ones are worth that all rows are
 /// read once.
 const FEW_FILES: usize = 8;
+
+/// Git opens the file that includes it by its full name, and so its folder.
+const FOLDER: &str = "it is no regular file";
 
 const UNNAMED: &str = "--fix changes only files that are named: name one";
 
@@ -121,6 +74,7 @@ struct Checking<'c, 't> {
     by_sections: usize,
     /// The settings that rows ask for.
     musts: Vec<Must<'c, 'c>>,
+    aliases: Aliases<'t>,
     asked: &'c Asked<'c, 'c>,
     options: Options<'t>,
     report: Report<'c>,
@@ -150,23 +104,23 @@ fn write_wrong<'f>(
         report,
         source,
         mender: None,
+        collects: false,
+        fixes: Vec::new(rt.alloc()),
         writer: rt.stdout(),
     };
-    let finding = Finding {
-        file: setting.file,
-        line: setting.line,
-        entry: None,
-        code: wrong.code,
-        severity: wrong.severity,
-        key: Some(&setting.key),
-        row,
-        value: setting.value.as_deref(),
-        reason: wrong.why.as_bytes(),
-        fault: None,
-        suggested_key: None,
-        suggested_value: None,
-    };
+    let finding = wrong_finding(setting, row, wrong);
     failed(lines.receive(Some(setting), &finding))
+}
+
+/// What a check of a text does besides counting.
+#[derive(Drop)]
+enum Pass {
+    /// It writes the findings, of which these changes mend some.
+    Writes(Vec<Mended>),
+    /// It writes the findings, and looks for changes.
+    Both,
+    /// It only looks for changes.
+    Looks,
 }
 
 /// What a check of a text gives: its counts, and the changes that are looked for.
@@ -181,6 +135,39 @@ fn is_modules(file: &str) -> bool {
     file == ".gitmodules" || file.ends_with("/.gitmodules")
 }
 
+/// The name of the submodule that a key is about.
+fn submodule_of<'k>(key: &'k [u8]) -> Option<&'k [u8]> {
+    let key = Key::split(key)?;
+    if key.section().eq_ignore_ascii_case(b"submodule") {
+        key.subsection()
+    } else {
+        None
+    }
+}
+
+/// The first setting of each submodule of a text whose name Git does not take.
+fn misnamed<'t>(
+    alloc: Global,
+    file: &'t str,
+    text: &'t [u8],
+) -> Result<Vec<Setting<'t>>, AllocError> {
+    let mut seen = BTreeSet::new(alloc);
+    let mut found = Vec::new(alloc);
+    for entry in Entries::new(text) {
+        let Ok(entry) = entry else {
+            break;
+        };
+        let setting = Setting::of_entry(alloc, file, &entry)?;
+        let Some(name) = submodule_of(&setting.key) else {
+            continue;
+        };
+        if !is_submodule_name(name) && seen.insert(name.to_vec(alloc)?)? {
+            found.push(setting)?;
+        }
+    }
+    Ok(found)
+}
+
 /// Whether a path that an entry includes begins at the root or in a home directory, and not in the folder of
 /// the file.
 fn is_from_root(alloc: Global, entry: &Entry<'_>) -> Result<bool, AllocError> {
@@ -192,13 +179,10 @@ fn is_from_root(alloc: Global, entry: &Entry<'_>) -> Result<bool, AllocError> {
 }
 
 impl<'c, 't> Checking<'c, 't> {
-    /// Reports a file that cannot be read.
-    fn refuse<E: fmt::Display + Drop>(&mut self, error: E) {
+    /// Reports a file that cannot be read, by this text.
+    fn refuse(&mut self, text: Result<String, AllocError>) {
         self.outcome.is_unread = true;
-        tell(
-            self.rt,
-            format!(in self.rt.alloc(); "config_check: {error}"),
-        );
+        tell(self.rt, text);
     }
 
     /// The text of a file, or of standard input, and its place. Reports a failed read.
@@ -219,7 +203,8 @@ impl<'c, 't> Checking<'c, 't> {
             Ok(found) => Ok(Some(found)),
             Err(error) if error.is_memory() => Err(Failure::Memory(AllocError)),
             Err(error) => {
-                self.refuse(format_args!("{}: {error}", BStr::new(name)));
+                let name = BStr::new(name);
+                self.refuse(format!(in self.rt.alloc(); "config_check: {name}: {error}"));
                 Ok(None)
             }
         }
@@ -243,6 +228,10 @@ impl<'c, 't> Checking<'c, 't> {
         };
         self.outcome.add(counts);
         add(&mut self.open, Source::new(name, text))?;
+        if is_modules(file) {
+            self.judge_submodules(file, text)?;
+        }
+        self.aliases.take(self.rt.alloc(), file, text)?;
         Ok(text)
     }
 
@@ -257,6 +246,41 @@ impl<'c, 't> Checking<'c, 't> {
         };
         for must in self.musts.iter_mut() {
             must.is_met |= covers(&must.key, &key);
+        }
+        Ok(())
+    }
+
+    /// Writes a finding that no row gives about a setting of a text, and counts it.
+    fn tell(
+        &mut self,
+        setting: &Setting<'_>,
+        text: &[u8],
+        row: Option<Key<'_>>,
+        wrong: Wrong<'_>,
+    ) -> Result<(), Failure<'static>> {
+        let mut source = Source::new(setting.file.as_bytes(), text);
+        write_wrong(self.rt, &mut self.report, &mut source, setting, row, wrong)?;
+        self.outcome.add(counts_of(wrong.severity()));
+        Ok(())
+    }
+
+    /// Reports the submodules whose names Git does not take.
+    fn judge_submodules(&mut self, file: &'t str, text: &'t [u8]) -> Result<(), Failure<'static>> {
+        for setting in misnamed(self.rt.alloc(), file, text)? {
+            self.tell(&setting, text, None, Wrong::SubmoduleName)?;
+        }
+        Ok(())
+    }
+
+    /// Reports the aliases that lead to no command.
+    fn report_aliases(&mut self) -> Result<(), Failure<'static>> {
+        let alloc = self.rt.alloc();
+        let aliases = mem::replace(&mut self.aliases, Aliases::new(alloc)?);
+        let are_endless = aliases.are_endless(alloc)?;
+        for (alias, is_endless) in aliases.all.iter().zip(are_endless.iter()) {
+            if *is_endless {
+                self.tell(&alias.setting, alias.text, None, Wrong::EndlessAlias)?;
+            }
         }
         Ok(())
     }
@@ -281,28 +305,32 @@ impl<'c, 't> Checking<'c, 't> {
                 &mut source,
                 &setting,
                 Some(must.key),
-                MISSING_SETTING,
+                Wrong::MissingSetting,
             )?;
-            self.outcome.add(counts_of(Severity::Error));
+            self.outcome
+                .add(counts_of(Wrong::MissingSetting.severity()));
         }
         Ok(())
     }
 
-    /// Checks the text of a file by these rows, and writes its findings. Looks for changes if they are asked for.
+    /// Checks the text of a file by these rows.
     fn look(
         &mut self,
         rows: &[Row<'_>],
         file: &'t str,
         text: &'t [u8],
-        mends: bool,
+        pass: Pass,
     ) -> Result<Looked, Failure<'static>> {
         let alloc = self.rt.alloc();
         let options = self.options;
-        let mender = if mends {
-            Some(Mender::new(alloc, rows, options, self.asked.guesses)?)
-        } else {
-            None
+        let collects = matches!(pass, Pass::Looks);
+        let (mender, mut fixes) = match pass {
+            Pass::Writes(fixes) => (None, fixes),
+            Pass::Both | Pass::Looks => {
+                (Some(Mender::new(alloc, rows, options)?), Vec::new(alloc))
+            }
         };
+        fixes.reverse();
         let writer = written(BufWriter::new(alloc, self.rt.stdout()))?;
         let mut source = Source::new(file.as_bytes(), text);
         let mut lines = Lines {
@@ -311,6 +339,8 @@ impl<'c, 't> Checking<'c, 't> {
             report: &mut self.report,
             source: &mut source,
             mender,
+            collects,
+            fixes,
             writer,
         };
         let checked = check_file(alloc, rows, &options, file, text, &mut lines);
@@ -336,7 +366,7 @@ impl<'c, 't> Checking<'c, 't> {
         &mut self,
         file: &'t str,
         text: &'t [u8],
-        mends: bool,
+        pass: Pass,
     ) -> Result<Looked, Failure<'static>> {
         let alloc = self.rt.alloc();
         let mut rows = built_in(alloc, self.asked.git, MODULES.as_bytes())?;
@@ -344,7 +374,7 @@ impl<'c, 't> Checking<'c, 't> {
         for row in self.all_rows()? {
             add(&mut rows, row)?;
         }
-        let looked = self.look(&rows, file, text, mends);
+        let looked = self.look(&rows, file, text, pass);
         let mut others = Vec::new(alloc);
         for row in rows.into_iter().skip(count) {
             add(&mut others, row)?;
@@ -358,13 +388,13 @@ impl<'c, 't> Checking<'c, 't> {
         &mut self,
         file: &'t str,
         text: &'t [u8],
-        mends: bool,
+        pass: Pass,
     ) -> Result<Looked, Failure<'static>> {
         if is_modules(file) {
-            return self.look_as_modules(file, text, mends);
+            return self.look_as_modules(file, text, pass);
         }
         let rows = self.all_rows()?;
-        let looked = self.look(&rows, file, text, mends);
+        let looked = self.look(&rows, file, text, pass);
         self.rows = Some(rows);
         looked
     }
@@ -392,12 +422,40 @@ impl<'c, 't> Checking<'c, 't> {
         if !is_known {
             return Ok(None);
         }
-        let looked = self.look(&rows, file, text, false)?;
+        let looked = self.look(&rows, file, text, Pass::Writes(Vec::new(alloc)))?;
         Ok(Some(looked.counts))
+    }
+
+    /// Whether what is written tells which findings can be mended.
+    fn tells_fixes(&self) -> bool {
+        matches!(self.asked.style.format, Format::Json | Format::Sarif)
+            && matches!(self.asked.output, Output::Findings | Output::Fixed)
+    }
+
+    /// Checks the text of a file, and writes its findings with what mends them.
+    fn judge_and_tell(
+        &mut self,
+        file: &'t str,
+        text: &'t [u8],
+    ) -> Result<Counts, Failure<'static>> {
+        let Looked {
+            counts,
+            mut changes,
+        } = self.look_for_changes(file, text, Pass::Looks)?;
+        if counts.findings == 0 {
+            return Ok(counts);
+        }
+        if self.is_sarif() {
+            keep_lines(self.rt.alloc(), text, &mut changes)?;
+        }
+        Ok(self.look_by_all(file, text, Pass::Writes(changes))?.counts)
     }
 
     /// Checks the text of a file, and writes its findings.
     fn judge(&mut self, file: &'t str, text: &'t [u8]) -> Result<Counts, Failure<'static>> {
+        if self.tells_fixes() {
+            return self.judge_and_tell(file, text);
+        }
         if !is_modules(file) && self.is_by_sections(text) {
             if let Some(settings) = settings_for(self.rt.alloc(), text)? {
                 if let Some(counts) = self.judge_by(&settings, file, text)? {
@@ -405,28 +463,42 @@ impl<'c, 't> Checking<'c, 't> {
                 }
             }
         }
-        Ok(self.look_by_all(file, text, false)?.counts)
+        let pass = Pass::Writes(Vec::new(self.rt.alloc()));
+        Ok(self.look_by_all(file, text, pass)?.counts)
     }
 
-    /// The counts of a file, and the changes to make in it: with `--unsafe-fixes` all that are suggested.
+    /// The counts of a file, and the changes that its findings suggest.
     fn look_for_changes(
         &mut self,
         file: &'t str,
         text: &'t [u8],
+        pass: Pass,
     ) -> Result<Looked, Failure<'static>> {
-        let Looked { counts, changes } = self.look_by_all(file, text, true)?;
-        if self.asked.guesses {
-            return Ok(Looked { counts, changes });
-        }
-        let alloc = self.rt.alloc();
-        let changes = without_rivals(
-            alloc,
+        let mut looked = self.look_by_all(file, text, pass)?;
+        heed_rivals(
+            self.rt.alloc(),
             &self.disk,
             &self.surroundings,
             file.as_bytes(),
             text,
-            changes,
+            &mut looked.changes,
         )?;
+        Ok(looked)
+    }
+
+    /// The same with the changes to make: with `--unsafe-fixes` all of them, and else those that are safe.
+    fn look_for_mends(
+        &mut self,
+        file: &'t str,
+        text: &'t [u8],
+        pass: Pass,
+    ) -> Result<Looked, Failure<'static>> {
+        let Looked { counts, changes } = self.look_for_changes(file, text, pass)?;
+        let changes = if self.asked.guesses {
+            changes
+        } else {
+            safe_ones(self.rt.alloc(), changes)?
+        };
         Ok(Looked { counts, changes })
     }
 
@@ -437,7 +509,7 @@ impl<'c, 't> Checking<'c, 't> {
         file: &'t str,
         text: &'t [u8],
     ) -> Result<(&'t [u8], Counts), Failure<'static>> {
-        let Looked { counts, changes } = self.look_for_changes(file, text)?;
+        let Looked { counts, changes } = self.look_for_mends(file, text, Pass::Looks)?;
         if counts.findings == 0 {
             return Ok((text, counts));
         }
@@ -462,7 +534,7 @@ impl<'c, 't> Checking<'c, 't> {
                 Ok(self.disk.kept(&new)?)
             }
             Err(error) => {
-                self.refuse(format_args!("{file}: {error}"));
+                self.refuse(format!(in self.rt.alloc(); "config_check: {file}: {error}"));
                 Ok(text)
             }
         }
@@ -471,7 +543,7 @@ impl<'c, 't> Checking<'c, 't> {
     /// Checks the text of a file, and shows what would be changed in it.
     fn show_changes(&mut self, file: &'t str, text: &'t [u8]) -> Result<Counts, Failure<'static>> {
         let alloc = self.rt.alloc();
-        let Looked { counts, changes } = self.look_for_changes(file, text)?;
+        let Looked { counts, changes } = self.look_for_mends(file, text, Pass::Both)?;
         if changes.is_empty() {
             return Ok(counts);
         }
@@ -480,7 +552,7 @@ impl<'c, 't> Checking<'c, 't> {
                 let diff = diff_of(alloc, file, text, &new, &changes)?;
                 written(self.rt.stdout().write_all(&diff))?;
             }
-            Err(error) => self.refuse(format_args!("{file}: {error}")),
+            Err(error) => self.refuse(format!(in alloc; "config_check: {file}: {error}")),
         }
         Ok(counts)
     }
@@ -514,7 +586,7 @@ impl<'c, 't> Checking<'c, 't> {
         if let Some(source) = self.open.last_mut() {
             write_wrong(self.rt, &mut self.report, source, &setting, None, wrong)?;
         }
-        self.outcome.add(counts_of(wrong.severity));
+        self.outcome.add(counts_of(wrong.severity()));
         Ok(())
     }
 
@@ -560,30 +632,30 @@ impl<'c, 't> Checking<'c, 't> {
         let name = self.rooted(entry, name)?;
         let real = self.disk.real_name(&name)?;
         if self.is_within(walk, &real)? {
-            return self.report(place, entry, LOOP);
+            return self.report(place, entry, Wrong::Loop);
         }
         if self.seen.contains(&real) {
             return Ok(());
         }
         match self.disk.read(self.rt.alloc(), &name)? {
-            Content::Missing if name.is_empty() => return self.report(place, entry, FOLDER),
-            Content::Missing => return self.report(place, entry, MISSING),
+            Content::Missing if name.is_empty() => return self.report(
+                place,
+                entry,
+                Wrong::Unreadable(FOLDER),
+            ),
+            Content::Missing => return self.report(place, entry, Wrong::Missing),
             Content::Unreadable(why) => {
                 let is_opened = str::from_utf8(&name).is_ok();
-                let wrong = Wrong {
-                    code: Code::IncludePath,
-                    severity: if is_opened {
-                        Severity::Error
-                    } else {
-                        Severity::Warning
-                    },
-                    why,
+                let wrong = if is_opened {
+                    Wrong::Unreadable(why)
+                } else {
+                    Wrong::Unread(why)
                 };
                 self.report(place, entry, wrong)?;
             }
             Content::Text(inner, text) => {
                 if !walk.enter(inner, text) {
-                    return self.report(place, entry, TOO_DEEP);
+                    return self.report(place, entry, Wrong::TooDeep);
                 }
                 let _ = self.check(inner.name, text, false)?;
             }
@@ -620,7 +692,7 @@ impl<'c, 't> Checking<'c, 't> {
         };
         let path = value.text(self.rt.alloc())?;
         if is_homeless(self.options.users, &path) {
-            return self.report(place, entry, UNKNOWN_DIRECTORY);
+            return self.report(place, entry, Wrong::NoHome);
         }
         match self.name_at_user(&path)? {
             Some(name) => self.include(walk, place, entry, name),
@@ -637,7 +709,7 @@ impl<'c, 't> Checking<'c, 't> {
         let key = entry.key_text(self.rt.alloc())?;
         match Key::split(&key).and_then(|key| key.subsection()) {
             Some(text) if Condition::parse(text) == Condition::Unknown => {
-                self.report(place, entry, UNKNOWN_CONDITION)
+                self.report(place, entry, Wrong::UnknownCondition)
             }
             _ => Ok(()),
         }
@@ -786,6 +858,7 @@ impl<'c, 't> Checking<'c, 't> {
         for file in &files {
             self.file(file)?;
         }
+        self.report_aliases()?;
         self.report_missing()?;
         self.end()?;
         let status = self.reported().status(self.asked.fails_on);
@@ -831,6 +904,7 @@ pub(crate) fn check<'m, 't>(
         rows: if rows.is_empty() { None } else { Some(rows) },
         by_sections: FEW_FILES,
         musts,
+        aliases: Aliases::new(alloc)?,
         asked: &asked,
         options: options_of(&disk, &asked)?,
         report: Report::new(alloc, &asked, baseline)?,

@@ -23,6 +23,7 @@ pub(crate) struct Span {
 struct Region {
     old: Span,
     new: Span,
+    is_guess: bool,
 }
 
 /// The lines of the entries that change, in the text after the change.
@@ -46,9 +47,33 @@ fn spans(alloc: Global, text: &[u8], mended: &[Mended]) -> Result<Vec<Span>, All
     Ok(all)
 }
 
-/// Whether the lines of a region directly follow those of another.
+/// The lines of the entries that change, in the text after the change, each without its last end.
+pub(crate) fn lines_after(
+    alloc: Global,
+    new: &[u8],
+    mended: &[Mended],
+) -> Result<Vec<Vec<u8>>, AllocError> {
+    let lines = lines_of(alloc, new)?;
+    let mut all = Vec::new(alloc);
+    for span in spans(alloc, new, mended)? {
+        let mut text = Vec::new(alloc);
+        let passed = span.first.saturating_sub(1);
+        for line in lines.iter().skip(passed).take(count_of(span)) {
+            text.extend_from_slice(line)?;
+        }
+        let count = match text.as_slice().strip_suffix(b"\n") {
+            Some(front) => front.strip_suffix(b"\r").unwrap_or(front).len(),
+            None => text.len(),
+        };
+        text.truncate(count);
+        all.push(text)?;
+    }
+    Ok(all)
+}
+
+/// Whether the lines of a region directly follow those of another, and are as safe.
 fn is_next(last: &Region, next: &Region) -> bool {
-    last.old.last.saturating_add(1) == next.old.first
+    last.old.last.saturating_add(1) == next.old.first && last.is_guess == next.is_guess
 }
 
 /// Two regions of which one directly follows the other, as one.
@@ -62,10 +87,11 @@ fn joined(last: &Region, next: &Region) -> Region {
             first: last.new.first,
             last: next.new.last,
         },
+        is_guess: next.is_guess,
     }
 }
 
-/// The lines of the entries that change, in both texts. Entries that follow each other are one region.
+/// The lines of the entries that change, in both texts. Entries that follow each other, and are as safe, are one region.
 fn regions(alloc: Global, new: &[u8], mended: &[Mended]) -> Result<Vec<Region>, AllocError> {
     let mut all = Vec::new(alloc);
     let mut held: Option<Region> = None;
@@ -74,6 +100,7 @@ fn regions(alloc: Global, new: &[u8], mended: &[Mended]) -> Result<Vec<Region>, 
         let next = Region {
             old: change.span,
             new: *new,
+            is_guess: !change.is_safe(),
         };
         held = Some(match held {
             Some(last) if is_next(&last, &next) => joined(&last, &next),
@@ -135,6 +162,23 @@ fn shown(lines: &[&[u8]], first: Span, last: Span) -> Span {
     }
 }
 
+/// Appends which lines of a hunk are only guesses, if some are.
+fn put_guesses(out: &mut Text, regions: &[Region]) {
+    let mut front = " guesses: ";
+    for region in regions {
+        if !region.is_guess {
+            continue;
+        }
+        put(out, front);
+        put_number(out, region.old.first);
+        if region.old.first < region.old.last {
+            put(out, "-");
+            put_number(out, region.old.last);
+        }
+        front = ", ";
+    }
+}
+
 /// Appends a hunk, which shows these regions.
 fn put_hunk(out: &mut Text, old: &[&[u8]], new: &[&[u8]], regions: &[Region]) {
     let (Some(first), Some(last)) = (regions.first(), regions.last()) else {
@@ -143,7 +187,9 @@ fn put_hunk(out: &mut Text, old: &[&[u8]], new: &[&[u8]], regions: &[Region]) {
     let whole = shown(old, first.old, last.old);
     put_range(out, "@@ -", whole);
     put_range(out, " +", shown(new, first.new, last.new));
-    put(out, " @@\n");
+    put(out, " @@");
+    put_guesses(out, regions);
+    put(out, "\n");
     let mut next = whole.first;
     for region in regions {
         let before = Span {

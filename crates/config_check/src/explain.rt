@@ -96,6 +96,7 @@ fn put_kind(out: &mut Text, kind: &SettingKind<'_>) {
             )
         }
         SettingKind::Shaped(Shape::NoOption) => put(out, "any text that does not begin with -"),
+        SettingKind::Shaped(Shape::ColorsByAge) => put(out, "colors with dates between them"),
         SettingKind::Word(list) => put_list(out, list),
     }
 }

@@ -255,12 +255,46 @@ fn color<'v>(alloc: Global, text: &'v [u8]) -> Result<Hint<'v>, AllocError> {
     Ok(hint_of(named, color_meant(alloc, text, wrong)?))
 }
 
+/// The first of these fields that should be a color and is none: every other one should.
+fn wrong_field(fields: &[&[u8]]) -> Option<usize> {
+    fields.iter().enumerate().position(|(place, field)| place % 2 == 0
+        && Color::try_read(field).is_err())
+}
+
+/// What is known of colors by age that are refused: which one is wrong, and the value with another one.
+fn colors_by_age<'v>(alloc: Global, text: &'v [u8]) -> Result<Hint<'v>, AllocError> {
+    let mut fields = Vec::new(alloc);
+    for field in text.split(|byte| *byte == b',') {
+        fields.push(field)?;
+    }
+    let Some(place) = wrong_field(&fields) else {
+        return Ok(hint_of(None, None));
+    };
+    let Some(wrong) = fields.get(place) else {
+        return Ok(hint_of(None, None));
+    };
+    let named = if fields.len() > 1 { Some(*wrong) } else { None };
+    let Some((word, is_sure)) = nearest(alloc, &words_in(alloc, COLORS)?, wrong)? else {
+        return Ok(hint_of(named, None));
+    };
+    let mut value = Text::new(alloc);
+    for (at, field) in fields.iter().enumerate() {
+        if at > 0 {
+            value.put_byte(b',');
+        }
+        value.put(if at == place { word } else { field });
+    }
+    let text = value.end()?;
+    Ok(hint_of(named, Some(Meant { text, is_sure })))
+}
+
 /// What is known of a value beyond the reason of its finding.
 pub(crate) fn hint_for<'v>(alloc: Global, finding: &Finding<'v>) -> Result<Hint<'v>, AllocError> {
     match (finding.fault, finding.value) {
         (Some(Fault::Color), Some(value)) => color(alloc, value),
         (Some(Fault::Boolean), Some(value)) => Ok(hint_of(None, boolean(alloc, value)?)),
         (Some(Fault::Integer), Some(value)) => Ok(hint_of(None, number(alloc, value)?)),
+        (None, Some(value)) if finding.code == Code::BadColor => colors_by_age(alloc, value),
         _ => Ok(hint_of(None, None)),
     }
 }

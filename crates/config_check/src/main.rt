@@ -1,6 +1,7 @@
 //! Reports wrong values, unknown keys and invalid lines in Git configuration files, and mends them.
 #![tactic(auto)]
 
+mod aliases;
 mod annotations;
 mod baseline;
 mod causes;

@@ -3,7 +3,7 @@ ghost use Rattle.std.specs.Prelude.{None};
 
 use crate::annotations::put_annotation;
 use crate::causes::Cause;
-use crate::changes::Mender;
+use crate::changes::{Mended, Mender};
 use crate::hints::{Hint, hint_for, put_slots};
 use crate::options::{Asked, Format, Ignored, Output, Style};
 use crate::sarif::result_of;
@@ -212,6 +212,10 @@ pub(crate) struct Lines<'l, 's, 'r, 'c, 'k, 'w, W: Write> {
     pub(crate) source: &'s mut Source<'l>,
     /// What looks for changes, if the file may be changed.
     pub(crate) mender: Option<Mender<'k, 'w, 'l>>,
+    /// Whether changes are only collected, and nothing is counted or written.
+    pub(crate) collects: bool,
+    /// What is known of the changes of the findings to come, the last first.
+    pub(crate) fixes: Vec<Mended>,
     pub(crate) writer: W,
 }
 
@@ -221,7 +225,7 @@ impl<W: Write> Lines<'_, '_, '_, '_, '_, '_, W> {
         if !self.report.needs_fingerprints() {
             return Ok(0);
         }
-        if self.collects() {
+        if self.collects {
             return equals_before(self.alloc, &mut self.report.collected, finding);
         }
         equals_before(self.alloc, &mut self.report.seen, finding)
@@ -235,26 +239,39 @@ impl<W: Write> Lines<'_, '_, '_, '_, '_, '_, W> {
         equal: u64,
     ) -> Result<Vec<u8>, AllocError> {
         let mut out = Text::new(self.alloc);
+        let fix = self.fix_of(finding.entry);
+        let safety = fix.as_ref().map(|fix| fix.safety);
         match self.report.style.format {
             Format::Text => put_text(self.alloc, &mut out, self.report.style, finding, spot)?,
             Format::Json => {
-                out.put(&json_text(self.alloc, spot.column, equal, finding)?);
+                out.put(&json_text(self.alloc, spot.column, equal, safety, finding)?);
                 put(&mut out, "\n");
             }
             Format::Github => put_annotation(self.alloc, &mut out, finding, spot)?,
             Format::Sarif => {
                 let print = fingerprint(self.alloc, equal, finding)?;
                 put(&mut out, if self.report.is_first { "\n" } else { ",\n" });
-                out.put(&result_of(self.alloc, finding, spot, &print)?);
+                out.put(&result_of(self.alloc, finding, spot, &print, fix.as_ref())?);
                 self.report.is_first = false;
             }
         }
         out.end()
     }
 
-    /// Whether changes are only collected, and nothing is counted or written.
-    fn collects(&self) -> bool {
-        self.mender.is_some() && matches!(self.report.output, Output::Fixed)
+    /// The change of a finding about the entry that this many precede. It is not asked for again.
+    fn fix_of(&mut self, entry: Option<u64>) -> Option<Mended> {
+        let entry = entry? as usize;
+        for _ in 0..self.fixes.len() {
+            match self.fixes.last() {
+                Some(fix) if fix.entry <= entry => {}
+                _ => break,
+            }
+            match self.fixes.pop() {
+                Some(fix) if fix.entry == entry => return Some(fix),
+                _ => {}
+            }
+        }
+        None
     }
 
     /// Whether a finding is left out, since it is ignored or in the baseline. It is counted as such.
@@ -265,7 +282,7 @@ impl<W: Write> Lines<'_, '_, '_, '_, '_, '_, W> {
             Some(baseline) if !is_ignored => is_known(self.alloc, baseline, equal, finding)?,
             _ => is_ignored,
         };
-        if is_left_out && !self.collects() {
+        if is_left_out && !self.collects {
             self.report.hidden.add(finding.severity, is_ignored);
         }
         Ok(is_left_out)
@@ -287,7 +304,7 @@ impl<W: Write> Lines<'_, '_, '_, '_, '_, '_, W> {
         if let (Some(mender), Some(setting)) = (&mut self.mender, mended) {
             mender.mend(setting, finding)?;
         }
-        if self.collects() {
+        if self.collects {
             return Ok(Vec::new(self.alloc));
         }
         self.report.count(finding.code);

@@ -33,7 +33,7 @@ const BUILT_IN: &str = "the built-in settings";
 const KINDS: &str = "\
 text bool int bool-or-int color path word word-any-case bool-or-word bool-or-word-any-case int-or-word \
 int-or-word-any-case words words-any-case date date-any-case sort-key sort-key-any-case fetch-refspec push-refspec \
-branch command no-option";
+branch command no-option colors-by-age";
 
 /// Why a line is not a row, and the name of the nearest kind, if it has another name that is near.
 fn why(alloc: Global, fault: RowFault<'_>) -> Result<String, AllocError> {

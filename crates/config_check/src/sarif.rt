@@ -1,5 +1,6 @@
 //! Findings as a SARIF document, of version 2.1.0.
 
+use crate::changes::Mended;
 use crate::options::VERSION;
 use crate::source::Spot;
 use crate::text::{put, put_message};
@@ -30,10 +31,14 @@ fn uri_of(alloc: Global, file: &str) -> Result<String, AllocError> {
     Ok(uri)
 }
 
-/// The rule of a code.
+/// The rule of a code, with its examples as the help of it.
 fn rule_of(alloc: Global, row: &Explained) -> Result<Vec<u8>, AllocError> {
-    let rule: Value =
-        json!(in alloc; { "id": row.code.name(), "shortDescription": { "text": row.meaning } })?;
+    let help = format!(in alloc; "wrong:\n{}right:\n{}", row.wrong, row.right)?;
+    let rule: Value = json!(in alloc; {
+        "id": row.code.name(),
+        "shortDescription": { "text": row.meaning },
+        "help": { "text": help }
+    })?;
     rule.to_vec(alloc)
 }
 
@@ -80,6 +85,25 @@ fn location_of(alloc: Global, finding: &Finding<'_>, spot: &Spot<'_>) -> Result<
     } })
 }
 
+/// A change as a fix: its lines, and what they become. `None` if it is a guess, or is not UTF-8.
+fn fix_of(alloc: Global, file: &str, fix: &Mended) -> Result<Option<Value>, AllocError> {
+    let Some(lines) = &fix.lines else {
+        return Ok(None);
+    };
+    let (true, Ok(text)) = (fix.is_safe(), str::from_utf8(lines)) else {
+        return Ok(None);
+    };
+    let uri = uri_of(alloc, file)?;
+    let fix = json!(in alloc; { "artifactChanges": [{
+        "artifactLocation": { "uri": uri },
+        "replacements": [{
+            "deletedRegion": { "startLine": fix.span.first, "endLine": fix.span.last },
+            "insertedContent": { "text": text }
+        }]
+    }] })?;
+    Ok(Some(fix))
+}
+
 /// The place of a code among the rules.
 fn index_of(code: Code) -> usize {
     EXPLAINED
@@ -88,16 +112,17 @@ fn index_of(code: Code) -> usize {
         .unwrap_or(0)
 }
 
-/// The result of a finding with this fingerprint.
+/// The result of a finding with this fingerprint, and with this change if one mends it.
 pub(crate) fn result_of(
     alloc: Global,
     finding: &Finding<'_>,
     spot: &Spot<'_>,
     fingerprint: &str,
+    fix: Option<&Mended>,
 ) -> Result<Vec<u8>, AllocError> {
     let message = message_of(alloc, finding)?;
     let location = location_of(alloc, finding, spot)?;
-    let result = json!(in alloc; {
+    let mut result: Value = json!(in alloc; {
         "ruleId": finding.code.name(),
         "ruleIndex": index_of(finding.code),
         "level": finding.severity.name(),
@@ -105,5 +130,15 @@ pub(crate) fn result_of(
         "locations": [location],
         "partialFingerprints": { "gitConfigCheck/v1": fingerprint }
     })?;
+    if let Some(fix) = fix {
+        let safety: Value = json!(in alloc; { "fix": fix.safety.name() })?;
+        let change = fix_of(alloc, finding.file, fix)?;
+        if let Some(members) = result.as_object_mut() {
+            serde_json::put(members, alloc, "properties", safety)?;
+            if let Some(change) = change {
+                serde_json::put(members, alloc, "fixes", json!(in alloc; [change])?)?;
+            }
+        }
+    }
     result.to_vec(alloc)
 }

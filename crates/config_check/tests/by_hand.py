@@ -267,6 +267,12 @@ def modules(group, program):
         came = program.run(["-q", str(file)])
         told = came.output.removeprefix(f"{file}:2:2: ".encode()).partition(b":")[0].decode() or None
         group.expect(("in .gitmodules", line), (severity, int(severity is not None)), (told, came.status))
+    for name, is_right in rows.SUBMODULES:
+        file.write_bytes(b'[submodule "' + name + b'"]\n\tpath = x\n\turl = ./x\n')
+        came = program.run(["-q", str(file)])
+        group.expect(("a submodule", name), (is_right, 0 if is_right else 1), (came.output == b"", came.output.count(b"[submodule-name]\n")))
+    came = program.run(["-q", "-"], rows.ALIASES)
+    group.expect("aliases", rows.ENDLESS, [int(line.split(b":")[1]) for line in came.output.splitlines() if line.endswith(b"[endless-alias]")])
 
 
 def others(group, program):

@@ -80,10 +80,11 @@ def by_plain_reader(rows, data, canonical=False):
 
 
 def read_json(output):
-    """The members, in order, of the JSON objects on the lines; None if the lines are not JSON objects."""
+    """The members, in order, of the JSON objects on the lines, but for what mends them, which mending.py asks about; None
+    if the lines are not JSON objects."""
     *lines, rest = output.split(b"\n")
     try:
-        return None if rest else [json.loads(line, object_pairs_hook=list) for line in lines]
+        return None if rest else [[one for one in json.loads(line, object_pairs_hook=list) if one[0] != "fix"] for line in lines]
     except ValueError:
         return None
 

@@ -50,7 +50,11 @@ FIXED = [
     (b"[init]\n\tdefaultObjectFormat = sha2\n", [], b"[init]\n\tdefaultObjectFormat = sha2\n"),
     (b"[init]\n\tdefaultObjectFormat = sha2\n", GUESSES, b"[init]\n\tdefaultObjectFormat = sha1\n"),
     (b"[http]\n\tsslVersion = tlsv2\n", [], b"[http]\n\tsslVersion = tlsv2\n"),
-    (b"[gpg]\n\tformat = ssl\n", [], b"[gpg]\n\tformat = ssh\n"),
+    (b"[gpg]\n\tformat = ssl\n", [], b"[gpg]\n\tformat = ssl\n"),
+    (b"[gpg]\n\tformat = ssl\n", GUESSES, b"[gpg]\n\tformat = ssh\n"),
+    # a word that is another one with an `s` behind it
+    (b"[diff]\n\trename = 1\n[pull]\n\trebase = merge\n", [], b"[diff]\n\trename = 1\n[pull]\n\trebase = merge\n"),
+    (b"[diff]\n\trename = 1\n", GUESSES, b"[diff]\n\trenames = 1\n"),
     # a key that the file has already, or that two changes would give
     (b"[user]\n\tname = A\n\tnmae = B\n", [], b"[user]\n\tname = A\n\tnmae = B\n"),
     (b"[user]\n\tnmae = B\n[USER]\n\tNAME = A\n", [], b"[user]\n\tnmae = B\n[USER]\n\tNAME = A\n"),
@@ -141,6 +145,15 @@ def single(group, program):
         came = program.run(["--fix", "c"], cwd=folder)
         group.expect("a key that an included file has", (1, b"[include]\n\tpath = d\n[core]\n\tbrae = true\n", 1),
                      (came.status, (folder / "c").read_bytes(), came.output.count(b"\n")))
+        (folder / "c").write_bytes(b"[core]\n\tbare = ture\n\n[push]\n\tautoSetup = 1\n[pull]\n\trebas = 1\n\tff = of\\\nly\n")
+        came = program.run(["--diff", *GUESSES, "c"], cwd=folder)
+        group.expect("guesses", b"@@ -1,9 +1,8 @@ guesses: 5", came.output.splitlines()[2])
+        came = program.run(["--format", "sarif", "c"], cwd=folder)
+        results = json.loads(came.output)["runs"][0]["results"]
+        group.expect("safety in SARIF", ["safe", "unsafe", "safe", "safe"], [one["properties"]["fix"] for one in results])
+        fixes = [one["fixes"][0]["artifactChanges"][0]["replacements"][0] for one in results if "fixes" in one]
+        group.expect("fixes of SARIF", [(2, 2, "\tbare = true"), (7, 7, "\trebase = 1"), (8, 9, "\tff = only")],
+                     [(one["deletedRegion"]["startLine"], one["deletedRegion"]["endLine"], one["insertedContent"]["text"]) for one in fixes])
         came = program.run(["--unsafe-fixes", "c"], cwd=folder)
         group.expect("--unsafe-fixes alone", Ended(2, b"", b"config_check: --unsafe-fixes goes with --fix or --diff\n"), came)
         (folder / "c").write_bytes(b"[include]\n\tpat = d\n")
@@ -205,9 +218,10 @@ def many(group, program, draw, git, count):
         again = objects(program.run(["--format", "json", "--no-includes", *names], cwd=folder).output)
         group.expect("the check afterwards", [without_place(one) for one in objects(came.output)],
                      [without_place(one) for one in again])
+        group.expect("what another run mends", [], [one for one in again if one["fix"] == "safe"])
         kept = [(one["file"], one["line"]) for one in objects(came.output)]
         gone = [one for one in first if (one["file"], one["line"]) not in kept]
-        group.expect("those that are gone", fixed, len(gone))
+        group.expect("those that are gone", [one["fix"] == "safe" for one in first], [one in gone for one in first])
         for name in names:
             mended = [one for one in gone if one["file"] == name]
             entries(group, name, mended, before[name], listed(git, folder, name))

@@ -380,18 +380,36 @@ def is_command(text):
     return False
 
 
+def colors_by_age_hint(text):
+    """The first field that should be a color, if there are several fields, and the value with the nearest color in it."""
+    fields = text.split(b",")
+    at = next((place for place in range(0, len(fields), 2) if color(fields[place]) is None), None)
+    if at is None:
+        return b""
+    named = b"; '%s' is none" % cut(fields[at])[0] if len(fields) > 1 else b""
+    word = nearest_text(COLORS_MEANT, fields[at])
+    return named if word is None else named + asked(b",".join([*fields[:at], word, *fields[at + 1:]]))
+
+
+def are_colors_by_age(text):
+    """Whether every other field is a color, from the first to the last."""
+    fields = text.split(b",")
+    return len(fields) % 2 == 1 and all(color(field) is not None for field in fields[::2])
+
+
 SHAPES = {b"fetch-refspec": (lambda text: is_refspec(text, True), b"not a refspec"),
           b"push-refspec": (lambda text: is_refspec(text, False), b"not a refspec"),
           b"branch": (lambda text: b"*" not in text and is_ref(b"refs/heads/" + text), b"not the name of a branch"),
           b"command": (is_command, b"not a command: it is empty, or a quote or a backslash is open at its end"),
-          b"no-option": (lambda text: not text.startswith(b"-"), b"begins with -, as an option")}
+          b"no-option": (lambda text: not text.startswith(b"-"), b"begins with -, as an option"),
+          b"colors-by-age": (are_colors_by_age, b"not colors with dates between them")}
 
 
 def of_shape(kind):
     def spelled(_, text):
         is_right, why = SHAPES[kind]
         if not is_right(text):
-            raise Refused(why)
+            raise Refused(why + (colors_by_age_hint(text) if kind == b"colors-by-age" else b""))
         return text
     return spelled
 
@@ -577,11 +595,19 @@ def lacks_word(short, long):
     return any(long.startswith(short[:at]) and long.endswith(short[at:]) for at in cuts)
 
 
+def has_other_end(one, other):
+    """Whether the texts begin with the same six bytes at least, and at most three bytes of each follow what is the same."""
+    count = len(os.path.commonprefix([one, other]))
+    return count >= 6 and max(len(one), len(other)) - count <= 3
+
+
 def last_apart(pattern, key):
-    """How far the last parts of two keys are apart; a missing run of bytes is three edits in a key of two parts."""
-    edits = few_edits(pattern.last, key.last)
-    is_word = key.middle is None and (lacks_word(pattern.last, key.last) or lacks_word(key.last, pattern.last))
-    return 3 if edits is None and is_word else edits
+    """How far the last parts of two keys are apart; a missing run of bytes, or another end, is three edits in a key of
+    two parts."""
+    one, other = pattern.last, key.last
+    edits = few_edits(one, other)
+    is_alike = lacks_word(one, other) or lacks_word(other, one) or has_other_end(one, other)
+    return 3 if edits is None and key.middle is None and is_alike else edits
 
 
 def apart(pattern, key):
@@ -803,7 +829,7 @@ def named(rows, key):
 # the code of a finding, by what its reason begins with
 CODES = {
     BOOLEAN_FAULT: "bad-boolean", INTEGER_FAULT: "bad-integer", COLOR_FAULT: "bad-color", OVERFLOW_FAULT: "out-of-range",
-    b"not a refspec": "bad-refspec", b"not the name of a branch": "bad-branch", b"not a command": "bad-command",
+    b"not colors with dates": "bad-color", b"not a refspec": "bad-refspec", b"not the name of a branch": "bad-branch", b"not a command": "bad-command",
     b"begins with -": "like-an-option", b"out of range: ": "out-of-range", b"not ": "not-a-word", b"no value": "no-value", b"unknown key": "unknown-key",
     b"Git reads it only since ": "too-new", b"Git reads it only before ": "gone", b"deprecated: use ": "deprecated",
     b"should be ": "not-canonical", b"has to be ": "other-value", NO_HOME: "no-home", b"Git cannot read this line": "invalid-line", b"a NUL byte ": "invalid-line",

@@ -28,6 +28,7 @@ test.push warn push-refspec
 test.branch branch
 test.command command
 test.no-option no-option
+test.colors colors-by-age
 test.hash word a#b \\# \\#c # no-word \\d
 
 # marks
@@ -203,6 +204,7 @@ ACCEPTED = [
     (b"test.sort-key", [b"name", b"-name", b"version:name", b"-v:*name", b"*date", b"name:short", b"date:", b"version:v:date"]),
     (b"test.fetch", [*FETCHED, *BOTH]), (b"test.push", [*PUSHED, *BOTH]), (b"test.branch", BRANCHES), (b"test.command", COMMANDS),
     (b"test.no-option", [b"", b"x-", b" -x", b"./-x"]),
+    (b"test.colors", [b"", b"blue", b"blue,12 month ago,white bold,soon,#fff", b"red,,blue"]),
     (b"mark.alone", [None, b"", b"x"]),
     (b"want.bool", [None, b"true", b"yes", b"1", b"On", b"2k"]), (b"want.off", [b"no", b"", b"0"]),
     (b"want.int", [b"1k", b"1024", b"0x400", b"+1K"]), (b"want.bool-or-int", [b"1", b"01"]),
@@ -244,6 +246,9 @@ REPORTED = [
     (b"test.branch", b"error: not the name of a branch", NO_BRANCHES), (b"test.fetch", NO_VALUE, [None]),
     (b"test.command", b"error: not a command: it is empty, or a quote or a backslash is open at its end", NO_COMMANDS),
     (b"test.no-option", b"error: begins with -, as an option", [b"-", b"-x", b"--upload-pack=x"]),
+    (b"test.colors", b"error: not colors with dates between them", [b"blue,soon", b"bright"]),
+    (b"test.colors", b"error: not colors with dates between them; 'soon' is none", [b"soon,blue"]),
+    (b"test.colors", b"error: not colors with dates between them; 'wite' is none; did you mean blue,soon,white?", [b"blue,soon,wite"]),
     (b"test.word-any-case", NO_VALUE, [None]),
     (b"test.word-any-case", NO_WORD_ANY_CASE, [b"", b"yes", b"1", KELVIN + b"ilo"]),
     (b"test.bool-or-word", NO_BOOL_OR_WORD, [*NO_BOOLEANS, *NO_NUMBERS, *MIDDLE_NUMBERS, *LARGE_PRODUCTS]),
@@ -508,7 +513,7 @@ BUILT_IN = [
     (b"init.defaultBranch", b"my branch", b"error: not the name of a branch"), (b"alias.x", b"log \"a", b"error: not a command: "),
     (b"alias.\xc3\xbc.command", b"", b"error: not a command: "), (b"core.notesRef", b"commits", b"error: not one of: refs/notes/*"),
     (b"core.notesRef", b"refs/notes/x", None), (b"fsck.missingEmail", b"ignore", None), (b"receive.fsck.badDate", b"WARN", b"error: not one of: error, warn, ignore"),
-    (b"color.blame.highlightRecent", b"bleu", b"warning: not a list of: "), (b"sendemail.smtpEncryption", b"starttls", b"warning: not one of: ssl, tls"),
+    (b"color.blame.highlightRecent", b"blue,soon,wite", b"error: not colors with dates between them"), (b"sendemail.smtpEncryption", b"starttls", b"warning: not one of: ssl, tls"),
     # 2.55.0 takes these, or Git for Windows or an older credential manager does
     (b"http.uploadarchive", b"true", None), (b"fetch.hideRefs", b"refs/x", None), (b"gitcvs.authdb", b"/x", None), (b"user.signature", b"x", None),
     (b"http.schannelCheckRevoke", b"best-effort", None), (b"credential.interactive", b"auto", None), (b"credential.validate", b"x", None),
@@ -573,7 +578,7 @@ FILES = [
 
 # a file, and the line of JSON for it
 JSON_LINE = (b'[test]\nint = "\\"\\\\\\n\x1b\xff\xc3\xa9"\n',
-             b'{"code":"bad-integer","column":1,"file":"-","fingerprint":"a7f11f434d2027147811b191589433bb","key":"test.int","key_base64":null,"line":2,'
+             b'{"code":"bad-integer","column":1,"file":"-","fingerprint":"a7f11f434d2027147811b191589433bb","fix":null,"key":"test.int","key_base64":null,"line":2,'
              b'"reason":"Integers needs to be positive or negative numbers which may'
              b' have a suffix like 1k, 42, or 50G","severity":"error","suggested_key":null,'
              b'"suggested_value":null,"value":"\\"\\\\\\n\\u001b\xef\xbf\xbd\xc3\xa9","value_base64":"IlwKG//DqQ=="}\n')
@@ -598,6 +603,27 @@ FAIL_ON = [
     (b"[test]\nbool = yes\n", ["note"]), (b"[test]\nbool = true\n[other]x\n", []),
 ]
 
+# names of submodules, and whether Git 2.55.0 takes them
+SUBMODULES = [(b"x", True), (b"a..b", True), (b"..x/y", True), (b"../x", False), (b"a/..", False), (b"a\\\\..\\\\b", False), (b"", False)]
+# aliases, and the lines of those whose expansion Git says does not terminate
+ALIASES = b"""[alias]
+\ta = b x
+\tB = a
+\tloop = loop -x
+\tx = a
+\tlog = lg
+\tlg = log --graph
+\tstatus = status -s
+\tsh = !loop
+\tok = checkout
+\ttwice = twice
+\ttwice = log
+[alias "c1"]
+\tcommand = c2
+[alias "c2"]
+\tcommand = c1
+"""
+ENDLESS = [2, 3, 4, 5, 14, 16]
 # lines below `[submodule "x"]` in a file .gitmodules, and what Git 2.55.0 does at `git status`: it stops, goes on with a
 # warning, or takes them
 MODULES = [(b"update = !cmd", "error"), (b"update = foo", "error"), (b"update = rebase", None), (b"path = -x", "warning"), (b"url = -y", "warning"),

@@ -143,21 +143,3 @@ module _ (setting : Setting) where
           is.1 (rw same at typed)
     ],
   )
-
-  -- a finding has one change
-  pub safe_same : (rows : List Row) (options : Options) (f : Finding) (code : Code) (a b : Fix) → Mends rows options setting f a
-      → Mends rows options setting f b → IsSafe setting code b → IsSafe setting code a
-  safe_same rows options f code (Value x) (Value y) (meant, mends) (also, mends_too) safe =
-      let both : Some x.now ≡ Some y.now = sym meant ∙ also in
-      let same : x.now ≡ y.now = cc in
-      rw same safe
-  safe_same rows options f code (Value x) (Name n) (meant, mends) (key, also, none, is, renamed, mends_too) safe =
-      let both : None ≡ Some x.now = sym none ∙ meant in absurd (cc)
-  safe_same rows options f code (Name m) (Value y) (key, also, none, is, renamed, mends_too) (meant, mends) safe =
-      let both : None ≡ Some y.now = sym none ∙ meant in absurd (cc)
-  safe_same rows options f code (Name m) (Name n) (key, meant, none, is, renamed, mends) (other, also, lacks, so, renamed_too, mends_too) safe =
-      let both : Some key ≡ Some other = sym meant ∙ also in
-      let same : key ≡ other = cc in
-      let to = cut_same (rw same at renamed.becomes) renamed_too.becomes in
-      let names : m.now ≡ n.now = sym renamed.last ∙ ap (λ k. k.name) to ∙ renamed_too.last in
-      rw names safe

@@ -12,7 +12,7 @@ use Rattle.std.proofs.Math.Seq.{get_or-append_seam, take-append_seam}
 use Rattle.std.specs.List.{All, prefix_len, zip}
 use Rattle.std.specs.Prelude.{MatchBool}
 use Rattle.std.specs.Cmp.Lexicographic.{pointwise, told_text}
-use Rattle.config_checks.specs.Nearest.{Edits, IsSwap, LeavesOut, lower, edits, AreBeyond, IsFirstAt, AreFar, IsNearest}
+use Rattle.config_checks.specs.Nearest.{HasOtherEnd, Edits, IsSwap, LeavesOut, lower, edits, AreBeyond, IsFirstAt, AreFar, IsNearest}
 use Rattle.config_checks.specs.Nearest.Edits.{swapped, counted}
 use Rattle.config_checks.specs.Nearest.IsSwap.{at_front, further}
 use Rattle.config_checks.specs.Nearest.LeavesOut.{skipped, kept}
@@ -138,6 +138,47 @@ pub left_rests : {a b x y : List ℕ} → AreRests a b x y → LeavesOut a b ↔
 left_rests {x = x} {y = y} r =
     let rests = of_rests LeavesOut (λ x a b. (left_rest x x a b refl, kept)) r in
     (λ left. left_apart x y r.apart (rests.0 left), λ (word, e). rests.1 (skipped word e))
+
+-- no other front of both texts is longer than that before what differs
+longest : (f g x y u v : List ℕ) → AreApart x y → f ++ x ≡ g ++ u → f ++ y ≡ g ++ v → length g ≤ length f
+longest f [] x y u v apart first second = omega arith
+longest [] (b ∷ g) [] y u v apart first second = absurd (cc)
+longest [] (b ∷ g) (c ∷ x) [] u v apart first second = absurd (cc)
+longest [] (b ∷ g) (c ∷ x) (d ∷ y) u v apart first second = absurd (apart (cc))
+longest (c ∷ f) (b ∷ g) x y u v apart first second =
+    let shorter = longest f g x y u v apart (cc) (cc) in omega (arith, shorter)
+
+parts_size : (a front x : List ℕ) → lower a ≡ front ++ x → length a ≡ length front + length x
+parts_size a front x is = sym (length-map a to_ascii_lowercase) ∙ ap length is ∙ length-append front x
+
+pub other_end : (a b x y : List ℕ) → AreRests (lower a) (lower b) (lower x) (lower y)
+    → HasOtherEnd a b ↔ ((length x ≤ 3) × (length y ≤ 3) × (length x + 6 ≤ length a))
+other_end a b x y r =
+    let size_x : length (lower x) ≡ length x = length-map x to_ascii_lowercase in
+    let size_y : length (lower y) ≡ length y = length-map y to_ascii_lowercase in
+    let of_x : length a ≡ length r.front + length (lower x) = parts_size a r.front (lower x) r.first in
+    let of_y : length b ≡ length r.front + length (lower y) = parts_size b r.front (lower y) r.second in
+    let to : HasOtherEnd a b → (length x ≤ 3) × (length y ≤ 3) × (length x + 6 ≤ length a) =
+    λ (g, u, v, first, second, long, end, other).
+    let short = longest r.front g (lower x) (lower y) u v r.apart (sym r.first ∙ first) (sym r.second ∙ second) in
+    let of_u : length a ≡ length g + length u = parts_size a g u first in
+    let of_v : length b ≡ length g + length v = parts_size b g v second in (
+      omega (arith, short, of_x, of_u, end, size_x),
+      omega (arith, short, of_y, of_v, other, size_y),
+      omega (arith, short, of_x, long, size_x),
+    ) in
+    let from : (length x ≤ 3) × (length y ≤ 3) × (length x + 6 ≤ length a) → HasOtherEnd a b =
+    λ (end, other, long). (
+      r.front,
+      lower x,
+      lower y,
+      r.first,
+      r.second,
+      omega (arith, of_x, long, size_x),
+      omega (arith, end, size_x),
+      omega (arith, other, size_y),
+    ) in
+    (to, from)
 
 -- there is at most one number of edits
 pub one_count : (a b : List ℕ) (m n : ℕ) → Edits a b m → Edits a b n → m ≡ n

@@ -1,12 +1,15 @@
--- Texts cut at their last colon, which is the only such cut.
-use Rattle.std.proofs.Common.{◌≡◌, ◌≢◌, ◌<◌, ◌+◌, Bool, true, ℕ, List, [], ◌∷◌, ◌++◌}
+-- Texts cut at their last colon, which is the only such cut, and fields of which every other one is a color.
+use Rattle.std.proofs.Common.{◌≡◌, ◌≢◌, ◌<◌, ◌+◌, ◌&&◌, Bool, true, false, not, ℕ, List, [], ◌∷◌, ◌++◌}
 use Rattle.std.proofs.Common.{Option, Some, None, length, take, drop, get_or, refl, sym, ap, subst, ◌∙◌, arith, Bor}
-use Rattle.std.proofs.lemmas.List.{length-drop, drop_more, get_or-drop, take-append-drop}
+use Rattle.std.proofs.lemmas.List.{length-drop, drop_more, get_or-drop, take-append-drop, same_from_push}
 use Rattle.std.proofs.lemmas.List.Sums.{list_all-from_AllPass}
 use Rattle.std.proofs.lemmas.Bool.Decides.{nat_tests}
 use Rattle.std.specs.Prelude.{MatchOption, IsTrue, ◌↔◌}
 use Rattle.std.specs.List.{list_all, HoldsAt, AllWithin}
-use Rattle.config_checks.specs.Shapes.{BeginsWith, HasSides, HaveSides, is_no_colon}
+use Rattle.config_checks.specs.Shapes.{BeginsWith, HasSides, HaveSides, is_no_colon, Follows, Alternate}
+use Rattle.config_checks.specs.Shapes.Alternate.{nothing, next}
+use Rattle.config_checks.specs.Reading.Steps.{Turn}
+use Rattle.config_checks.specs.Reading.Steps.Turn.{start, turn}
 
 pub lacks_front : (text front : List ℕ) (r : Option (Bor (List ℕ)))
     → MatchOption r ((rest : List ℕ) → text ≢ front ++ rest) (λ rest. text ≡ front ++ rest.now)
@@ -67,4 +70,49 @@ by_cut Are t s g is cut decides = (
   λ yes. (s, g, cut, decides.0 yes),
   λ have. let (first, last) = one_cut t have.0 s have.1 g have.2 cut in
       decides.1 (subst (Are s) last (subst (λ x. Are x have.1) first have.3)),
+)
+
+-- ---- colors by age
+
+-- a field that may follow is the next one, and no other is
+last_field : (color other : Bool) (fields all : List (List ℕ)) (field : List ℕ) → Alternate other all → other ≡ not color
+    → all ≡ fields ++ field ∷ [] → Alternate color fields × Follows color field
+last_field color _ [] _ field nothing end same = absurd (cc)
+last_field color _ (first ∷ fields) _ field nothing end same = absurd (cc)
+last_field color _ fields _ field (next before had last alternate follows) end same =
+    let (first, also) = same_from_push had fields last field same in
+    let turn : before ≡ color = grind arith in (
+      subst (λ c. Alternate c fields) turn (subst (Alternate before) first alternate),
+      subst (λ c. Follows c field) turn (subst (Follows before) also follows),
+    )
+
+pub next_field : (is may color : Bool) (fields : List (List ℕ)) (field : List ℕ) → IsTrue is ↔ Alternate color fields
+    → IsTrue may ↔ Follows color field → IsTrue (is && may) ↔ Alternate (not color) (fields ++ field ∷ [])
+next_field true true color fields field so_far follows =
+    (λ yes. next color fields field (so_far.0 refl) (follows.0 refl), λ all. refl)
+next_field true false color fields field so_far follows =
+    (λ yes. absurd (cc), λ all. follows.1 (last_field color (not color) fields _ field all refl refl).1)
+next_field false may color fields field so_far follows =
+    (λ yes. absurd (cc), λ all. so_far.1 (last_field color (not color) fields _ field all refl refl).0)
+
+-- fields have one turn
+one_turn : (color other : Bool) (fields all : List (List ℕ)) → Turn color fields → Alternate other all → all ≡ fields → other ≡ color
+one_turn _ _ _ _ start nothing same = refl
+one_turn _ _ _ _ start (next color [] field all follows) same = absurd (cc)
+one_turn _ _ _ _ start (next color (first ∷ fields) field all follows) same = absurd (cc)
+one_turn _ _ _ _ (turn color [] field turns) nothing same = absurd (cc)
+one_turn _ _ _ _ (turn color (first ∷ fields) field turns) nothing same = absurd (cc)
+one_turn _ _ _ _ (turn color fields field turns) (next other had last all follows) same =
+    let (first, also) = same_from_push had fields last field same in
+    ap not (one_turn color other fields had turns all first)
+
+pub whole_fields : (is color : Bool) (fields : List (List ℕ)) → IsTrue is ↔ Alternate color fields → Turn color fields
+    → IsTrue (is && color) ↔ Alternate true fields
+whole_fields true true fields so_far turns = (λ yes. so_far.0 refl, λ all. refl)
+whole_fields true false fields so_far turns =
+    (λ yes. absurd (cc), λ all. let same = one_turn false true fields fields turns all refl in absurd (cc))
+whole_fields false color fields so_far turns = (
+  λ yes. absurd (cc),
+  λ all. let same = one_turn color true fields fields turns all refl in
+      so_far.1 (subst (λ c. Alternate c fields) same all),
 )

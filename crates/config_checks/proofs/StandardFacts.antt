@@ -19,6 +19,7 @@ use Rattle.config_checks.specs.declared.version.Version.{Version}
 use Rattle.config_checks.specs.Codes.{code_name, code_of_fault}
 use Rattle.config_checks.specs.Findings.{Finding}
 use Rattle.config_checks.specs.Json.{finding_json, fingerprint_of, severity_name}
+use Rattle.config_checks.specs.declared.fix.Safety.TheVariants.{Safe}
 use Rattle.config_checks.specs.Outcome.{IsStatus}
 use Rattle.config_checks.specs.Reasons.{severity_of}
 use Rattle.std.specs.List.{list_all, list_any, fold}
@@ -30,11 +31,11 @@ use Rattle.config_checks.specs.Shapes.{is_no_ref_byte, quote_after}
 pub codes_are_named : map code_name (kind.BadBoolean ∷ kind.BadInteger ∷ kind.BadColor ∷ kind.OutOfRange
     ∷ kind.NotAWord ∷ kind.NoHome ∷ kind.BadRefspec ∷ kind.BadBranch ∷ kind.BadCommand ∷ kind.LikeAnOption ∷ kind.OtherValue ∷ kind.NoValue ∷ kind.MissingSetting ∷ kind.UnknownKey
     ∷ kind.TooNew ∷ kind.Gone ∷ kind.Deprecated ∷ kind.NotCanonical ∷ kind.InvalidLine ∷ kind.IncludeLoop
-    ∷ kind.IncludeDepth ∷ kind.IncludePath ∷ kind.MissingFile ∷ kind.UnknownCondition ∷ [])
+    ∷ kind.IncludeDepth ∷ kind.IncludePath ∷ kind.MissingFile ∷ kind.UnknownCondition ∷ kind.EndlessAlias ∷ kind.SubmoduleName ∷ [])
     ≡ map (λ t. codes t) ("bad-boolean" ∷ "bad-integer" ∷ "bad-color" ∷ "out-of-range"
     ∷ "not-a-word" ∷ "no-home" ∷ "bad-refspec" ∷ "bad-branch" ∷ "bad-command" ∷ "like-an-option" ∷ "other-value" ∷ "no-value" ∷ "missing-setting" ∷ "unknown-key"
     ∷ "too-new" ∷ "gone" ∷ "deprecated" ∷ "not-canonical" ∷ "invalid-line" ∷ "include-loop"
-    ∷ "include-depth" ∷ "include-path" ∷ "missing-file" ∷ "unknown-condition" ∷ [])
+    ∷ "include-depth" ∷ "include-path" ∷ "missing-file" ∷ "unknown-condition" ∷ "endless-alias" ∷ "submodule-name" ∷ [])
 codes_are_named = refl
 
 -- a number that is too large is out of range, whether for 64 bits or for a setting
@@ -94,11 +95,12 @@ abbrev members : List (String × Data) → Members
 members [] = no_members
 members (row ∷ rows) = member (codes row.0) row.1 (members rows)
 
-pub findings_are_objects : finding_json 2 0 found ≡ object (members (
+pub findings_are_objects : finding_json 2 0 (Some Safe) found ≡ object (members (
     ("code", text "not-a-word")
     ∷ ("column", number (unsigned 2))
     ∷ ("file", text "a")
     ∷ ("fingerprint", string (fingerprint_of (codes "a\0not-a-word\0pull.ff\0onyl\0" ++ codes "0")))
+    ∷ ("fix", text "safe")
     ∷ ("key", text "pull.ff")
     ∷ ("key_base64", null)
     ∷ ("line", number (unsigned 9))

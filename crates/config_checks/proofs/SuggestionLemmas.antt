@@ -1,5 +1,5 @@
 -- The edits between the keys of rows and a key.
-use Rattle.std.proofs.Common.{◌≡◌, ◌<◌, ℕ, zero, suc, Result, Ok, Err, IfOk, List, [], ◌∷◌, Option, None, Some, MatchOption}
+use Rattle.std.proofs.Common.{◌≡◌, ◌<◌, ◌≤◌, ℕ, zero, suc, Result, Ok, Err, IfOk, List, [], ◌∷◌, Option, None, Some, MatchOption}
 use Rattle.std.proofs.Common.{◌∙◌, sym, ap, subst, arith, length, get_or, Bool, IsTrue, ◌↔◌, codes}
 use Rattle.std.proofs.lemmas.List.{length-map}
 use Rattle.std.specs.Char.{to_ascii_lowercase}
@@ -9,13 +9,14 @@ use Rattle.config_checks.specs.declared.row.Row.{Row}
 use Rattle.config_checks.specs.declared.row.Run.{Run}
 use Rattle.config_checks.specs.declared.suggestion.Relation.{Relation}
 use Rattle.config_checks.specs.declared.suggestion.Relation.TheVariants as relations
-use Rattle.config_checks.specs.Nearest.{Edits, AreFar}
+use Rattle.config_checks.specs.Nearest.{Edits, FewEdits, most_edits, AreFar}
 use Rattle.config_checks.specs.Nearest.Edits.{swapped, counted}
 use Rattle.config_checks.specs.Reading.Steps.{IsFew, IsRelation}
 use Rattle.config_text.specs.SameWord.{SameWord}
 use Rattle.config_file.specs.Key.{Key, IsCut}
 use Rattle.config_checks.specs.Keys.{CoversSubsection, CoversName}
-use Rattle.config_checks.specs.Suggestions.{NameEdits, EditsAfter, OnePartEdits, RowEdits, SectionEdits, SubsectionEdits, HasSlots, IsOwn}
+use Rattle.config_checks.specs.Suggestions.{AreAlike, NameEdits, EditsAfter, OnePartEdits, RowEdits, SectionEdits, SubsectionEdits, HasSlots, IsOwn}
+use Rattle.config_checks.specs.Suggestions.NameEdits.{few, by_run}
 use Rattle.config_checks.specs.Suggestions.EditsAfter.{in_name, in_subsection}
 use Rattle.config_checks.specs.Suggestions.IsOwn.{alone, slot}
 use Rattle.config_checks.specs.Suggestions.IsPassed.{foreign}
@@ -154,3 +155,22 @@ one_after row key m n is also = grind (arith, one_name, one_subsection)
 
 pub one_number : (row key : Key) (m n : ℕ) → OnePartEdits row key m → OnePartEdits row key n → m ≡ n
 one_number row key m n is also = grind (arith, one_after, one_count)
+
+-- ---- names that are not near
+
+nowhere : (a b : List ℕ) → IsFew (FewEdits 5 a b) None → (m : ℕ) → ¬ (FewEdits 5 a b m)
+nowhere a b far m near =
+    let most : most_edits 5 a b ≤ 2 = grind arith in
+    let more = far m near in
+    let less = near.1 in
+    omega (arith, more, less, most)
+
+pub of_run : (row key : Key) → IsFew (FewEdits 5 row.name key.name) None → key.subsection ≡ None → (r : Option ℕ)
+    → MatchOption r (¬ (AreAlike row.name key.name)) (λ n. AreAlike row.name key.name × (n ≡ 3)) → IsFew (NameEdits row key) r
+of_run row key far lone None unlike = λ n edits. elim edits [
+  | few is ↦ far n is
+  | by_run far_off sub like three ↦ absurd (unlike like)
+]
+of_run row key far lone (Some n) alike =
+    let three : n ≡ 3 = alike.1 in
+    (by_run (nowhere row.name key.name far) lone alike.0 three, omega (arith, three))

@@ -35,6 +35,8 @@ code_name kind.IncludeDepth = codes "include-depth"
 code_name kind.IncludePath = codes "include-path"
 code_name kind.MissingFile = codes "missing-file"
 code_name kind.UnknownCondition = codes "unknown-condition"
+code_name kind.EndlessAlias = codes "endless-alias"
+code_name kind.SubmoduleName = codes "submodule-name"
 
 -- the code of a value that a reader refuses
 abbrev pub code_of_fault : Fault → Code
@@ -51,6 +53,7 @@ code_of_shape shapes.PushRefspec = kind.BadRefspec
 code_of_shape shapes.Branch = kind.BadBranch
 code_of_shape shapes.Command = kind.BadCommand
 code_of_shape shapes.NoOption = kind.LikeAnOption
+code_of_shape shapes.ColorsByAge = kind.BadColor
 
 -- the code of a reason
 abbrev pub code_of : Reason → Code

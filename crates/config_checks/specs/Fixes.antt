@@ -1,5 +1,5 @@
 -- Which change of an entry mends its finding, and which changes are safe.
-use Rattle.std.specs.Prelude.{◌≡◌, ◌≤◌, ◌&&◌, ◌==◌, not, ⊤, ℕ, Bool, false, List, reverse, Option, None, Some}
+use Rattle.std.specs.Prelude.{◌≡◌, ◌≤◌, ◌&&◌, ◌==◌, not, ⊤, ℕ, Bool, false, List, ◌++◌, codes, length, reverse, Option, None, Some}
 use Rattle.std.specs.Char.{is_ascii_digit}
 use Rattle.std.specs.List.{list_any}
 use denote.Ref.{Bor}
@@ -9,6 +9,8 @@ use Rattle.config_checks.specs.declared.code.Code.{Code}
 use Rattle.config_checks.specs.declared.code.Code.TheVariants as kind
 use Rattle.config_checks.specs.declared.fix.Fix.{Fix}
 use Rattle.config_checks.specs.declared.fix.Fix.TheVariants.{Name, Value}
+use Rattle.config_checks.specs.declared.fix.Safety.{Safety}
+use Rattle.config_checks.specs.declared.fix.Safety.TheVariants.{Safe, Unsafe}
 use Rattle.config_checks.specs.declared.kind.SettingKind.{SettingKind}
 use Rattle.config_checks.specs.declared.kind.SettingKind.TheVariants as kinds
 use Rattle.config_checks.specs.declared.options.Options.{Options}
@@ -71,11 +73,15 @@ abbrev pub lacks_digit : List ℕ → List ℕ → Bool
 lacks_digit text other = list_any (λ b. is_ascii_digit b && not (list_any (λ c. c == b) other)) text
 
 -- One typing error at most leads from one text to the other: a byte less, more or other, or two in the wrong order. The case
--- of letters is none, and no digit is taken for another one.
+-- of letters is none, no digit is taken for another one, a text of fewer than four bytes has too many neighbors, and an `s`
+-- at the end makes another word.
 pub record IsTypingError (was now : List ℕ) : Type 0 where
   pub edits : ℕ
   pub are : Edits now was edits
   pub one : edits ≤ 1
+  pub long : 4 ≤ length now
+  pub not_several : ¬ (SameWord (was ++ codes "s") now)
+  pub not_one : ¬ (SameWord (now ++ codes "s") was)
   pub kept : lacks_digit was now ≡ false
   pub old : lacks_digit now was ≡ false
 
@@ -95,3 +101,8 @@ pub record IsSafeName (setting : Setting) (name : List ℕ) : Type 0 where
 abbrev pub IsSafe : Setting → Code → Fix → Type 0
 IsSafe setting code (Value new) = IsSafeValue setting code new.now
 IsSafe setting code (Name name) = IsSafeName setting name.now
+
+-- the change is as safe as this says
+abbrev pub HasSafety : Setting → Code → Fix → Safety → Type 0
+HasSafety setting code fix Safe = IsSafe setting code fix
+HasSafety setting code fix Unsafe = ¬ (IsSafe setting code fix)

@@ -1,5 +1,5 @@
 -- A finding as JSON.
-use Rattle.std.specs.Prelude.{◌≢◌, ◌++◌, List, ℕ, [], ◌∷◌, take, codes, Option, None, Some, if◌then◌else◌}
+use Rattle.std.specs.Prelude.{◌≢◌, ◌++◌, List, ℕ, [], ◌∷◌, take, codes, Option, None, Some, option_map, if◌then◌else◌}
 use Rattle.std.specs.Fmt.{decimal}
 use Rattle.std.specs.List.{AllByRecursion}
 use Rattle.std.specs.Str.{is_utf8}
@@ -11,6 +11,8 @@ use Rattle.sha2.specs.Sha256.{sha256}
 use Rattle.serde_json.specs.Data.{Data, Members, null, number, unsigned, string, object, member, no_members}
 use Rattle.config_checks.specs.declared.reason.Severity.{Severity}
 use Rattle.config_checks.specs.declared.reason.Severity.TheVariants.{Error, Warning, Note}
+use Rattle.config_checks.specs.declared.fix.Safety.{Safety}
+use Rattle.config_checks.specs.declared.fix.Safety.TheVariants.{Safe, Unsafe}
 use Rattle.config_checks.specs.Codes.{code_name}
 use Rattle.config_checks.specs.Findings.{Finding, line_feed}
 
@@ -18,6 +20,10 @@ abbrev pub severity_name : Severity → List ℕ
 severity_name Error = codes "error"
 severity_name Warning = codes "warning"
 severity_name Note = codes "note"
+
+abbrev pub safety_name : Safety → List ℕ
+safety_name Safe = codes "safe"
+safety_name Unsafe = codes "unsafe"
 
 -- ---- the fingerprint
 
@@ -68,14 +74,15 @@ members_from_line f =
     (member (codes "value") (text_or_null f.value)
     (member (codes "value_base64") (bytes_or_null f.value) no_members))))))
 
-abbrev pub finding_json : (column equal : ℕ) → Finding → Data
-finding_json column equal f =
+abbrev pub finding_json : (column equal : ℕ) → Option Safety → Finding → Data
+finding_json column equal fix f =
     object (member (codes "code") (string (code_name f.code))
     (member (codes "column") (number (unsigned column))
     (member (codes "file") (string f.file)
     (member (codes "fingerprint") (string (fingerprint_of (identity equal f)))
+    (member (codes "fix") (text_or_null (option_map safety_name fix))
     (member (codes "key") (text_or_null f.key)
-    (member (codes "key_base64") (bytes_or_null f.key) (members_from_line f)))))))
+    (member (codes "key_base64") (bytes_or_null f.key) (members_from_line f))))))))
 
 -- the text has no line feed
 abbrev pub IsOneLine : List ℕ → Type 0

@@ -14,4 +14,5 @@ pub mod Report
 pub mod Outcome
 pub mod Suggestions
 pub mod Fixes
+pub mod Wrong
 pub mod Reading

@@ -41,6 +41,11 @@ pub data LeavesOut : List ℕ → List ℕ → Type 0 where
 abbrev pub LacksRun : List ℕ → List ℕ → Type 0
 LacksRun a b = (5 ≤ length a) × LeavesOut (lower a) (lower b)
 
+-- both texts begin with the same six bytes or more, ignoring ASCII case, and at most three bytes of each follow
+abbrev pub HasOtherEnd : List ℕ → List ℕ → Type 0
+HasOtherEnd a b = (front x y : List ℕ) × (lower a ≡ front ++ x) × (lower b ≡ front ++ y)
+    × (6 ≤ length front) × (length x ≤ 3) × (length y ≤ 3)
+
 -- ---- the nearest of several
 
 -- no item is `n` or fewer edits away

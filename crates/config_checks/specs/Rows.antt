@@ -141,6 +141,7 @@ plain_name (kinds.Shaped shapes.PushRefspec) = Some (codes "push-refspec")
 plain_name (kinds.Shaped shapes.Branch) = Some (codes "branch")
 plain_name (kinds.Shaped shapes.Command) = Some (codes "command")
 plain_name (kinds.Shaped shapes.NoOption) = Some (codes "no-option")
+plain_name (kinds.Shaped shapes.ColorsByAge) = Some (codes "colors-by-age")
 plain_name _ = None
 
 abbrev pub form_name : Form → List ℕ

@@ -1,13 +1,15 @@
--- Texts that Git reads by rules of their own: refspecs, names of branches, and the command lines of aliases.
-use Rattle.std.specs.Prelude.{◌≡◌, ◌≢◌, ◌⊎◌, ℕ, ◌≤◌, ◌==◌, ◌||◌, nat_lt, not, Bool, true, false, List, [], ◌∷◌, ◌++◌}
+-- Texts that Git reads by rules of their own: refspecs, names of branches, the command lines of aliases, colors by age.
+use Rattle.std.specs.Prelude.{◌≡◌, ◌≢◌, ◌⊎◌, ℕ, ◌≤◌, ◌==◌, ◌||◌, ⊤, nat_lt, not, Bool, true, false, List, [], ◌∷◌, ◌++◌}
 use Rattle.std.specs.Prelude.{Option, None, Some, codes, count_by, if◌then◌else◌, All}
 use Rattle.std.specs.List.{list_any, list_all, slice_split, fold}
 use Rattle.bstr.specs.Text.{Contains}
+use Rattle.config_text.specs.Value.{IsAccepted}
+use Rattle.gix_config_value.specs.Color.{ColorText}
 use Rattle.config_checks.specs.declared.shape.Quote.{Quote}
 use Rattle.config_checks.specs.declared.shape.Quote.TheVariants.{Outside, Single, Double, Escaped, DoubleEscaped}
 use Rattle.config_checks.specs.Kinds.{without_front}
 use Rattle.config_checks.specs.declared.shape.Shape.{Shape}
-use Rattle.config_checks.specs.declared.shape.Shape.TheVariants.{FetchRefspec, PushRefspec, Branch, Command, NoOption}
+use Rattle.config_checks.specs.declared.shape.Shape.TheVariants.{FetchRefspec, PushRefspec, Branch, Command, NoOption, ColorsByAge}
 
 abbrev pub BeginsWith : List ℕ → List ℕ → Type 0
 BeginsWith t front = (rest : List ℕ) × (t ≡ front ++ rest)
@@ -110,6 +112,36 @@ is_black b = not ((b == 32) || (b == 9) || (b == 10) || (b == 11) || (b == 12) |
 abbrev pub IsCommand : List ℕ → Type 0
 IsCommand t = BeginsWith t (codes "!") ⊎ ((list_any is_black t ≡ true) × (fold quote_after Outside t ≡ Outside))
 
+-- ---- colors by age
+
+abbrev pub is_comma : ℕ → Bool
+is_comma b = b == 44
+
+-- a color is followed by a date, which Git takes in any form, and a date by a color
+abbrev pub Follows : (color : Bool) → List ℕ → Type 0
+Follows true field = ⊤
+Follows false field = IsAccepted ColorText field
+
+-- a color comes first, and then dates and colors in turn; `color` if a color is the last
+pub data Alternate : (color : Bool) → List (List ℕ) → Type 0 where
+  nothing : Alternate false []
+  next : (color : Bool) (fields : List (List ℕ)) (field : List ℕ) → Alternate color fields → Follows color field
+      → Alternate (not color) (fields ++ field ∷ [])
+
+-- colors with a date between each two of them
+abbrev pub AreColorsByAge : List ℕ → Type 0
+AreColorsByAge t = Alternate true (slice_split is_comma t)
+
+-- ---- names of submodules
+
+-- what stands between the parts of a path on any system
+abbrev pub is_path_separator : ℕ → Bool
+is_path_separator b = (b == 47) || (b == 92)
+
+-- Git ignores a submodule whose name is empty, or has a part that leads out of it
+abbrev pub IsSubmoduleName : List ℕ → Type 0
+IsSubmoduleName name = (name ≢ []) × All (λ part. part ≢ codes "..") (slice_split is_path_separator name)
+
 -- ---- all shapes
 
 -- the text has this shape
@@ -119,6 +151,7 @@ HasShape PushRefspec t = IsRefspec IsPushed t
 HasShape Branch t = IsBranch t
 HasShape Command t = IsCommand t
 HasShape NoOption t = ¬ (BeginsWith t (codes "-"))
+HasShape ColorsByAge t = AreColorsByAge t
 
 -- what is said of a text that has not this shape
 abbrev pub shape_fault : Shape → List ℕ
@@ -127,3 +160,4 @@ shape_fault PushRefspec = codes "not a refspec"
 shape_fault Branch = codes "not the name of a branch"
 shape_fault Command = codes "not a command: it is empty, or a quote or a backslash is open at its end"
 shape_fault NoOption = codes "begins with -, as an option"
+shape_fault ColorsByAge = codes "not colors with dates between them"

@@ -16,7 +16,7 @@ use Rattle.config_checks.specs.declared.reason.Severity.{Severity}
 use Rattle.config_checks.specs.declared.reason.Severity.TheVariants.{Error, Warning}
 use Rattle.config_checks.specs.Findings.{shown}
 use Rattle.config_checks.specs.Keys.{CoversSubsection, CoversName}
-use Rattle.config_checks.specs.Nearest.{FewEdits, LacksRun, AreFar, IsNearest}
+use Rattle.config_checks.specs.Nearest.{FewEdits, LacksRun, HasOtherEnd, AreFar, IsNearest}
 use Rattle.config_checks.specs.Rows.{IsUnknown}
 
 -- ---- how far two keys are apart
@@ -29,12 +29,16 @@ SubsectionEdits same_name (Some row) None n = same_name × (n ≡ 0)
 SubsectionEdits same_name None (Some subsection) n = same_name × (n ≡ 0)
 SubsectionEdits same_name None None n = ⊥
 
+-- one of the texts lacks only one run of bytes of the other, or both differ only in how they end
+pub record AreAlike (a b : List ℕ) : Type 0 where
+  pub how : LacksRun a b ⊎ (LacksRun b a ⊎ HasOtherEnd a b)
+
 -- the names are near, `n` edits apart; otherwise, in a key without a subsection, one of them may only lack a run
--- of bytes of the other, which counts as three edits
+-- of bytes of the other, or end otherwise, which counts as three edits
 pub data NameEdits (row key : Key) (n : ℕ) : Type 0 where
   few : FewEdits 5 row.name key.name n → NameEdits row key n
   by_run : ((m : ℕ) → ¬ (FewEdits 5 row.name key.name m)) → key.subsection ≡ None
-      → LacksRun row.name key.name ⊎ LacksRun key.name row.name → n ≡ 3 → NameEdits row key n
+      → AreAlike row.name key.name → n ≡ 3 → NameEdits row key n
 
 -- after their sections, the two keys differ either in the name or in the subsection, by `n` edits
 pub data EditsAfter (row key : Key) (n : ℕ) : Type 0 where

@@ -63,6 +63,10 @@ pub enum Code {
     MissingFile,
     /// Git does not know the condition of an include.
     UnknownCondition,
+    /// An alias leads back to itself.
+    EndlessAlias,
+    /// Git does not take the name of a submodule.
+    SubmoduleName,
 }
 
 impl Code {
@@ -95,6 +99,8 @@ impl Code {
             Code::IncludePath => "include-path",
             Code::MissingFile => "missing-file",
             Code::UnknownCondition => "unknown-condition",
+            Code::EndlessAlias => "endless-alias",
+            Code::SubmoduleName => "submodule-name",
         }
     }
 }
@@ -263,6 +269,18 @@ pub const EXPLAINED: &[Explained] = &[
         wrong: "[includeIf \"gitdr:~/work/\"]\n\tpath = work\n",
         right: "[includeIf \"gitdir:~/work/\"]\n\tpath = work\n",
     },
+    Explained {
+        code: Code::EndlessAlias,
+        meaning: "the alias leads back to itself",
+        wrong: "[alias]\n\tci = co\n\tco = ci\n",
+        right: "[alias]\n\tci = commit\n\tco = checkout\n",
+    },
+    Explained {
+        code: Code::SubmoduleName,
+        meaning: "Git ignores a submodule of this name",
+        wrong: "# in .gitmodules\n[submodule \"../x\"]\n\turl = ./x\n",
+        right: "[submodule \"x\"]\n\turl = ./x\n",
+    },
 ];
 
 /// The code of a value that a reader refuses.
@@ -286,6 +304,7 @@ fn code_of_shape(shape: Shape) -> Code
         Shape::Branch => Code::BadBranch,
         Shape::Command => Code::BadCommand,
         Shape::NoOption => Code::LikeAnOption,
+        Shape::ColorsByAge => Code::BadColor,
     }
 }
 

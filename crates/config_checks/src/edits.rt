@@ -1,7 +1,7 @@
 //! The edits that lead from one text to another.
-ghost use Rattle.std.specs.Prelude.{◌≡◌, ◌≤◌, ◌↔◌, ◌==◌, ◌++◌, ℕ, List, length, not, IsTrue, IfOk};
+ghost use Rattle.std.specs.Prelude.{◌≡◌, ◌≤◌, ◌+◌, ◌↔◌, ◌==◌, ◌++◌, ℕ, List, length, not, IsTrue, IfOk};
 ghost use Rattle.std.specs.List.{prefix_len, zip, filter};
-ghost use Rattle.config_checks.specs.Nearest.{Edits, IsSwap, FewEdits, most_edits, LacksRun, lower};
+ghost use Rattle.config_checks.specs.Nearest.{Edits, IsSwap, FewEdits, HasOtherEnd, most_edits, LacksRun, lower};
 ghost use Rattle.config_checks.specs.Reading.Steps.{AreApart, AreRests, IsFew, has_byte, is_same_byte};
 
 use crate::key::is_same_word;
@@ -147,4 +147,25 @@ pub(crate) fn lacks_run(short: &[u8], long: &[u8]) -> bool
     }
     let (short, long) = word_rests(short, long);
     ends_with_word(long, short)
+}
+
+/// The least front of two texts that differ in how they end.
+const FRONT: usize = 6;
+
+/// The longest of these ends.
+const END: usize = 3;
+
+/// Whether these are the short ends of two texts, the first of which begins with a long front.
+fn are_ends(text: &[u8], x: &[u8], y: &[u8]) -> bool
+    ensures { IsTrue result ↔ ((length x.now ≤ 3) × (length y.now ≤ 3) × (length x.now + 6 ≤ length text.now)) }
+{
+    x.len() <= END && y.len() <= END && x.len() + FRONT <= text.len()
+}
+
+/// Whether two texts begin alike, ignoring ASCII case, and differ only in how they end.
+pub(crate) fn has_other_end(a: &[u8], b: &[u8]) -> bool
+    ensures { IsTrue result ↔ (HasOtherEnd a.now b.now) }
+{
+    let (x, y) = word_rests(a, b);
+    are_ends(a, x, y)
 }

@@ -1,13 +1,14 @@
 //! Which change of an entry mends its finding, and which changes are safe.
 ghost use Rattle.std.specs.Prelude.{◌≡◌, ◌↔◌, ℕ, List, IsTrue, IfOk, MatchOption, None, Some};
-ghost use Rattle.std.specs.Prelude.{option_copied, reverse, ◌∷◌, []};
+ghost use Rattle.std.specs.Prelude.{option_copied, reverse, ◌∷◌, [], ◌++◌, codes};
 ghost use Rattle.config_text.specs.SameWord.{SameWord};
 ghost use Rattle.config_file.specs.KeyView.{key_of};
 ghost use Rattle.config_checks.specs.declared.code.Code.TheVariants.{NotAWord};
 ghost use Rattle.config_checks.specs.declared.fix.Fix.{Fix};
 ghost use Rattle.config_checks.specs.Findings.{finding_of};
 ghost use Rattle.config_checks.specs.Fixes.{IsClean, IsOnlyMeant, IsOnlyKey};
-ghost use Rattle.config_checks.specs.Fixes.{MendsValue, IsRenamed, MendsKey, Mends, IsSafe, IsSafeName, IsSafeValue, IsTypingError, lacks_digit};
+ghost use Rattle.config_checks.specs.Fixes.{MendsValue, IsRenamed, MendsKey, Mends, IsSafe, IsSafeName, IsSafeValue, HasSafety, IsTypingError, lacks_digit};
+ghost use Rattle.config_checks.specs.Json.{safety_name};
 ghost use Rattle.config_checks.specs.Reasons.{HasFinding};
 ghost use Rattle.config_checks.specs.Rows.{rows_of, IsUnknown};
 
@@ -44,6 +45,33 @@ pub enum Fix<'f> {
     Name(&'f [u8]),
     /// Its value is this one.
     Value(&'f [u8]),
+}
+
+/// Whether a program can make a change unseen.
+///
+/// ```rust
+/// use config_checks::fix::Safety;
+///
+/// assert_eq!(rt; Safety::Unsafe.name(), "unsafe");
+/// ```
+#[derive(Clone, Copy)]
+pub enum Safety {
+    /// It undoes one typing error, or writes what was asked for.
+    Safe,
+    /// It is a guess.
+    Unsafe,
+}
+
+impl Safety {
+    /// The word that tells it.
+    pub fn name(self) -> &'static str
+        ensures { result.now ≡ safety_name self }
+    {
+        match self {
+            Safety::Safe => "safe",
+            Safety::Unsafe => "unsafe",
+        }
+    }
 }
 
 /// The rows by which changes are judged.
@@ -281,11 +309,37 @@ fn lacks_digit(text: &[u8], other: &[u8]) -> bool
         .any(|byte| byte.is_ascii_digit() && !other.contains(byte))
 }
 
-/// Whether one typing error at most leads from one text to the other.
+/// A text with an `s` behind it.
+fn with_s(alloc: Global, text: &[u8]) -> Result<Vec<u8>, AllocError>
+    ensures { IfOk result (λ several. several.items ≡ text.now ++ codes "s") }
+{
+    let mut several = text.to_vec(alloc)?;
+    several.push(b's')?;
+    Ok(several)
+}
+
+/// Whether the second text is the first one with an `s` behind it, ignoring ASCII case.
+fn are_several(alloc: Global, one: &[u8], several: &[u8]) -> Result<bool, AllocError>
+    ensures { IfOk result (λ are. IsTrue are ↔ SameWord (one.now ++ codes "s") several.now) }
+{
+    let word = with_s(alloc, one)?;
+    Ok(is_same_word(&word, several))
+}
+
+/// A text of fewer bytes has too many neighbors: one typing error may turn it into any of several words.
+const SHORTEST: usize = 4;
+
+/// Whether one typing error at most leads from one text to the other, which is not short.
 fn is_typing_error(alloc: Global, was: &[u8], now: &[u8]) -> Result<bool, AllocError>
     ensures { IfOk result (λ is. IsTrue is ↔ IsTypingError was.now now.now) }
 {
-    if lacks_digit(was, now) || lacks_digit(now, was) {
+    if now.len() < SHORTEST || lacks_digit(was, now) || lacks_digit(now, was) {
+        return Ok(false);
+    }
+    if are_several(alloc, was, now)? {
+        return Ok(false);
+    }
+    if are_several(alloc, now, was)? {
         return Ok(false);
     }
     match few_edits(alloc, LONG, now, was)? {
@@ -322,10 +376,8 @@ fn is_safe_name(alloc: Global, setting: &Setting<'_>, name: &[u8]) -> Result<boo
     }
 }
 
-/// Whether a change of a setting with a finding of this code is safe: it undoes one typing error, a byte less,
-/// more or other, or two in the wrong order, or it writes what a row asks for, or the same value as Git writes
-/// it. Two typing errors, a missing word and another digit are guesses. It fails only if memory is refused.
-pub fn is_safe(
+/// Whether a change of a setting with a finding of this code is safe.
+fn is_safe(
     alloc: Global,
     setting: &Setting<'_>,
     code: Code,
@@ -339,10 +391,8 @@ pub fn is_safe(
     }
 }
 
-/// The change of a setting that its finding suggests, if the changed setting has no finding left: the value
-/// that is suggested, unless another word is as near, or the last part of the key that is suggested in place
-/// of an unknown one, if the other parts stay and no other key is as near. It fails only if memory is refused.
-pub fn change_for<'f>(
+/// The change of a setting that its finding suggests, if the changed setting has no finding left.
+fn change_for<'f>(
     alloc: Global,
     judge: &Judge<'_, '_>,
     options: &Options<'_>,
@@ -374,27 +424,44 @@ pub fn change_for<'f>(
     }
 }
 
-/// What [`change_for`] gives, if it is safe ([`is_safe`]): a program can make such a change unseen. It fails only if
-/// memory is refused.
+/// How safe a change of a setting with a finding of this code is.
+fn safety_of(
+    alloc: Global,
+    setting: &Setting<'_>,
+    code: Code,
+    change: &Fix<'_>,
+) -> Result<Safety, AllocError>
+    ensures { IfOk result (HasSafety setting.now code change.now) }
+{
+    if is_safe(alloc, setting, code, change)? {
+        Ok(Safety::Safe)
+    } else {
+        Ok(Safety::Unsafe)
+    }
+}
+
+/// The change of a setting that its finding suggests, if the changed setting has no finding left, and whether a program
+/// can make it unseen: the value that is suggested, unless another word is as near, or the last part of the key that is
+/// suggested in place of an unknown one, if the other parts stay and no other key is as near. A safe change undoes one
+/// typing error, a byte less, more or other, or two in the wrong order, or it writes what a row asks for, or the same
+/// value as Git writes it. Two typing errors, a missing word, another digit, an `s` at the end and a text of three bytes
+/// are guesses. It fails only if memory is refused.
 pub fn mend<'f>(
     alloc: Global,
     judge: &Judge<'_, '_>,
     options: &Options<'_>,
     setting: &Setting<'_>,
     finding: &Finding<'f>,
-) -> Result<Option<Fix<'f>>, AllocError>
+) -> Result<Option<(Fix<'f>, Safety)>, AllocError>
     ensures { IfOk result (λ r. MatchOption r
-        ((change : Fix) → Mends (rows_of judge.now.runs.items) options.now setting.now (finding_of finding.now) change
-        → ¬ (IsSafe setting.now finding.now.code change))
-        (λ change. Mends (rows_of judge.now.runs.items) options.now setting.now (finding_of finding.now) change
-        × IsSafe setting.now finding.now.code change)) }
+        ((change : Fix)
+        → ¬ (Mends (rows_of judge.now.runs.items) options.now setting.now (finding_of finding.now) change))
+        (λ m. Mends (rows_of judge.now.runs.items) options.now setting.now (finding_of finding.now) m.0
+        × HasSafety setting.now finding.now.code m.0 m.1)) }
 {
     let Some(change) = change_for(alloc, judge, options, setting, finding)? else {
         return Ok(None);
     };
-    if is_safe(alloc, setting, finding.code, &change)? {
-        Ok(Some(change))
-    } else {
-        Ok(None)
-    }
+    let safety = safety_of(alloc, setting, finding.code, &change)?;
+    Ok(Some((change, safety)))
 }

@@ -231,10 +231,7 @@ color.status.unmerged               color
 color.transport                     needs-value bool-or-word-any-case always never auto
 color.transport.rejected            color
 color.ui                            bool-or-word-any-case always never auto
-color.blame.highlightRecent         warn words-any-case normal default black red green yellow blue \
-    magenta cyan white bright* bold dim italic ul blink reverse strike reset no* -1 0* 1* 2* 3* 4* 5* 6* 7* \
-    8* 9* \\#* sec* min* hour* day* week* month* year* ago now yesterday noon midnight tea never last jan* \
-    feb* mar* apr* may jun* jul* aug* sep* oct* nov* dec* sun* mon* tue* wed* thu* fri* sat*
+color.blame.highlightRecent         colors-by-age
 commit.cleanup                      word strip whitespace verbatim scissors default
 commit.gpgSign                      bool
 commit.status                       bool

@@ -1,15 +1,16 @@
 //! A finding as JSON.
-ghost use Rattle.std.specs.Prelude.{◌≡◌, IfOk, Some, option_copied};
+ghost use Rattle.std.specs.Prelude.{◌≡◌, IfOk, Some, option_copied, option_map};
 ghost use Rattle.serde_json.specs.Read.{read};
 ghost use Rattle.serde_json.specs.Data.{string};
 ghost use Rattle.serde_json.specs.View.{view, members_view};
 ghost use Rattle.serde_json.specs.Written.{compact_text};
 ghost use Rattle.config_checks.specs.Findings.{finding_of};
-ghost use Rattle.config_checks.specs.Json.{text_json, text_or_null, bytes_json, bytes_or_null, members_from_line};
+ghost use Rattle.config_checks.specs.Json.{text_json, text_or_null, bytes_json, bytes_or_null, safety_name, members_from_line};
 ghost use Rattle.config_checks.specs.Json.{finding_json, IsOneLine};
 
 use crate::finding::Finding;
 use crate::fingerprint::fingerprint;
+use crate::fix::Safety;
 use base64::engine::general_purpose::STANDARD;
 use serde_json::{Map, Value, put};
 use std::alloc::{AllocError, Global};
@@ -55,6 +56,16 @@ fn bytes_or_null(alloc: Global, text: Option<&[u8]>) -> Result<Value, AllocError
     match text {
         Some(text) => bytes_json(alloc, text),
         None => Ok(Value::Null),
+    }
+}
+
+/// The word for how safe a change is, if there is one.
+fn name_of(fix: Option<Safety>) -> Option<&'static [u8]>
+    ensures { option_copied result ≡ option_map safety_name fix }
+{
+    match fix {
+        Some(safety) => Some(safety.name().as_bytes()),
+        None => None,
     }
 }
 
@@ -104,9 +115,10 @@ fn finding_json(
     alloc: Global,
     column: usize,
     equal: u64,
+    fix: Option<Safety>,
     finding: &Finding<'_>,
 ) -> Result<Value, AllocError>
-    ensures { IfOk result (λ v. view v ≡ finding_json column equal (finding_of finding.now)) }
+    ensures { IfOk result (λ v. view v ≡ finding_json column equal fix (finding_of finding.now)) }
 {
     let mut map = members_from_line(alloc, finding)?;
     put(
@@ -116,6 +128,7 @@ fn finding_json(
         bytes_or_null(alloc, finding.key)?,
     )?;
     put(&mut map, alloc, "key", text_or_null(alloc, finding.key)?)?;
+    put(&mut map, alloc, "fix", text_or_null(alloc, name_of(fix))?)?;
     put(
         &mut map,
         alloc,
@@ -133,19 +146,36 @@ fn finding_json(
     Ok(Value::Object(map))
 }
 
-/// The JSON text of a finding at this column, which has no line feed. `equal` is that of its fingerprint. The
-/// text always reads back to the same JSON object.
+/// The text of a finding as a JSON object.
+fn finding_text(
+    alloc: Global,
+    column: usize,
+    equal: u64,
+    fix: Option<Safety>,
+    finding: &Finding<'_>,
+) -> Result<Vec<u8>, AllocError>
+    ensures text { IfOk result
+        (λ t. t.items ≡ compact_text (finding_json column equal fix (finding_of finding.now))) }
+    ensures reads_back { IfOk result
+        (λ t. read t.items ≡ Some (finding_json column equal fix (finding_of finding.now))) }
+{
+    finding_json(alloc, column, equal, fix, finding)?.to_vec(alloc)
+}
+
+/// The JSON text of a finding at this column, which has no line feed. `equal` is that of its fingerprint, and `fix` says
+/// whether the change that mends it is safe, if one does. The text always reads back to the same JSON object.
 pub fn json_text(
     alloc: Global,
     column: usize,
     equal: u64,
+    fix: Option<Safety>,
     finding: &Finding<'_>,
 ) -> Result<Vec<u8>, AllocError>
     ensures text { IfOk result
-        (λ t. t.items ≡ compact_text (finding_json column equal (finding_of finding.now))) }
+        (λ t. t.items ≡ compact_text (finding_json column equal fix (finding_of finding.now))) }
     ensures reads_back { IfOk result
-        (λ t. read t.items ≡ Some (finding_json column equal (finding_of finding.now))) }
+        (λ t. read t.items ≡ Some (finding_json column equal fix (finding_of finding.now))) }
     ensures one_line { IfOk result (λ t. IsOneLine t.items) }
 {
-    finding_json(alloc, column, equal, finding)?.to_vec(alloc)
+    finding_text(alloc, column, equal, fix, finding)
 }

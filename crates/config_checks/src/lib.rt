@@ -23,3 +23,4 @@ pub mod shape;
 pub mod suggestion;
 pub mod table;
 pub mod version;
+pub mod wrong;

@@ -1,13 +1,17 @@
-//! Texts that Git reads by rules of their own: refspecs, names of branches, and the command lines of aliases.
-ghost use Rattle.std.specs.Prelude.{◌≡◌, ◌↔◌, ◌++◌, IsTrue, All, IfOk, MatchOption, option_copied, codes};
+//! Texts that Git reads by rules of their own: refspecs, names of branches, the command lines of aliases, and colors
+//! by age.
+ghost use Rattle.std.specs.Prelude.{◌≡◌, ◌≢◌, ◌&&◌, ◌↔◌, ◌++◌, IsTrue, All, IfOk, MatchOption, option_copied, codes};
 ghost use Rattle.std.specs.List.{list_any, slice_split, fold};
 ghost use Rattle.config_checks.specs.Shapes.{is_no_ref_byte, is_slash, IsRefPart, stars, IsRef, IsName, IsBranch, IsSource};
 ghost use Rattle.config_checks.specs.Shapes.{HasSides, IsFetched, IsPushed, IsLeftOut, IsRefspec, quote_after};
-ghost use Rattle.config_checks.specs.Shapes.{BeginsWith, EndsWith, HaveSides, is_black, IsCommand, HasShape, shape_fault};
+ghost use Rattle.config_checks.specs.Shapes.{BeginsWith, EndsWith, HaveSides, is_black, IsCommand, is_comma, Follows, AreColorsByAge};
+ghost use Rattle.config_checks.specs.Shapes.{is_path_separator, IsSubmoduleName, HasShape, shape_fault};
 ghost use Rattle.config_checks.specs.declared.shape.Quote.TheVariants.{Outside};
 
 use crate::kind::without_front;
 use bstr::ByteSlice;
+use gix_config_value::Color;
+use gix_config_value::canonical::TryRead;
 use std::alloc::{AllocError, Global};
 
 /// What a text has to be that no type reads.
@@ -30,6 +34,8 @@ pub enum Shape {
     Command,
     /// A text that does not begin with `-`, since Git ignores what may be an option.
     NoOption,
+    /// Colors with a date between each two of them, separated by commas.
+    ColorsByAge,
 }
 
 impl Shape {
@@ -43,6 +49,7 @@ impl Shape {
             Shape::Command =>
                 "not a command: it is empty, or a quote or a backslash is open at its end",
             Shape::NoOption => "begins with -, as an option",
+            Shape::ColorsByAge => "not colors with dates between them",
         }
     }
 }
@@ -308,6 +315,58 @@ fn is_command(text: &[u8]) -> bool
     begins_with(text, b"!") || (has_black(text) && matches!(quote_at_end(text), Quote::Outside))
 }
 
+/// Whether a field may follow a color, or something else: a color is followed by any date, and else a color follows.
+fn may_follow(color: bool, field: &[u8]) -> bool
+    ensures { IsTrue result ↔ Follows color field.now }
+{
+    if color {
+        return true;
+    }
+    match Color::try_read(field) {
+        Ok(_) => true,
+        Err(_) => false,
+    }
+}
+
+/// Whether both are true, of which each is known.
+fn both(one: bool, other: bool) -> bool
+    ensures { result ≡ (one && other) }
+{
+    one && other
+}
+
+/// Whether a text is colors with a date between each two of them.
+fn are_colors_by_age(text: &[u8]) -> bool
+    ensures { IsTrue result ↔ AreColorsByAge text.now }
+{
+    let mut is_right = true;
+    let mut color = false;
+    for field in text.split(|byte| *byte == b',') {
+        is_right = both(is_right, may_follow(color, field));
+        color = !color;
+    }
+    both(is_right, color)
+}
+
+/// Whether no part of a path is `..`.
+fn stays_within(path: &[u8]) -> bool
+    ensures { IsTrue result ↔ All (λ part. part ≢ codes "..") (slice_split is_path_separator path.now) }
+{
+    for part in path.split(|byte| *byte == b'/' || *byte == b'\\') {
+        if part == b"..".as_slice() {
+            return false;
+        }
+    }
+    true
+}
+
+/// Whether Git takes this name of a submodule: it is not empty, and no part of it is `..`.
+pub fn is_submodule_name(name: &[u8]) -> bool
+    ensures { IsTrue result ↔ IsSubmoduleName name.now }
+{
+    !name.is_empty() && stays_within(name)
+}
+
 /// Whether a text has this shape. It fails only if memory is refused.
 pub fn has_shape(alloc: Global, shape: Shape, text: &[u8]) -> Result<bool, AllocError>
     ensures { IfOk result (λ has. IsTrue has ↔ HasShape shape text.now) }
@@ -318,5 +377,6 @@ pub fn has_shape(alloc: Global, shape: Shape, text: &[u8]) -> Result<bool, Alloc
         Shape::Branch => is_branch(alloc, text),
         Shape::Command => Ok(is_command(text)),
         Shape::NoOption => Ok(!begins_with(text, b"-")),
+        Shape::ColorsByAge => Ok(are_colors_by_age(text)),
     }
 }

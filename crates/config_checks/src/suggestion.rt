@@ -5,8 +5,8 @@ ghost use Rattle.std.specs.List.{Any};
 ghost use Rattle.config_text.specs.SameWord.{SameWord};
 ghost use Rattle.config_file.specs.KeyView.{key_of};
 ghost use Rattle.config_checks.specs.Keys.{CoversSubsection, CoversName};
-ghost use Rattle.config_checks.specs.Nearest.{LacksRun, AreFar, IsNearest};
-ghost use Rattle.config_checks.specs.Suggestions.{SubsectionEdits, NameEdits, EditsAfter, OnePartEdits};
+ghost use Rattle.config_checks.specs.Nearest.{LacksRun, HasOtherEnd, AreFar, IsNearest};
+ghost use Rattle.config_checks.specs.Suggestions.{AreAlike, SubsectionEdits, NameEdits, EditsAfter, OnePartEdits};
 ghost use Rattle.config_checks.specs.Suggestions.{RowEdits, Fills, FillsSubsection, FillsKey, IsShared};
 ghost use Rattle.config_checks.specs.Suggestions.{IsOwn, IsTopic, IsMoved, IsMovedRow, HasNone, IsFirstSuch};
 ghost use Rattle.config_checks.specs.Suggestions.{IsNowhere, IsElsewhere, HasSlots, IsForeign, Suggests};
@@ -16,7 +16,7 @@ ghost use Rattle.config_checks.specs.Suggestions.{unknown_severity, unknown_text
 ghost use Rattle.config_checks.specs.Rows.{IsUnknown, rows_of};
 ghost use Rattle.config_checks.specs.Reading.Steps.{IsFew, IsRelation, AreRelations, IsSection};
 
-use crate::edits::{LONG, MOST_EDITS, few_edits, lacks_run};
+use crate::edits::{LONG, MOST_EDITS, few_edits, has_other_end, lacks_run};
 use crate::finding::push_shown;
 use crate::key::{ANY, covers_name, covers_subsection, is_same_word};
 use crate::reason::Severity;
@@ -56,19 +56,26 @@ fn subsection_edits(
     }
 }
 
-/// Three edits if one name is long and only lacks a run of bytes of the other, and otherwise `None`.
-fn edits_of_run(row: &[u8], name: &[u8]) -> Option<usize>
-    ensures { MatchOption result (¬ (LacksRun row.now name.now ⊎ LacksRun name.now row.now))
-        (λ n. (LacksRun row.now name.now ⊎ LacksRun name.now row.now) × (n ≡ 3)) }
+/// Whether one name is long and only lacks a run of bytes of the other, or both differ only in how they end.
+fn are_alike(row: &[u8], name: &[u8]) -> bool
+    ensures { IsTrue result ↔ (LacksRun row.now name.now ⊎ (LacksRun name.now row.now ⊎ HasOtherEnd row.now name.now)) }
 {
-    if lacks_run(row, name) || lacks_run(name, row) {
+    lacks_run(row, name) || lacks_run(name, row) || has_other_end(row, name)
+}
+
+/// Three edits if one name is long and only lacks a run of bytes of the other, or both differ only in how they end,
+/// and otherwise `None`.
+fn edits_of_run(row: &[u8], name: &[u8]) -> Option<usize>
+    ensures { MatchOption result (¬ (AreAlike row.now name.now)) (λ n. AreAlike row.now name.now × (n ≡ 3)) }
+{
+    if are_alike(row, name) {
         return Some(MOST_EDITS);
     }
     None
 }
 
 /// How many edits lead from one name to the other, if they are near. If they are not, a missing run of
-/// bytes counts as three edits in a key without a subsection. `None` in all other cases.
+/// bytes, or another end, counts as three edits in a key without a subsection. `None` in all other cases.
 fn name_edits(alloc: Global, row: &Key<'_>, key: &Key<'_>) -> Result<Option<usize>, AllocError>
     ensures { IfOk result (λ r. IsFew (NameEdits (key_of row.now) (key_of key.now)) r) }
 {
@@ -425,7 +432,7 @@ pub struct UnknownKey<'k> {
 /// or a row has its name in another section, or only rows have settings where it is: in its section if it has
 /// no subsection, and in its subsection of `color`. Two keys are near if they differ in exactly one part: by one
 /// edit, by two if the part is long in both or, in the name of a key without a subsection, by a missing
-/// run of bytes. Returns an error if there is no memory. `section` is that of the key.
+/// run of bytes or another end. Returns an error if there is no memory. `section` is that of the key.
 pub(crate) fn unknown_in<'k>(
     alloc: Global,
     runs: &[Run<'_, 'k>],

@@ -233,6 +233,8 @@ fn plain_kind(name: &[u8]) -> Option<SettingKind<'static>>
         Some(SettingKind::Shaped(Shape::Command))
     } else if name == b"no-option".as_slice() {
         Some(SettingKind::Shaped(Shape::NoOption))
+    } else if name == b"colors-by-age".as_slice() {
+        Some(SettingKind::Shaped(Shape::ColorsByAge))
     } else {
         None
     }

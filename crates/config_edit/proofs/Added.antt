@@ -27,8 +27,8 @@ use Rattle.config_file.specs.Listing.{IsListedSection}
 use Rattle.config_file.specs.Spelling.{SpellsOptional, SpellsSection, spelled_section, git_spelled}
 use Rattle.config_file.specs.Key.{Key, is_name, stem, dotted}
 use Rattle.config_edit.specs.Edit as spec
-use Rattle.config_edit.specs.Edit.{Content, IsIn, WithoutIn, NoneIn, SameEntry, IsLineEnd, AddsContent}
-use Rattle.config_edit.specs.Edit.{HasValue, IsEntry, CanFollow, IsPlace, EndsParts, IsFeedAt, IsOpen}
+use Rattle.config_edit.specs.Edit.{Content, IsIn, WithoutIn, NoneIn, SameEntry, AddsContent}
+use Rattle.config_edit.specs.Edit.{HasValue, CanFollow, IsPlace, EndsParts, IsFeedAt, IsOpen}
 use Rattle.config_edit.specs.Cut as cut
 use Rattle.config_edit.specs.Cut.{absent, Part, Cuts, part_bytes, parts_bytes, ends_line, ends_in_header, section_from}
 use Rattle.config_edit.specs.Reading.{Holds, Ends, Passed, anywhere, at_end, IsRead, IsMade, IsPiece}
@@ -36,6 +36,8 @@ use Rattle.config_edit.specs.Reading.{IsHeaderAt, contents_in, section_after, Is
 use Rattle.config_edit.specs.Reading as edit
 use Rattle.config_edit.specs.Reading.{line_ends, is_item, holds_header, IsPlaceIn, IsPlaceSoFar, Placing, ArePlaces}
 use Rattle.config_edit.specs.Reading.{EndsNoLine, IsAdded, IsOpenEntry, IsOpenHeld, new_line}
+use Rattle.config_edit.specs.Reading.{IsEntry, IsLineEnd}
+use Rattle.config_edit.proofs.OnePart.{feed_is_end}
 use Rattle.config_file.specs.declared.entry.EntryParts.{EntryParts}
 use Rattle.config_file.specs.Views.{value_of}
 use Rattle.config_file.specs.File.{TakesEntry}
@@ -114,8 +116,7 @@ item_held : (h : Held) (blanks bytes rest : List ℕ) (is_line : Bool) (part : P
     → IsPartOf h blanks bytes rest is_line part → spec.is_item part ≡ is_item h
 item_held (held.Header section) blanks bytes rest is_line part (inner, is) = rw is refl
 item_held (held.Entry parts) blanks bytes rest is_line part (between, tail, is, left) = rw is refl
-item_held held.Nothing blanks bytes rest is_line part is = rw is refl
-item_held held.Comment blanks bytes rest is_line part is = rw is refl
+item_held h blanks bytes rest is_line part is = rw is refl
 
 -- a part behind which no new entry can stand
 cannot_follow : {section : Option Section} (key : Key) (before : List Part) (h : Held) (blanks bytes rest : List ℕ) (is_line : Bool)
@@ -187,8 +188,7 @@ ends_held (held.Entry parts) blanks bytes rest is_line part made not_ended (betw
   λ (raw, held, other). rw is (subst (λ v. IsOpen (cut.entry blanks parts.key.now between v tail is_line)) (sym held)
       (open_there parts raw held (rw held at made.takes) other)),
 )
-ends_held held.Nothing blanks bytes rest is_line part made not_ended is = (rw is refl, λ o. rw is at o, λ o. absurd o)
-ends_held held.Comment blanks bytes rest is_line part made not_ended is = (rw is refl, λ o. rw is at o, λ o. absurd o)
+ends_held h blanks bytes rest is_line part made not_ended is = (rw is refl, λ o. rw is at o, λ o. absurd o)
 
 part_ends : {text : List ℕ} {f : End} (feed : List ℕ) (before : List Part) (part : Part) (piece : Piece) → IsPiece text piece
     → IsEndOf piece f → (holds_header piece.held ≡ true → piece.is_line ≡ false)
@@ -403,15 +403,16 @@ feed_of is fronts texts = rw (fronts, texts) at is
 -- an entry behind a text that is closed, or behind a header that is put there
 added : {key : Key} {value text new : List ℕ} {contents : List Content} {there : Option Section} {s : Section}
     (parts later : List Part) (front back feed header headed : List ℕ) (before after : List Content) (e : End)
-    → is_name key.name ≡ true → is_spellable value ≡ true → IsLineEnd feed → Closes None front before there e
+    → is_name key.name ≡ true → is_spellable value ≡ true → Closes None front before there e
     → Holds there headed [] (Some s) → Ends (Some s) back after → IsIn key (Some s) → NoneIn key after
     → contents ≡ before ++ after → text ≡ front ++ back
     → new ≡ front ++ (line_ends e feed ++ (headed ++ (new_line key.name value feed ++ back)))
     → Cuts text (parts ++ later) → front ≡ parts_bytes parts → IsFeedAt front text feed → EndsParts feed parts (line_ends e feed)
     → IsPlace key header feed parts later headed
     → IsAdded key value text contents new
-added {key = key} {value = value} {text = text} {s = s} parts later front back feed header headed before after e is_a_name spellable is_feed closes head
+added {key = key} {value = value} {text = text} {s = s} parts later front back feed header headed before after e is_a_name spellable closes head
     left in_section last old_is joined new_is cuts front_is feed_at ends_parts place =
+    let is_feed = feed_is_end feed_at in
     let ends = line_ends e feed in
     let line = new_line key.name value feed in
     let (kept, holds, same) = closes feed is_feed in
@@ -459,10 +460,10 @@ added {key = key} {value = value} {text = text} {s = s} parts later front back f
 pub added_inside : {key : Key} (value text new feed front : List ℕ) {contents : List Content}
     {section : Option Section} {place : Insertion}
     → is_name key.name ≡ true → is_spellable value ≡ true
-    → IsPlaceIn key text [] contents section place → IsLineEnd feed → IsFeedAt front text feed → text ≡ front ++ place.rest.now
+    → IsPlaceIn key text [] contents section place → IsFeedAt front text feed → text ≡ front ++ place.rest.now
     → new ≡ front ++ (line_ends place.end feed ++ (new_line key.name value feed ++ place.rest.now))
     → IsAdded key value text contents new
-added_inside {key = key} value text new feed front {place = place} is_a_name spellable r is_feed feed_at joined new_is =
+added_inside {key = key} value text new feed front {place = place} is_a_name spellable r feed_at joined new_is =
     let rest = place.rest.now in
     let front_is : front ≡ r.front = append_cancel_right front r.front rest (sym joined ∙ r.joined) in
     let (s, there_is, in_there) = in_some key r.there r.in_section in
@@ -471,7 +472,7 @@ added_inside {key = key} value text new feed front {place = place} is_a_name spe
     let later_there : Ends (Some s) rest r.after = subst (λ t. Ends t rest r.after) there_is later in
     let head : Holds r.there [] [] (Some s) = subst (λ t. Holds r.there [] [] t) there_is (holds_nothing r.there) in
     let cuts = rw append-nil at (r.cuts.cuts [] cut.ends) in
-    added r.parts r.later r.front rest feed [] [] r.before r.after place.end is_a_name spellable is_feed r.closes head later_there in_there
+    added r.parts r.later r.front rest feed [] [] r.before r.after place.end is_a_name spellable r.closes head later_there in_there
     r.last r.contents_are r.joined (rw front_is at new_is) cuts r.front_is (rw front_is at feed_at) (r.are_ends feed)
     (spec.inside r.can_follow r.is_last)
 
@@ -500,18 +501,18 @@ pub added_behind : (key : Key) (value text new feed : List ℕ) (contents : List
     → is_name key.name ≡ true → is_spellable value ≡ true
     → is_section key.section key.subsection ≡ true → (places : NoPlaces key text contents e)
     → Closes None text contents section e
-    → IsLineEnd feed → IsFeedAt text text feed
+    → IsFeedAt text text feed
     → new ≡ text ++ (line_ends e feed ++ ((91 ∷ spelled_section key.section key.subsection) ++ (feed ++ new_line key.name value feed)))
     → IsAdded key value text contents new
-added_behind key value text new feed contents section e is_a_name spellable is_a_section places closes is_feed feed_at new_is =
+added_behind key value text new feed contents section e is_a_name spellable is_a_section places closes feed_at new_is =
     let line = new_line key.name value feed in
     let header = 91 ∷ spelled_section key.section key.subsection in
     let holds_header = header_spelled key.section key.subsection is_a_section in
     let (inner, s, header_is, names, header_at) = holds_header in
     let at : IsHeaderAt s [] header = record { inner = inner; joined = header_is; header = header_at } in
     let head : Holds section (header ++ feed) [] (Some s) =
-    holds_join header feed (header_holds refl at section) (end_holds (Some s) feed (inr is_feed)) in
-    added places.parts [] text [] feed header (header ++ feed) contents [] e is_a_name spellable is_feed closes head
+    holds_join header feed (header_holds refl at section) (end_holds (Some s) feed (inr (feed_is_end feed_at))) in
+    added places.parts [] text [] feed header (header ++ feed) contents [] e is_a_name spellable closes head
     (passed_ends refl (anywhere (holds_nothing (Some s)))) (names_in key s names) spec.none (sym (append-nil contents))
     (sym (append-nil text)) (rw (append-nil line, append_assoc header feed line) new_is)
     (rw (append-nil places.parts) places.cuts) (cut_bytes places.cuts) feed_at (places.are_ends feed)
@@ -546,5 +547,4 @@ header_after h is other e = e
 pub ends_no_line : {is_line : Bool} (h : Held) → EndsNoLine h is_line → holds_header h ≡ true → is_line ≡ false
 ends_no_line (held.Header new) is on = is
 ends_no_line (held.Entry parts) is on = absurd (true≢false (sym on))
-ends_no_line held.Nothing is on = absurd (true≢false (sym on))
-ends_no_line held.Comment is on = absurd (true≢false (sym on))
+ends_no_line h is on = absurd (true≢false (sym on))

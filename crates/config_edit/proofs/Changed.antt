@@ -17,11 +17,11 @@ use Rattle.config_file.specs.Value.{Ending, outside, inside, at_backslash, Spell
 use Rattle.config_file.specs.Value.{TakesValue, closed, open_end, EndsValue, line_feeds}
 use Rattle.config_file.specs.File.{TakesKey, TakesEntry, alone, valued}
 use Rattle.config_edit.specs.Edit as spec
-use Rattle.config_edit.specs.Edit.{HasValue, SpaceIf, PartsBlanks, BeginsWithSign, PutsValue, ChangesValueTo, IsLineEnd}
+use Rattle.config_edit.specs.Edit.{HasValue, SpaceIf, PartsBlanks, BeginsWithSign, PutsValue, ChangesValueTo}
 use Rattle.config_edit.specs.Cut.{value_bytes, AreBlank, IsTail}
-use Rattle.config_edit.specs.Edit.{IsEntry}
 use Rattle.config_edit.specs.Cut.{IsComment, absent, present}
 use Rattle.config_edit.specs.Reading.{HasHow, IsPutIn, IsShaped, IsValued, entry_part, space_if}
+use Rattle.config_edit.specs.Reading.{IsEntry, IsLineEnd}
 use Rattle.config_file.specs.Reading.Spellings.{is_spellable}
 use Rattle.config_file.specs.Spelling.{git_spelled}
 use Rattle.config_file.specs.Views.{value_of}

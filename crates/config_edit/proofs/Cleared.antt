@@ -17,32 +17,34 @@ use Rattle.config_file.specs.Key.{Key}
 use Rattle.config_file.specs.Views.{section_of}
 use Rattle.config_edit.proofs.Pieces.{comment_behind}
 use Rattle.config_edit.specs.Edit as edit
-use Rattle.config_edit.specs.Edit.{Content, IsIn, WithoutIn, IsEndOfLine, IsLineEnd}
+use Rattle.config_edit.specs.Edit.{Content, IsIn, WithoutIn, IsEndOfLine}
 use Rattle.config_edit.specs.Cut as cut
 use Rattle.config_edit.specs.Cut.{Part, IsPart, Cuts, IsTail, IsComment, absent, present, HasComment}
 use Rattle.config_edit.specs.Cut.{AreBlank, part_bytes, parts_bytes, ends_line, section_behind, is_header, HaveNoHeader}
 use Rattle.config_edit.proofs.Changed.{both_blank}
 use Rattle.config_edit.specs.Sections as spec
-use Rattle.config_edit.specs.Sections.{AllAre, NoneIs, IsHeaderIn, IsCommentLine, BeginsWithHeader, Clears}
+use Rattle.std.specs.List.{AllByRecursion}
+use Rattle.config_file.proofs.ListsA.{all_appended}
+use Rattle.config_edit.specs.Sections.{NoneIs, IsHeaderIn, IsCommentLine, BeginsWithHeader, Clears}
 use Rattle.config_edit.specs.Sections.{EndsInComments, EndsInNoComment, LastEnd, Stays, end_of, goes_on_behind}
 use Rattle.config_edit.specs.Reading.{Ends, IsRead, IsPiece, IsMade, IsHeaderHeld, IsFoundIn, Clearing, IsKept}
 use Rattle.config_edit.specs.Reading.{IsLost, IsAtLine, EndsNoLine, ClearsPiece, holds_header}
+use Rattle.config_edit.specs.Reading.{IsLineEnd}
 use Rattle.std.proofs.lemmas.Bool.{and_parts}
 use Rattle.config_edit.proofs.CutLoops.{has_header, is_header_held, no_header_more}
 use Rattle.config_edit.proofs.CutLoops as loops
 use Rattle.config_edit.proofs.Edits.{without_in_both, some_left}
-use Rattle.config_edit.proofs.OnePart.{line_end_once}
+use Rattle.config_edit.proofs.OnePart.{line_end_of, line_end_once}
 use Rattle.config_edit.proofs.Cuts.{part_of, one_cut, IsPartOf, no_part, same_last}
 use Rattle.config_edit.proofs.PartsRead.{part_contents, contents_of, part_moved, behind_begins, behind_more, behind_all}
-use Rattle.config_edit.proofs.PartsRead.{some_bytes, header_held, header_in, found_before, all_both, all_front}
+use Rattle.config_edit.proofs.PartsRead.{some_bytes, header_held, header_in, found_before, all_front}
 
 -- what the parts of pieces are
 line_of : (h : Held) (blanks bytes rest : List ℕ) (is_line : Bool) (part : Part) → EndsNoLine h is_line
     → IsPartOf h blanks bytes rest is_line part → ends_line part ≡ is_line
 line_of (held.Header section) blanks bytes rest is_line part ends (inner, is) = rw (is, ends) refl
 line_of (held.Entry parts) blanks bytes rest is_line part ends (between, tail, is, left) = rw is refl
-line_of held.Nothing blanks bytes rest is_line part ends is = rw is refl
-line_of held.Comment blanks bytes rest is_line part ends is = rw is refl
+line_of h blanks bytes rest is_line part ends is = rw is refl
 
 no_header_part : (h : Held) (blanks bytes rest : List ℕ) (is_line : Bool) (part : Part)
     → ((header : code.Section) → h ≡ held.Header header → ⊥)
@@ -55,60 +57,17 @@ header_is key (cut.header blanks section inner) is = refl
 header_is key (cut.entry blanks name between value tail is_line) is = absurd is
 header_is key (cut.line tail is_line) is = absurd is
 
-comment_in : (comment blanks more : List ℕ) → AreBlank blanks → IsComment comment → comment ≢ []
-    → HasComment (blanks ++ (comment ++ more))
-comment_in [] blanks more all is some = absurd (some refl)
-comment_in (sign ∷ bytes) blanks more all (present is pass) some = (blanks, bytes ++ more, sign, refl, all, is)
-
-comment_at : (blanks : List ℕ) {tail rest : List ℕ} {is_line : Bool} (t : IsTail tail rest is_line) → AreBlank blanks
-    → t.comment ≢ [] → HasComment (blanks ++ tail)
-comment_at blanks {tail = tail} t all some =
-    let (more, tail_is) : (more : List ℕ) × (tail ≡ t.blanks ++ (t.comment ++ more)) = elim t.ends [
-      | inl l ↦ (10 ∷ [], l.1)
-      | inr e ↦ ([], rw append-nil e.2)
-    ] in
-    let whole = ap (λ x. blanks ++ x) tail_is ∙ sym (append_assoc blanks t.blanks (t.comment ++ more)) in
-    rw whole (comment_in t.comment (blanks ++ t.blanks) more (both_blank blanks t.blanks all t.are_blank) t.is_comment some)
-
-no_sign : (b : ℕ) → (b ≡ 10) → is_comment_sign b ≡ true → ⊥
-no_sign b is sign = grind (arith, nat_tests)
-
-not_signed : (end : List ℕ) (sign : ℕ) (more : List ℕ) → (end ≡ []) ⊎ (end ≡ 10 ∷ []) → end ≡ sign ∷ more
-    → is_comment_sign sign ≡ true → ⊥
-not_signed end sign more (inl none) e is = let never : [] ≡ sign ∷ more = sym none ∙ e in cc
-not_signed end sign more (inr feed) e is = let same : 10 ∷ [] ≡ sign ∷ more = sym feed ∙ e in no_sign sign (cc) is
-
-ends_blanks : {end : List ℕ} → (end ≡ []) ⊎ (end ≡ 10 ∷ []) → StopsRun is_blank end
-ends_blanks (inl none) = rw none tt
-ends_blanks (inr feed) = rw feed refl
-
-blank_bytes : (blanks end : List ℕ) → AreBlank blanks → (end ≡ []) ⊎ (end ≡ 10 ∷ []) → ¬ (HasComment (blanks ++ end))
-blank_bytes blanks end all is has =
-    let (sign, more, e, is_sign) = comment_behind {at = end} (record { joined = refl; pass = all; longest = ends_blanks is }) has in
-    not_signed end sign more is e is_sign
-
-no_comment_at : (blanks : List ℕ) {tail rest : List ℕ} {is_line : Bool} (t : IsTail tail rest is_line) → AreBlank blanks
-    → t.comment ≡ [] → ¬ (HasComment (blanks ++ tail))
-no_comment_at blanks {tail = tail} t all none =
-    let (end, tail_is, is_end) : (end : List ℕ) × (tail ≡ t.blanks ++ end) × ((end ≡ []) ⊎ (end ≡ 10 ∷ [])) = elim t.ends [
-      | inl l ↦ (10 ∷ [], rw none at l.1, inr refl)
-      | inr e ↦ ([], rw none at e.2, inl refl)
-    ] in
-    let whole = ap (λ x. blanks ++ x) tail_is ∙ sym (append_assoc blanks t.blanks end) in
-    rw whole (blank_bytes (blanks ++ t.blanks) end (both_blank blanks t.blanks all t.are_blank) is_end)
-
-comment_part : (h : Held) (blanks bytes rest : List ℕ) (is_line : Bool) (part : Part) → h ≡ held.Comment → AreBlank blanks
+comment_part : (h : Held) (blanks bytes rest : List ℕ) (is_line : Bool) (part : Part) → h ≡ held.Comment
     → IsMade h blanks bytes rest is_line → IsPartOf h blanks bytes rest is_line part → IsCommentLine part
-comment_part held.Comment blanks bytes rest is_line part e all (tail, joined, t, some) is = rw (is, joined) (comment_at blanks t all some)
-comment_part h blanks bytes rest is_line part e all made is = cc
+comment_part held.Comment blanks bytes rest is_line part e (t, has) is = rw is has
+comment_part h blanks bytes rest is_line part e made is = cc
 
-no_comment_part : (h : Held) (blanks bytes rest : List ℕ) (is_line : Bool) (part : Part) → (h ≡ held.Comment → ⊥) → AreBlank blanks
+no_comment_part : (h : Held) (blanks bytes rest : List ℕ) (is_line : Bool) (part : Part) → (h ≡ held.Comment → ⊥)
     → IsMade h blanks bytes rest is_line → IsPartOf h blanks bytes rest is_line part → ¬ (IsCommentLine part)
-no_comment_part (held.Header section) blanks bytes rest is_line part other all made (inner, is) = rw is (λ h. h)
-no_comment_part (held.Entry parts) blanks bytes rest is_line part other all made (between, tail, is, left) = rw is (λ h. h)
-no_comment_part held.Nothing blanks bytes rest is_line part other all (tail, joined, t, none) is =
-    rw (is, joined) (no_comment_at blanks t all none)
-no_comment_part held.Comment blanks bytes rest is_line part other all made is = absurd (other refl)
+no_comment_part (held.Header section) blanks bytes rest is_line part other made (inner, is) = rw is (λ h. h)
+no_comment_part (held.Entry parts) blanks bytes rest is_line part other made (between, tail, is, left) = rw is (λ h. h)
+no_comment_part held.Nothing blanks bytes rest is_line part other (t, none) is = rw is none
+no_comment_part held.Comment blanks bytes rest is_line part other made is = absurd (other refl)
 
 -- behind a part that is no header a line begins, or the text ends
 line_or_end : (part : Part) (rest : List ℕ) → IsPart part rest → is_header part ≡ false
@@ -221,7 +180,7 @@ comment_more : {body comments : List Part} (starts_line : Bool) (rest : List ℕ
 comment_more starts_line rest part spec.header_alone at starts is = absurd (true≢false (sym starts ∙ at))
 comment_more starts_line rest part (spec.lines {comments = comments} own lines none all) at starts is =
     rw (append_assoc lines comments (part ∷ []))
-    (spec.lines own lines none (all_both IsCommentLine comments (part ∷ []) all (is, tt)))
+    (spec.lines own lines none (all_appended IsCommentLine comments (part ∷ []) all (is, tt)))
 
 other_more : {body comments : List Part} (starts_line : Bool) (rest : List ℕ) (part : Part) → EndsInComments body comments
     → IsAtLine body starts_line rest → rest ≢ [] → ¬ ((starts_line ≡ true) × IsCommentLine part)
@@ -261,13 +220,13 @@ piece_lost {rest = rest} {starts_line = starts_line} piece before after r is sho
         same ∙ r.cut ∙ ap (λ x. parts_bytes r.comments ++ x) (is.joined ∙ ap (λ b. b ++ piece.rest.now) (sym bytes_are))
             ∙ bytes_more r.comments part piece.rest.now,
         comment_more starts_line rest part r.ends r.at_line starts
-            (comment_part h blanks piece.bytes.now piece.rest.now piece.is_line part comment is.blank is.made held_is),
+            (comment_part h blanks piece.bytes.now piece.rest.now piece.is_line part comment is.made held_is),
       )
       | inr (same, other) ↦ (
         [],
         same,
         other_more starts_line rest part r.ends r.at_line (some_left rest piece.rest.now shorter)
-            (λ both. no_comment_part h blanks piece.bytes.now piece.rest.now piece.is_line part (λ e. other (both.0, e)) is.blank is.made held_is both.1),
+            (λ both. no_comment_part h blanks piece.bytes.now piece.rest.now piece.is_line part (λ e. other (both.0, e)) is.made held_is both.1),
       )
     ] in
     record {
@@ -388,7 +347,7 @@ some_header (part ∷ a) b begins e = cc
 
 -- comment lines before other parts
 comments_stay : (key : Key) {text new : List ℕ} {later : List Part} (comments next : List Part) → Cuts text (comments ++ next)
-    → AllAre IsCommentLine comments → BeginsWithHeader next → Cuts new later → NoneIs (IsHeaderIn key) later
+    → AllByRecursion IsCommentLine comments → BeginsWithHeader next → Cuts new later → NoneIs (IsHeaderIn key) later
     → Cuts (parts_bytes comments ++ new) (comments ++ later) × NoneIs (IsHeaderIn key) (comments ++ later)
     × ((section : Option Section) → contents_of section (comments ++ later) ≡ contents_of section later)
 comments_stay key [] next cuts all begins more none = (more, none, λ section. refl)
@@ -400,11 +359,6 @@ comments_stay key {new = new} (cut.line tail is_line ∷ comments) next (cut.beg
     let moved = part_moved (cut.line tail is_line) rest bytes is_part
     (λ end. absurd (some_header comments next begins (one_cut [] _ [] (rw end at cuts) cut.ends))) in
     (rw append_assoc (cut.begins (cut.line tail is_line) moved now), (λ h. h, none_now), same)
-
-line_end_of : {bytes end : List ℕ} {is_line : Bool} → IsEndOfLine bytes is_line end → is_line ≡ true → IsLineEnd end
-line_end_of edit.unended is = absurd (true≢false (sym is))
-line_end_of (edit.feed none) is = inl refl
-line_end_of (edit.return_feed front) is = inr refl
 
 last_is_end : {parts : List Part} {end : List ℕ} → LastEnd parts end → (end ≡ []) ⊎ IsLineEnd end
 last_is_end spec.none = inl refl
@@ -499,13 +453,13 @@ bodies_same (x ∷ a) (y ∷ b) c d none also first second e =
     (rw (heads, bodies) refl, nexts)
 
 -- comment lines end other lines in one way
-all_end : (first : Part) (a b : List Part) → EndsInNoComment (first ∷ a) → AllAre IsCommentLine b → (c : List Part)
-    → AllAre IsCommentLine ((first ∷ a) ++ c) → ⊥
+all_end : (first : Part) (a b : List Part) → EndsInNoComment (first ∷ a) → AllByRecursion IsCommentLine b → (c : List Part)
+    → AllByRecursion IsCommentLine ((first ∷ a) ++ c) → ⊥
 all_end first [] b none also c (is, all) = none [] first refl is
 all_end first (second ∷ a) b none also c (is, all) =
     all_end second a b (λ front last e. none (first ∷ front) last (ap (λ l. first ∷ l) e)) also c all
 
-comments_same : (a b c d : List Part) → EndsInNoComment a → EndsInNoComment b → AllAre IsCommentLine c → AllAre IsCommentLine d
+comments_same : (a b c d : List Part) → EndsInNoComment a → EndsInNoComment b → AllByRecursion IsCommentLine c → AllByRecursion IsCommentLine d
     → a ++ c ≡ b ++ d → c ≡ d
 comments_same [] [] c d none also all all_too e = e
 comments_same [] (y ∷ b) c d none also all all_too e = absurd (all_end y b d also all_too d (rw e at all))

@@ -14,17 +14,17 @@ use Rattle.config_file.specs.Runs.{StopsRun}
 use Rattle.config_file.specs.Header.{Section}
 use Rattle.config_file.specs.Value.{Ending, outside, at_backslash, Spells, SpellsValue, EndsValue, line_feeds}
 use Rattle.config_file.specs.File.{TakesEntry, alone}
-use Rattle.config_edit.specs.Edit.{Content, SameEntry, IsLineEnd}
+use Rattle.config_edit.specs.Edit.{Content, SameEntry}
 use Rattle.config_edit.specs.Cut.{AreBlank, IsComment, absent, present}
-use Rattle.config_edit.specs.Edit.{IsEntry}
 use Rattle.config_edit.specs.Cut.{IsTail}
 use Rattle.config_edit.specs.Reading as edit
 use Rattle.config_edit.specs.Reading.{Holds, IsMade, IsPiece, contents_in, section_after, IsOpenHeld, IsEndOf}
 use Rattle.config_edit.specs.Reading.{line_ends, Closes}
+use Rattle.config_edit.specs.Reading.{IsEntry, IsLineEnd}
 use Rattle.std.proofs.lemmas.List.{append_cancel_right}
 use Rattle.config_file.specs.Views.{section_of, value_of}
 use Rattle.config_file.proofs.EachReading.{not_empty}
-use Rattle.config_edit.proofs.Pieces.{blanks_lead, tail_leads, header_holds, entry_holds, key_joined}
+use Rattle.config_edit.proofs.Pieces.{blanks_lead, header_holds, entry_holds, key_joined, line_holds}
 use Rattle.config_edit.proofs.Edits.{holds_join}
 use Rattle.config_edit.proofs.Replaced.{end_holds}
 use Rattle.config_edit.proofs.Changed.{can_hold, spells_before, spells_more, letter_in_front, both_blank}
@@ -247,19 +247,9 @@ both_same [] (y ∷ b) c d first second = absurd first
 both_same (x ∷ a) [] c d first second = absurd first
 both_same (x ∷ a) (y ∷ b) c d first second = (first.0, both_same a b c d first.1 second)
 
-line_at_holds : {bytes tail rest : List ℕ} (blanks : List ℕ) → AreBlank blanks → bytes ≡ blanks ++ tail
-    → IsTail tail rest true → (section : Option Section) → Holds section bytes [] section
-line_at_holds blanks all joined t section = λ line other.
-    let leads = blanks_lead blanks all (tail_leads refl t section line other) in
-    (line + 1, [], rw (joined, append_assoc) leads, refl)
-
-line_closes : {bytes tail rest : List ℕ} (blanks : List ℕ) → AreBlank blanks → bytes ≡ blanks ++ tail
-    → IsTail tail rest false → (section : Option Section) (line_end : List ℕ) → IsLineEnd line_end
-    → Closing section (bytes ++ line_end) [] section
-line_closes {bytes = bytes} {tail = tail} blanks all joined t section line_end is =
-    let whole : bytes ++ line_end ≡ blanks ++ (tail ++ line_end) =
-    rw joined (append_assoc blanks tail line_end) in
-    ([], line_at_holds blanks all whole (closed_tail line_end is t) section, tt)
+line_closes : {tail rest : List ℕ} → IsTail tail rest false → (section : Option Section) (line_end : List ℕ) → IsLineEnd line_end
+    → Closing section (tail ++ line_end) [] section
+line_closes t section line_end is = ([], line_holds (closed_tail line_end is t) section, tt)
 
 closes : (h : Held) (bytes rest blanks : List ℕ) → AreBlank blanks → IsMade h blanks bytes rest false
     → (section : Option Section)
@@ -276,20 +266,15 @@ closes (held.Header new) bytes rest blanks all made section line_end is =
     let ended = end_holds (Some (section_of new)) line_end (inr is) in
     let holds = holds_join bytes line_end (header_holds all made section) ended in
     (λ other. ([], holds, tt), λ opened. absurd opened)
-closes held.Nothing bytes rest blanks all (tail, joined, t, none) section line_end is =
-    (λ other. line_closes blanks all joined t section line_end is, λ opened. absurd opened)
-closes held.Comment bytes rest blanks all (tail, joined, t, some) section line_end is =
-    (λ other. line_closes blanks all joined t section line_end is, λ opened. absurd opened)
+closes h bytes rest blanks all made section line_end is =
+    (λ other. line_closes made.0 section line_end is, λ opened. absurd opened)
 
 -- a piece that ends its line holds the same wherever it stands
-line_holds : (h : Held) (bytes rest blanks : List ℕ) → AreBlank blanks → IsMade h blanks bytes rest true
+piece_holds : (h : Held) (bytes rest blanks : List ℕ) → AreBlank blanks → IsMade h blanks bytes rest true
     → (section : Option Section) → Holds section bytes (contents_in h section) (section_after h section)
-line_holds (held.Entry parts) bytes rest blanks all made section = entry_holds blanks all made section
-line_holds (held.Header new) bytes rest blanks all made section = header_holds all made section
-line_holds held.Nothing bytes rest blanks all (tail, joined, t, none) section =
-    line_at_holds blanks all joined t section
-line_holds held.Comment bytes rest blanks all (tail, joined, t, some) section =
-    line_at_holds blanks all joined t section
+piece_holds (held.Entry parts) bytes rest blanks all made section = entry_holds blanks all made section
+piece_holds (held.Header new) bytes rest blanks all made section = header_holds all made section
+piece_holds h bytes rest blanks all made section = line_holds made.0 section
 
 pub piece_closes : {text : List ℕ} {e : End} (piece : Piece) → IsPiece text piece → IsEndOf piece e
     → (section : Option Section)
@@ -297,7 +282,7 @@ pub piece_closes : {text : List ℕ} {e : End} (piece : Piece) → IsPiece text 
 piece_closes piece is (edit.line ends_line) section = λ line_end line_is.
     let contents = contents_in piece.held section in
     let made = rw ends_line at is.made in
-    let holds = line_holds piece.held piece.bytes.now piece.rest.now piece.blanks.now is.blank made section in
+    let holds = piece_holds piece.held piece.bytes.now piece.rest.now piece.blanks.now is.blank made section in
     (contents, rw append-nil holds, same_entries contents)
 piece_closes piece is (edit.unended goes_on other) section = λ line_end line_is.
     (closes piece.held piece.bytes.now piece.rest.now piece.blanks.now is.blank

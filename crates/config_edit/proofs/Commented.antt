@@ -17,12 +17,13 @@ use Rattle.config_file.specs.Value as value
 use Rattle.config_file.specs.Value.{Ending, outside, at_backslash, Spells, SpellsValue, EndsValue, line_feeds, escape}
 use Rattle.config_file.specs.File.{TakesEntry}
 use Rattle.config_edit.specs.Edit as spec
-use Rattle.config_edit.specs.Edit.{IsEntry, HasValue, PutsValue, ChangesValueTo, ChangesEntry}
+use Rattle.config_edit.specs.Edit.{HasValue, PutsValue, ChangesValueTo, ChangesEntry}
 use Rattle.config_edit.specs.Cut.{AreBlank, IsTail}
 use Rattle.config_edit.specs.Edit.{WritesComment, IsEndOfLine, FeedsComment, PutsComment, name_after}
 use Rattle.config_edit.specs.Cut.{value_bytes}
 use Rattle.config_edit.specs.Cut.{present}
 use Rattle.config_edit.specs.Reading.{HasHow, IsOpenEntry, entry_part, IsNamed, IsCommented, IsChangedIn, IsWritableName, IsWritableComment}
+use Rattle.config_edit.specs.Reading.{IsEntry}
 use Rattle.config_file.specs.Views.{value_of}
 use Rattle.config_edit.proofs.Pieces.{first_blank, other_blanks, tail_ends}
 use Rattle.config_edit.proofs.Changed.{space_blank, front_cut, gap_spaces, parts_blank, both_blank, gap_blank, spells_between, spells_before, can_hold, with_value}

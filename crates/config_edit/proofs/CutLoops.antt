@@ -54,30 +54,26 @@ pub is_header_held : (h : Held) (blanks bytes rest : List ℕ) (is_line : Bool) 
     → IsPartOf h blanks bytes rest is_line part → is_header part ≡ holds_header h
 is_header_held (held.Header section) blanks bytes rest is_line part (inner, is) = rw is refl
 is_header_held (held.Entry parts) blanks bytes rest is_line part (between, tail, is, left) = rw is refl
-is_header_held held.Nothing blanks bytes rest is_line part is = rw is refl
-is_header_held held.Comment blanks bytes rest is_line part is = rw is refl
+is_header_held h blanks bytes rest is_line part is = rw is refl
 
 entries_held : (h : Held) (blanks bytes rest : List ℕ) (is_line : Bool) (part : Part) (section : Option Section)
     → IsPartOf h blanks bytes rest is_line part → entries_in (part ∷ []) ≡ length (contents_in h section)
 entries_held (held.Header new) blanks bytes rest is_line part section (inner, is) = rw is refl
 entries_held (held.Entry parts) blanks bytes rest is_line part section (between, tail, is, left) = rw is refl
-entries_held held.Nothing blanks bytes rest is_line part section is = rw is refl
-entries_held held.Comment blanks bytes rest is_line part section is = rw is refl
+entries_held h blanks bytes rest is_line part section is = rw is refl
 
 section_held : (h : Held) (blanks bytes rest : List ℕ) (is_line : Bool) (part : Part) (section : Option Section)
     → IsPartOf h blanks bytes rest is_line part → section_behind section part ≡ section_after h section
 section_held (held.Header new) blanks bytes rest is_line part section (inner, is) = rw is refl
 section_held (held.Entry parts) blanks bytes rest is_line part section (between, tail, is, left) = rw is refl
-section_held held.Nothing blanks bytes rest is_line part section is = rw is refl
-section_held held.Comment blanks bytes rest is_line part section is = rw is refl
+section_held h blanks bytes rest is_line part section is = rw is refl
 
 pub entry_held : (h : Held) (blanks bytes rest : List ℕ) (is_line : Bool) (part : Part) {section : Option Section} (key : Key)
     (before : List Part) → IsPartOf h blanks bytes rest is_line part → section_from None before ≡ section
     → IsEntryOf key before part → IsEntryHeld key section h
 entry_held (held.Header new) blanks bytes rest is_line part key before (inner, is) same of = rw is at of
 entry_held (held.Entry parts) blanks bytes rest is_line part key before (between, tail, is, left) same of = rw same at (rw is at of)
-entry_held held.Nothing blanks bytes rest is_line part key before is same of = rw is at of
-entry_held held.Comment blanks bytes rest is_line part key before is same of = rw is at of
+entry_held h blanks bytes rest is_line part key before is same of = rw is at of
 
 -- a piece more
 pub cut_begins : (text : List ℕ) → IsCut text text None 0 []

@@ -1,6 +1,6 @@
 -- A text is cut in its parts in one way, and the code's pieces are these parts.
 use Rattle.std.proofs.Common.{◌≡◌, ◌≢◌, ℕ, Bool, true, false, List, [], ◌∷◌, ◌++◌, Option, Some, None, Result, Ok, not, ◌==◌, ◌⊎◌}
-use Rattle.std.proofs.Common.{if◌then◌else◌, refl, sym, ap, ◌∙◌, subst, append_assoc, append-nil, arith, inl, inr}
+use Rattle.std.proofs.Common.{if◌then◌else◌, ◌↔◌, refl, sym, ap, ◌∙◌, subst, append_assoc, append-nil, arith, inl, inr}
 use Rattle.std.proofs.lemmas.List.{append_cancel_left, append_cancel_right}
 use Rattle.std.proofs.lemmas.List.Folds.{list_all-append}
 use Rattle.std.proofs.lemmas.Bool.{true≢false, and_parts}
@@ -10,12 +10,13 @@ use Rattle.config_edit.specs.declared.piece.Held.{Held}
 use Rattle.config_edit.specs.declared.piece.Held.TheVariants as held
 use Rattle.config_edit.specs.declared.piece.Piece.{Piece}
 use Rattle.config_file.specs.Bytes.{is_blank, is_comment_sign, is_comment_byte, BeginsWithLetter}
+use Rattle.config_file.specs.Runs.{Run}
 use Rattle.config_file.specs.Header.{Section, Header}
 use Rattle.config_file.specs.Runs.{StopsRun}
 use Rattle.config_file.specs.File.{TakesEntry}
 use Rattle.config_file.specs.Views.{section_of, value_of}
 use Rattle.config_edit.specs.Cut as cut
-use Rattle.config_edit.specs.Cut.{AreBlank, IsComment, absent, present, IsTail, Part, IsPart, Cuts, part_bytes, value_bytes}
+use Rattle.config_edit.specs.Cut.{AreBlank, HasComment, IsComment, absent, present, IsTail, Part, IsPart, Cuts, part_bytes, value_bytes}
 use Rattle.config_edit.specs.Cut.{section_from, section_behind, EachBecomes}
 use Rattle.config_edit.specs.Reading.{IsPiece, IsMade}
 use Rattle.config_file.proofs.OneRun.{run_same}
@@ -23,7 +24,8 @@ use Rattle.config_file.proofs.OneReading as one
 use Rattle.config_file.proofs.OneReading.{Kind, kind, kind_header, kind_line_end, kind_comment, kind_entry}
 use Rattle.config_file.proofs.OneHeader.{header_only}
 use Rattle.config_file.proofs.OneEntry.{entry_only}
-use Rattle.config_edit.proofs.Pieces.{first_blank, other_blanks}
+use Rattle.config_file.proofs.LineEnds.{not_none}
+use Rattle.config_edit.proofs.Pieces.{comment_behind, first_blank, other_blanks}
 use Rattle.config_edit.proofs.Changed.{behind, both_blank}
 
 ok_same : {A B : Type 0} {x y : A} → ◌≡◌ {A = Result A B} (Ok x) (Ok y) → x ≡ y
@@ -288,7 +290,7 @@ front_letter [] letter t = absurd ((tail_kind t).1 (letter_kind letter))
 front_letter (x ∷ front) (b, more, is, letter) t = (b, front, cc, letter)
 
 -- what is left of a line, behind blanks
-pub tail_behind : (blanks : List ℕ) {tail bytes rest : List ℕ} {is_line : Bool} → AreBlank blanks → bytes ≡ blanks ++ tail
+tail_behind : (blanks : List ℕ) {tail bytes rest : List ℕ} {is_line : Bool} → AreBlank blanks → bytes ≡ blanks ++ tail
     → (t : IsTail tail rest is_line) → (u : IsTail bytes rest is_line) × (u.comment ≡ t.comment)
 tail_behind blanks all joined t = (
   record {
@@ -303,6 +305,64 @@ tail_behind blanks all joined t = (
   },
   refl,
 )
+
+sign_of : {comment : List ℕ} → IsComment comment → comment ≢ []
+    → (sign : ℕ) × (more : List ℕ) × (comment ≡ sign ∷ more) × (is_comment_sign sign ≡ true)
+sign_of absent some = absurd (some refl)
+sign_of (present {sign = sign} {bytes = bytes} is all) some = (sign, bytes, refl, is)
+
+none_or_some : (bytes : List ℕ) → (bytes ≡ []) ⊎ (bytes ≢ [])
+none_or_some [] = inl refl
+none_or_some (b ∷ bytes) = inr (λ e. cc)
+
+-- what is left of a line has a comment, or none
+line_comment : {tail rest : List ℕ} {is_line : Bool} → (t : IsTail tail rest is_line) → t.comment ≢ [] → HasComment tail
+line_comment {tail = tail} t some =
+    let (end, tail_is) : (end : List ℕ) × (tail ≡ t.blanks ++ (t.comment ++ end)) = elim t.ends [
+      | inl l ↦ (10 ∷ [], l.1)
+      | inr e ↦ ([], e.2 ∙ rw append-nil refl)
+    ] in
+    let (sign, more, is, is_sign) = sign_of t.is_comment some in
+    (t.blanks, more ++ end, sign, tail_is ∙ ap (λ c. t.blanks ++ (c ++ end)) is, t.are_blank, is_sign)
+
+pub no_line_comment : {tail rest : List ℕ} {is_line : Bool} → (t : IsTail tail rest is_line) → t.comment ≡ []
+    → ¬ (HasComment (tail ++ rest))
+no_line_comment {tail = tail} {rest = rest} t none = λ has. elim t.ends [
+  | inl l ↦
+      let whole : tail ++ rest ≡ t.blanks ++ 10 ∷ rest = rw (l.1, none) (simp append_assoc) in
+      let run : Run is_blank (tail ++ rest) t.blanks (10 ∷ rest) = record { joined = whole; pass = t.are_blank; longest = refl } in
+      let (sign, more, also, is) = comment_behind run has in
+      let same : sign ≡ 10 = cc in
+      true≢false (sym is ∙ ap is_comment_sign same)
+  | inr e ↦
+      let whole : tail ++ rest ≡ t.blanks ++ [] = rw (e.2, e.1, none) (simp append-nil) in
+      let run : Run is_blank (tail ++ rest) t.blanks [] = record { joined = whole; pass = t.are_blank; longest = tt } in
+      let (sign, more, also, is) = comment_behind run has in
+      not_none [] more sign (sym also)
+]
+
+pub has_before : {tail : List ℕ} (rest : List ℕ) → HasComment tail → HasComment (tail ++ rest)
+has_before rest (blanks, more, sign, joined, all, is) =
+    (blanks, more ++ rest, sign, ap (λ t. t ++ rest) joined ∙ append_assoc blanks (sign ∷ more) rest, all, is)
+
+pub tail_comment : {tail rest : List ℕ} {is_line : Bool} → IsTail tail rest is_line → HasComment (tail ++ rest) ↔ HasComment tail
+tail_comment {tail = tail} {rest = rest} t = (
+  λ has. elim (none_or_some t.comment) [
+    | inl none ↦ absurd (no_line_comment t none has)
+    | inr some ↦ line_comment t some
+  ],
+  λ has. has_before rest has,
+)
+
+pub line_made : (h : Held) {bytes rest : List ℕ} (blanks : List ℕ) (is_line : Bool) (tail : List ℕ) → AreBlank blanks
+    → bytes ≡ blanks ++ tail → (t : IsTail tail rest is_line)
+    → ((t.comment ≡ []) × (h ≡ held.Nothing)) ⊎ ((t.comment ≢ []) × (h ≡ held.Comment)) → IsMade h blanks bytes rest is_line
+line_made h {rest = rest} blanks is_line tail all joined t either =
+    let (u, same) = tail_behind blanks all joined t in
+    elim either [
+      | inl (none, is) ↦ rw is (u, λ has. no_line_comment u (same ∙ none) (has_before rest has))
+      | inr (some, is) ↦ rw is (u, line_comment u (λ none. some (sym same ∙ none)))
+    ]
 
 takes_moved : {front stem at left key : List ℕ} {value : Option (List ℕ)} {lines : ℕ} → front ≡ stem → at ≡ left
     → TakesEntry (front ++ at) key value lines at → TakesEntry (stem ++ left) key value lines left
@@ -325,10 +385,8 @@ part_made (held.Entry parts) blanks bytes rest is_line all some e =
       (all, rw front_is at (front_letter e.front (rw e.left at e.begins) e.is_tail), (parts.lines, takes_moved front_is e.left e.takes), e.is_tail),
       (between, e.tail, refl, e.left),
     )
-part_made held.Nothing blanks bytes rest is_line all some (tail, joined, t, none) =
-    (cut.line bytes is_line, refl, (some, (tail_behind blanks all joined t).0), refl)
-part_made held.Comment blanks bytes rest is_line all some (tail, joined, t, has) =
-    (cut.line bytes is_line, refl, (some, (tail_behind blanks all joined t).0), refl)
+part_made held.Nothing blanks bytes rest is_line all some (t, none) = (cut.line bytes is_line, refl, (some, t), refl)
+part_made held.Comment blanks bytes rest is_line all some (t, has) = (cut.line bytes is_line, refl, (some, t), refl)
 
 -- a piece is a part
 pub part_of : {text : List ℕ} (piece : Piece) → piece.bytes.now ≢ [] → IsPiece text piece

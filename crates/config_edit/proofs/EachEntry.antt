@@ -14,15 +14,17 @@ use Rattle.config_file.specs.Header.{Section}
 use Rattle.config_file.specs.File.{TakesKey, TakesEntry, alone, valued}
 use Rattle.config_file.specs.Key.{is_name}
 use Rattle.config_edit.specs.Edit as spec
-use Rattle.config_edit.specs.Edit.{Content, ChangesEach, ChangesPart, NamesPart, AreInOrder, IsChanged, IsEntry}
+use Rattle.config_edit.specs.Edit.{Content, ChangesEach, ChangesPart, NamesPart, AreInOrder, IsChanged}
 use Rattle.config_edit.specs.Edit.{Has, name_after}
 use Rattle.config_edit.specs.Cut as cut
 use Rattle.config_edit.specs.Cut.{value_bytes, Part, EachBecomes, part_bytes, entries_in}
 use Rattle.config_edit.specs.Reading.{Ends, anywhere, IsRead, IsPiece, IsChangedIn, IsNamed, IsCut, entry_part}
 use Rattle.config_edit.specs.Reading.{IsValued}
 use Rattle.config_edit.specs.Reading.{IsWritableComment}
-use Rattle.config_edit.specs.Reading.{AreLater, AreWritable, Changing, IsEachChanged, contents_in}
+use Rattle.std.specs.List.{AllByRecursion}
+use Rattle.config_edit.specs.Reading.{AreLater, IsWritable, Changing, IsEachChanged, contents_in}
 use Rattle.config_edit.specs.Reading.{section_after, content_of, IsShaped}
+use Rattle.config_edit.specs.Reading.{IsEntry}
 use Rattle.config_file.specs.Views.{value_of}
 use Rattle.config_edit.proofs.Added.{name_parts}
 use Rattle.config_edit.proofs.Pieces.{entry_passed, key_joined}
@@ -245,7 +247,7 @@ order_from from (first ∷ changes) count change (at, within, order) ([], after,
 order_from from (first ∷ changes) count change (at, within, order) (other ∷ before, after, e) =
     let later = order_from (first.entry + 1) changes count change order (before, after, cc) in omega arith
 
-pub changing_begins : (changes : List Change) (text : List ℕ) → AreWritable changes
+pub changing_begins : (changes : List Change) (text : List ℕ) → AllByRecursion IsWritable changes
     → Changing changes text text changes [] 0
 changing_begins changes text writable =
     record {
@@ -316,8 +318,7 @@ no_entry_named : (h : Held) (blanks bytes rest : List ℕ) (is_line : Bool) (par
     → ¬ (NamesPart changes before part)
 no_entry_named (held.Header new) blanks bytes rest is_line part changes before other (inner, is) = λ names. rw is at names
 no_entry_named (held.Entry parts) blanks bytes rest is_line part changes before other is = absurd (other parts refl)
-no_entry_named held.Nothing blanks bytes rest is_line part changes before other is = λ names. rw is at names
-no_entry_named held.Comment blanks bytes rest is_line part changes before other is = λ names. rw is at names
+no_entry_named h blanks bytes rest is_line part changes before other is = λ names. rw is at names
 
 names_entry : (part : Part) (changes : List Change) (before : List Part) → NamesPart changes before part
     → (change : Change) × Has changes change × (change.entry ≡ entries_in before)

@@ -13,14 +13,15 @@ use Rattle.config_file.proofs.SpelledHeaders.{header_spelled}
 use Rattle.config_file.proofs.Spellings.{git_spelling}
 use Rattle.config_edit.specs.Edit.{CanBeWritten}
 use Rattle.config_file.specs.Header.{Section}
-use Rattle.config_edit.specs.Edit.{Content, content, HasContents, LacksName, AreAccepted}
+use Rattle.config_edit.specs.Edit.{Content, content, HasContents, LacksName, CanBeMade}
+use Rattle.std.specs.List.{AllByRecursion}
 use Rattle.config_edit.specs.Cut.{BecomesParts}
 use Rattle.config_edit.specs.Edit.{RefusesChanges, PutsLine, ChangesPart, ChangesKey, ReplacesKey, AddsKey, RefusesLastPart, RefusesComment, RefusesOneChange}
 use Rattle.config_file.specs.declared.key.KeyError.TheVariants as key_error
 use Rattle.config_file.specs.Spelling.{LacksSpelling, git_spelled}
 use Rattle.std.proofs.Common.{true≢false, append-nil, take, drop, option_copied, Some, ◌+◌}
 use Rattle.std.proofs.lemmas.List.{append_cancel_right, take-append-drop}
-use Rattle.config_edit.specs.Reading.{AreWritable, IsWritable, IsWritableName, IsWritableValue, IsWritableComment}
+use Rattle.config_edit.specs.Reading.{IsWritable, IsWritableName, IsWritableValue, IsWritableComment}
 use Rattle.config_edit.specs.Edit.{ChangesEntries}
 use Rattle.config_edit.specs.Reading.{IsReplaced, IsAdded, IsEachChanged, Ends}
 use Rattle.config_edit.specs.Cut.{IsSplit}
@@ -55,13 +56,7 @@ pub refuses_file : {P : Key → List Content → Type 0} {name text mark body : 
 refuses_file value can split (entries, is_file) why =
     let ends = body_ends is_file split in refuses value can split ends (why (map content entries) ends)
 
--- a section that can be written has a header, and a value a spelling
-pub has_header : (section : List ℕ) (subsection : Option (List ℕ)) → is_section section subsection ≡ true
-    → ¬ (HasNoHeader section subsection)
-has_header section subsection is lacks =
-    let (inner, named, e, names, header) = header_spelled section subsection is in
-    lacks (inner ++ []) [] named names (header [])
-
+-- a value that can be written has a spelling
 pub has_spelling : (value : List ℕ) → is_spellable value ≡ true → ¬ (HasNoSpelling value)
 has_spelling value all lacks = lacks _ (git_spelling value all).0
 
@@ -117,7 +112,7 @@ name_fits (Some (b ∷ more)) e is refuses = absurd refuses
 
 pub value_fits : (value : Option (List ℕ)) → IsWritableValue value → ¬ (LacksSpelling value)
 value_fits None is lacks = absurd lacks
-value_fits (Some value) is lacks = lacks (git_spelled value) (git_spelling value is).0
+value_fits (Some value) is lacks = has_spelling value is lacks
 
 comment_fits : (value comment : Option (List ℕ)) → IsWritableComment value comment → ¬ (RefusesComment value comment)
 comment_fits value None is refuses = absurd refuses
@@ -134,14 +129,9 @@ written change error.Comment (name, value, comment) (named, spelled, refuses) =
     comment_fits (option_copied change.value) (option_copied change.comment) comment refuses
 written change e is refuses = absurd refuses
 
-pub all_written : (changes : List Change) → AreWritable changes → AreAccepted changes
+pub all_written : (changes : List Change) → AllByRecursion IsWritable changes → AllByRecursion CanBeMade changes
 all_written [] is = tt
 all_written (change ∷ changes) (first, more) = (λ e refuses. written change e first refuses, all_written changes more)
-
-pub writable_more : (changes : List Change) (change : Change) → AreWritable changes → IsWritable change
-    → AreWritable (changes ++ change ∷ [])
-writable_more [] change are is = (is, tt)
-writable_more (first ∷ changes) change (at, are) is = (at, writable_more changes change are is)
 
 pub take_more : {A : Type 0} (n : ℕ) (xs : List A) (x : A) → drop n xs ≡ x ∷ drop (n + 1) xs
     → take (n + 1) xs ≡ take n xs ++ x ∷ []
@@ -154,7 +144,7 @@ pub take_all : {A : Type 0} (n : ℕ) (xs : List A) → drop n xs ≡ [] → tak
 take_all n xs none = sym (append-nil (take n xs)) ∙ ap (λ d. take n xs ++ d) (sym none) ∙ take-append-drop n xs
 
 -- why changes are refused
-pub change_refused : (changes : List Change) (text : List ℕ) (e : EditError) → AreAccepted changes → RefusesText text e
+pub change_refused : (changes : List Change) (text : List ℕ) (e : EditError) → AllByRecursion CanBeMade changes → RefusesText text e
     → RefusesChanges changes text e
 change_refused changes text (error.File e) all (entries, is) = (all, entries, is)
 change_refused changes text e all refuses = absurd refuses

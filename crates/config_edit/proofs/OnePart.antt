@@ -1,13 +1,14 @@
 -- What is determined of parts of texts: their line ends, their marks and their contents.
 use Rattle.std.proofs.Common.{◌≡◌, ℕ, ◌+◌, ◌<◌, ◌≤◌, Bool, true, false, List, [], ◌∷◌, ◌++◌, Option, Some, None, length, map}
-use Rattle.std.proofs.Common.{refl, sym, ap, ◌∙◌, subst, append_assoc, arith, inl, inr}
+use Rattle.std.proofs.Common.{refl, sym, ap, ◌∙◌, subst, append_assoc, arith, inl, inr, true≢false}
 use Rattle.std.proofs.lemmas.List.{length-append}
 use Rattle.config_file.specs.Key.{Key}
 use Rattle.config_file.proofs.OneReading.{one_reading}
 use Rattle.config_edit.specs.Cut as cut
 use Rattle.config_edit.specs.Cut.{Part, Cuts, IsSplit, HasParts}
 use Rattle.config_edit.specs.Edit as spec
-use Rattle.config_edit.specs.Edit.{content, Content, HasContents, IsEndOfLine, IsOf, LeavesEnd, Without}
+use Rattle.config_edit.specs.Edit.{content, Content, HasContents, IsEndOfLine, IsFeedAt, IsOf, LeavesEnd, Without}
+use Rattle.config_edit.specs.Reading.{IsEnd, IsLineEnd}
 use Rattle.config_edit.proofs.Cuts.{one_cut}
 use Rattle.config_edit.proofs.Changed.{some_last, last_of}
 
@@ -26,6 +27,26 @@ line_end_once (spec.return_feed front) (spec.return_feed back) e f = refl
 pub end_once : {a b : List ℕ} (in_line : Bool) (bytes : List ℕ) (l : Bool) → LeavesEnd in_line bytes l a → LeavesEnd in_line bytes l b → a ≡ b
 end_once true bytes l first second = line_end_once first second refl refl
 end_once false bytes l first second = first ∙ sym second
+
+-- the line end that stays is one, or nothing
+end_is_end : {bytes end : List ℕ} {is_line : Bool} → IsEndOfLine bytes is_line end → IsEnd end
+end_is_end spec.unended = inl refl
+end_is_end (spec.feed other) = inr (inl refl)
+end_is_end (spec.return_feed front) = inr (inr refl)
+
+pub left_is_end : (stays : Bool) (bytes end : List ℕ) (is_line : Bool) → LeavesEnd stays bytes is_line end → IsEnd end
+left_is_end true bytes end is_line is = end_is_end is
+left_is_end false bytes end is_line is = inl is
+
+pub line_end_of : {bytes end : List ℕ} {is_line : Bool} → IsEndOfLine bytes is_line end → is_line ≡ true → IsLineEnd end
+line_end_of spec.unended is = absurd (true≢false (sym is))
+line_end_of (spec.feed none) is = inl refl
+line_end_of (spec.return_feed front) is = inr refl
+
+pub feed_is_end : {front text feed : List ℕ} → IsFeedAt front text feed → IsLineEnd feed
+feed_is_end (spec.of_front (front, back, is, none, end)) = line_end_of end refl
+feed_is_end (spec.of_text none (front, back, is, more, end)) = line_end_of end refl
+feed_is_end (spec.of_none none) = inl refl
 
 split_once : {text m n a b : List ℕ} → IsSplit text m a → IsSplit text n b → (m ≡ n) × (a ≡ b)
 split_once (cut.unmarked none) (cut.unmarked other) = (refl, refl)

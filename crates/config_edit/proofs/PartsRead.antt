@@ -11,7 +11,9 @@ use Rattle.config_file.specs.Key.{Key}
 use Rattle.config_edit.specs.Edit.{Content}
 use Rattle.config_edit.specs.Cut as cut
 use Rattle.config_edit.specs.Cut.{Part, IsPart, Cuts, IsTail, AreBlank, part_bytes, value_bytes, section_behind}
-use Rattle.config_edit.specs.Sections.{AllAre, IsHeaderIn}
+use Rattle.config_edit.specs.Sections.{IsHeaderIn}
+use Rattle.std.specs.List.{AllByRecursion}
+use Rattle.config_file.proofs.ListsA.{all_appended}
 use Rattle.config_edit.specs.Reading.{Ends, Passed, anywhere, at_end, IsRead, IsPiece, IsBehind, IsFoundIn, IsHeaderHeld}
 use Rattle.config_edit.proofs.Cuts.{cut_more, IsPartOf}
 use Rattle.config_edit.proofs.Edits.{holds_nothing, holds_end, passed_join, ends_once, all_passed, some_left, joined_more}
@@ -43,7 +45,7 @@ part_passed (cut.entry blanks key between value tail is_line) rest (all, (b, mor
       is_tail = t;
       joined = refl;
     }) section
-part_passed (cut.line tail is_line) rest (some, t) section = line_passed [] is_line refl refl t section
+part_passed (cut.line tail is_line) rest (some, t) section = line_passed is_line t section
 
 reads_on : {section middle : Option Section} {bytes rest : List ℕ} {xs ys : List Content}
     → Passed section bytes xs middle rest → Ends middle rest ys → Ends section (bytes ++ rest) (xs ++ ys)
@@ -133,29 +135,23 @@ pub header_held : (key : Key) (h : Held) (blanks bytes rest : List ℕ) (is_line
     → IsPartOf h blanks bytes rest is_line part → IsHeaderHeld key h → IsHeaderIn key part
 header_held key (held.Header section) blanks bytes rest is_line part (inner, is) h = rw is h
 header_held key (held.Entry parts) blanks bytes rest is_line part is h = absurd h
-header_held key held.Nothing blanks bytes rest is_line part is h = absurd h
-header_held key held.Comment blanks bytes rest is_line part is h = absurd h
+header_held key other_held blanks bytes rest is_line part is h = absurd h
 
 pub header_in : (key : Key) (h : Held) (blanks bytes rest : List ℕ) (is_line : Bool) (part : Part)
     → IsPartOf h blanks bytes rest is_line part → IsHeaderIn key part → IsHeaderHeld key h
 header_in key (held.Header section) blanks bytes rest is_line part (inner, is) h = rw is at h
 header_in key (held.Entry parts) blanks bytes rest is_line part (between, tail, is, left) h = rw is at h
-header_in key held.Nothing blanks bytes rest is_line part is h = rw is at h
-header_in key held.Comment blanks bytes rest is_line part is h = rw is at h
+header_in key other_held blanks bytes rest is_line part is h = rw is at h
 
-pub all_both : (Is : Part → Type 0) (a b : List Part) → AllAre Is a → AllAre Is b → AllAre Is (a ++ b)
-all_both Is [] b first second = second
-all_both Is (part ∷ a) b (is, first) second = (is, all_both Is a b first second)
-
-pub all_front : (Is : Part → Type 0) (a b : List Part) → AllAre Is (a ++ b) → AllAre Is a × AllAre Is b
+pub all_front : {X : Type 0} (Is : X → Type 0) (a b : List X) → AllByRecursion Is (a ++ b) → AllByRecursion Is a × AllByRecursion Is b
 all_front Is [] b all = (tt, all)
-all_front Is (part ∷ a) b (is, all) = let (first, second) = all_front Is a b all in ((is, first), second)
+all_front Is (x ∷ a) b (is, all) = let (first, second) = all_front Is a b all in ((is, first), second)
 
 -- one part more is no such header
 pub found_before : (key : Key) (done : List Part) (part : Part) (is_found : Bool) → IsFoundIn key done is_found
     → ¬ (IsHeaderIn key part) → IsFoundIn key (done ++ part ∷ []) is_found
 found_before key done part true found other = λ none. found (all_front _ done (part ∷ []) none).0
-found_before key done part false found other = all_both _ done (part ∷ []) found (other, tt)
+found_before key done part false found other = all_appended _ done (part ∷ []) found (other, tt)
 
 pub found_here : (key : Key) (done : List Part) (part : Part) → IsHeaderIn key part
     → IsFoundIn key (done ++ part ∷ []) true

@@ -22,8 +22,9 @@ use Rattle.config_edit.specs.Reached.{Leads}
 use Rattle.config_edit.specs.Reached as reached
 use Rattle.config_edit.specs.Reading.{Holds, Ends, Passed, anywhere, at_end, IsHeaderAt, IsMade, IsRead}
 use Rattle.config_edit.specs.Reading.{GoesOn, StartsLine, contents_in, section_after}
-use Rattle.config_edit.specs.Edit.{IsEntry, IsEndOfLine, IsLastLineEnd}
+use Rattle.config_edit.specs.Edit.{IsEndOfLine, IsLastLineEnd}
 use Rattle.config_edit.specs.Cut.{AreBlank, HasComment, IsComment, absent, present, IsTail}
+use Rattle.config_edit.specs.Reading.{IsEntry}
 use Rattle.config_file.proofs.LineEnds.{not_none}
 use Rattle.config_file.proofs.OneReading.{reads_once}
 use Rattle.config_file.proofs.OneRun.{run_same, run_only}
@@ -229,14 +230,13 @@ tail_ends {tail = tail} is t section line =
           (end_is.1, rw end_is.2 (blanks_read t.blanks t.are_blank (comment_ends t.is_comment section line)))
     ]
 
-pub line_passed : {tail rest bytes : List ℕ} (blanks : List ℕ) (is_line : Bool) → AreBlank blanks
-    → bytes ≡ blanks ++ tail → IsTail tail rest is_line → (section : Option Section)
-    → Passed section bytes [] section rest
-line_passed blanks true all joined t section = anywhere (λ line other.
-    (line + 1, [], rw (joined, append_assoc) (blanks_lead blanks all (tail_leads refl t section line other)), refl))
-line_passed blanks false all joined t section =
-    at_end (tail_ends refl t section 0).0
-    (λ line. ([], rw joined (blanks_read blanks all (tail_ends refl t section line).1), refl))
+pub line_holds : {tail rest : List ℕ} → IsTail tail rest true → (section : Option Section) → Holds section tail [] section
+line_holds t section = λ line other. (line + 1, [], tail_leads refl t section line other, refl)
+
+pub line_passed : {tail rest : List ℕ} (is_line : Bool) → IsTail tail rest is_line → (section : Option Section)
+    → Passed section tail [] section rest
+line_passed true t section = anywhere (line_holds t section)
+line_passed false t section = at_end (tail_ends refl t section 0).0 (λ line. ([], (tail_ends refl t section line).1, refl))
 
 -- a header leads to its section
 pub header_holds : {new : Section} {blanks bytes : List ℕ} → AreBlank blanks → IsHeaderAt new blanks bytes
@@ -353,7 +353,7 @@ pub made_passed : (h : Held) {bytes rest : List ℕ} (blanks : List ℕ) (is_lin
     → Passed section bytes (contents_in h section) (section_after h section) rest
 made_passed (held.Entry parts) blanks is_line all made section = entry_passed blanks is_line all made section
 made_passed (held.Header new) blanks is_line all made section = anywhere (header_holds all made section)
-made_passed h blanks is_line all made section = line_passed blanks is_line all made.1 made.2 section
+made_passed h blanks is_line all made section = line_passed is_line made.0 section
 
 -- where no piece is, no file is read
 pub refused : {text at : List ℕ} (blanks : List ℕ) → text ≡ blanks ++ at → AreBlank blanks
@@ -456,12 +456,6 @@ entry_cut {text = text} {at = at} {rest = rest} {tail = tail} {after = after} bl
         joined = refl;
       },
     )
-
-pub line_made : (h : Held) {bytes rest : List ℕ} (blanks : List ℕ) (is_line : Bool) (tail : List ℕ)
-    → bytes ≡ blanks ++ tail → (t : IsTail tail rest is_line)
-    → ((t.comment ≡ []) × (h ≡ held.Nothing)) ⊎ ((t.comment ≢ []) × (h ≡ held.Comment)) → IsMade h blanks bytes rest is_line
-line_made h blanks is_line tail joined t (inl (none, is)) = rw is (tail, joined, t, none)
-line_made h blanks is_line tail joined t (inr (some, is)) = rw is (tail, joined, t, some)
 
 -- a text of blanks and then this one has a comment where this one begins with its sign
 pub comment_behind : {text blanks at : List ℕ} → Run is_blank text blanks at → HasComment text

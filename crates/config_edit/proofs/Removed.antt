@@ -16,7 +16,7 @@ use Rattle.config_file.specs.Header.{Section}
 use Rattle.config_file.specs.Key.{Key}
 use Rattle.config_edit.specs.Edit as spec
 use Rattle.config_edit.specs.Edit.{Content, IsIn, IsOf, IsPlaceOf, Without, HasNone, HasSeveral, LosesOne}
-use Rattle.config_edit.specs.Edit.{IsEnd, IsEndOfLine}
+use Rattle.config_edit.specs.Edit.{IsEndOfLine}
 use Rattle.config_edit.specs.Cut.{IsSplit}
 use Rattle.config_edit.specs.Edit.{HasContents}
 use Rattle.config_edit.specs.Unset.{LeavesEnd, IsTakenOut}
@@ -25,6 +25,8 @@ use Rattle.config_edit.specs.Reading.{Ends, Passed, anywhere, IsRead, IsHeaderAt
 use Rattle.config_edit.specs.Reading.{IsPiece, contents_in, section_after, IsPast, IsEntryHeld}
 use Rattle.config_edit.specs.Reading.{content_of, Counted, one_more, IsGroup, Losing, TakesParts}
 use Rattle.config_edit.specs.Reading.{IsBegun, IsFinished, IsPushed, IsTaken, is_blank_held}
+use Rattle.config_edit.specs.Reading.{IsEnd}
+use Rattle.config_edit.proofs.OnePart.{left_is_end}
 use Rattle.config_file.specs.Views.{section_of, value_of}
 use Rattle.config_edit.proofs.Pieces.{header_holds, made_passed}
 use Rattle.config_edit.proofs.Edits.{holds_nothing, holds_join, passed_holds, passed_join, passed_ends}
@@ -117,16 +119,6 @@ finished {g = g} r (edit.without_head not_kept has_lost) =
     let (nothing, empty) = r.group.empty not_kept in
     let ended = end_holds r.base g.line_end.now r.group.is_end in
     (r.base, rw nothing (holds_then g.line_end.now g.body.items ended (empty r.base)))
-
--- the line end that stays is one, or nothing
-end_is_end : {bytes end : List ℕ} {is_line : Bool} → IsEndOfLine bytes is_line end → IsEnd end
-end_is_end spec.unended = inl refl
-end_is_end (spec.feed other) = inr (inl refl)
-end_is_end (spec.return_feed front) = inr (inr refl)
-
-pub left_is_end : (stays : Bool) (bytes end : List ℕ) (is_line : Bool) → LeavesEnd stays bytes is_line end → IsEnd end
-left_is_end true bytes end is_line is = end_is_end is
-left_is_end false bytes end is_line is = inl is
 
 -- the section after what is left of a piece
 grouped : {g now : Group} {piece : Piece} {now_before more : List Content} {put rest left : List ℕ} {base section : Option Section}

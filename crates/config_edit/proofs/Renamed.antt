@@ -35,8 +35,7 @@ header_part : (key : Key) (h : Held) (blanks bytes rest : List ℕ) (is_line : B
     → (section : Section) × (inner : List ℕ) × (part ≡ cut.header blanks section inner)
 header_part key (held.Header section) blanks bytes rest is_line (inner, is) h = (section_of section, inner, is)
 header_part key (held.Entry parts) blanks bytes rest is_line is h = absurd h
-header_part key held.Nothing blanks bytes rest is_line is h = absurd h
-header_part key held.Comment blanks bytes rest is_line is h = absurd h
+header_part key other_held blanks bytes rest is_line is h = absurd h
 
 module _ {from to : Key} {text rest new : List ℕ} {is_found : Bool} (r : Renaming from to text rest new is_found)
     (piece : Piece) (is : IsPiece rest piece) (shorter : length piece.rest.now < length rest) where

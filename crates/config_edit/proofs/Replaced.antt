@@ -16,13 +16,15 @@ use Rattle.config_file.specs.Listing.{IsListed}
 use Rattle.config_file.specs.Key.{Key, HasKey}
 use Rattle.config_edit.specs.Edit as spec
 use Rattle.config_edit.specs.Edit.{Content, content, IsIn, IsOf, IsEntryOf, Without, ReplacesPart, GivesValue}
-use Rattle.config_edit.specs.Edit.{HasNone, HasOne, HasSeveral, Replaces, HasValue, IsEnd, LeavesEnd}
+use Rattle.config_edit.specs.Edit.{HasNone, HasOne, HasSeveral, Replaces, HasValue, LeavesEnd}
 use Rattle.config_edit.specs.Cut as cut
 use Rattle.config_edit.specs.Cut.{value_bytes, Part, Cuts, EachBecomes, part_bytes, entries_in, ends_in_header, ends_line, section_from}
 use Rattle.config_edit.specs.Reached as reached
 use Rattle.config_edit.specs.Reading.{Holds, Ends, Passed, anywhere, at_end, IsMade, IsPiece, IsValued, IsShaped, holds_header}
 use Rattle.config_edit.specs.Reading.{contents_in, section_after, IsListable, IsPast, content_of, IsEntryHeld}
 use Rattle.config_edit.specs.Reading.{IsFound, Replacing, IsReplaced, IsLeft, IsCut, entry_part}
+use Rattle.config_edit.specs.Reading.{IsEnd}
+use Rattle.config_edit.proofs.OnePart.{left_is_end}
 use Rattle.config_file.specs.Views.{value_of}
 use Rattle.std.proofs.lemmas.List.{append_cancel_left, append_cancel_right, length-append}
 use Rattle.config_file.proofs.EachReading.{not_empty}
@@ -316,7 +318,7 @@ replacing_finds key text rest start new section several in_line None f left betw
     rw (new_is, left_is, between_is)
     (begun, m.in_header ∙ ap (λ p. ends_in_header p) (ap (λ p. parts ++ p ∷ []) part_is ∙ sym (append-nil (parts ++ part ∷ []))))
 replacing_finds key text rest start new section several in_line (Some g) f left between (r, in_line_is) f_line is shorter e is_of
-    (is_end, leaves) joined =
+    leaves joined =
     let some = some_left rest f.piece.rest.now shorter in
     let x = content_of r.at g.parts in
     let y = content_of section f.parts in
@@ -351,7 +353,7 @@ replacing_finds key text rest start new section several in_line (Some g) f left 
       cut = refl;
       before_is = passed_holds some (found_past r).passed;
       now_is = holds_join new (left ++ r.between) r.now_is
-          (holds_join left r.between (end_holds r.at left is_end) gap);
+          (holds_join left r.between (end_holds r.at left (left_is_end g.in_line g.piece.bytes.now left g.piece.is_line leaves)) gap);
       blank = is.blank;
       is_entry = rw e at is.made;
       is_of = is_of;

@@ -9,6 +9,7 @@ use Rattle.config_file.specs.Key.{Key, IsKey, RefusesKey}
 use Rattle.config_file.specs.Spelling.{HasNoHeader}
 use Rattle.config_file.specs.Reading.Spellings.{is_section}
 use Rattle.config_file.proofs.OneKey.{cut_same, not_both}
+use Rattle.config_file.proofs.Commands.{never_without_header}
 use Rattle.config_file.proofs.SpelledHeaders.{header_spelled}
 use Rattle.config_edit.specs.Edit.{content}
 use Rattle.config_edit.specs.Cut.{Part, Cuts, IsSplit}
@@ -107,6 +108,4 @@ lacks_header name e text_is refused = absurd refused
 
 pub has_header : (name : List ℕ) (key : Key) → NamesSection name key → is_section key.section key.subsection ≡ true
     → ¬ (LacksHeader name)
-has_header name key names is lacking =
-    let (inner, section, put_is, spells, header) = header_spelled key.section key.subsection is in
-    lacking key names (inner ++ []) [] section spells (header [])
+has_header name key names is lacking = never_without_header key.section key.subsection is (lacking key names)

@@ -1,14 +1,14 @@
 -- What follows of edits of sections: a text and names have one new text, and a refusal one reason.
 use Rattle.std.proofs.Common.{◌≡◌, ◌≢◌, ℕ, false, ◌==◌, List, [], ◌∷◌, ◌++◌, Some, None}
-use Rattle.std.proofs.Common.{refl, sym, ◌∙◌, subst, inl, inr, ◌⊎◌, arith}
+use Rattle.std.proofs.Common.{refl, sym, ap, ◌∙◌, subst, inl, inr, ◌⊎◌, arith}
 use Rattle.std.proofs.lemmas.Bool.Decides.{nat_tests}
 use Rattle.config_edit.specs.declared.EditError.{EditError}
 use Rattle.config_edit.specs.declared.EditError.TheVariants as error
 use Rattle.config_file.specs.File.{after_mark}
 use Rattle.config_file.specs.Key.{Key}
-use Rattle.config_file.proofs.AddedEntries.{begins_no_mark}
+use Rattle.config_file.proofs.AddedEntries.{begins_no_mark, no_mark}
 use Rattle.config_file.proofs.OneKey.{cut_same}
-use Rattle.config_file.proofs.OneReading.{one_reading}
+use Rattle.config_edit.proofs.Refused.{fileless, one_fault}
 use Rattle.config_edit.specs.Cut as cut
 use Rattle.config_edit.specs.Cut.{Part, Cuts, IsSplit, HasParts}
 use Rattle.config_edit.specs.Sections.{RenamesParts, Clears, RenamesSection, RemovesSection, NamesSection}
@@ -58,11 +58,6 @@ pub one_removed : (name old new other : List ℕ) → RemovesSection name old ne
 one_removed name old new other removes (key, named, contents, file, now, file_now, without, mark, parts, has, found, bytes, c, is) =
     removed_is name key named has c removes ∙ sym is
 
-no_mark : (b : ℕ) (text : List ℕ) → b ≢ 0xef → after_mark (b ∷ text) ≡ None
-no_mark b [] other = refl
-no_mark b (c ∷ []) other = refl
-no_mark b (c ∷ d ∷ text) other = let no : (b == 0xef) ≡ false = grind (arith, nat_tests) in rw no refl
-
 parts_unmarked : (bytes : List ℕ) {parts : List Part} → Cuts bytes parts → after_mark bytes ≡ None
 parts_unmarked [] cuts = refl
 parts_unmarked (b ∷ bytes) cuts =
@@ -87,14 +82,9 @@ removed_is_gone name old new (key, named, contents, file, now, file_now, without
 pub one_removal_refusal : (name text : List ℕ) → HasOneReason (RefusesRemoval name text)
 one_removal_refusal name text (error.Memory x) f first second = inl tt
 one_removal_refusal name text e (error.Memory y) first second = inr (inl tt)
-one_removal_refusal name text (error.File x) (error.File y) (entries, is) (others, so) =
-    let some : Some x ≡ Some y = (one_reading text entries others (Some x) (Some y) is so).1 in
-    let same : x ≡ y = cc in
-    inr (inr (rw same refl))
-one_removal_refusal name text (error.File x) error.Absent (entries, is) (contents, (others, so, unused), lacks) =
-    let never : Some x ≡ None = (one_reading text entries others (Some x) None is so).1 in cc
-one_removal_refusal name text error.Absent (error.File x) (contents, (others, so, unused), lacks) (entries, is) =
-    let never : Some x ≡ None = (one_reading text entries others (Some x) None is so).1 in cc
+one_removal_refusal name text (error.File x) (error.File y) (entries, is) (others, so) = inr (inr (ap error.File (one_fault is so)))
+one_removal_refusal name text (error.File x) error.Absent (entries, is) (contents, has, lacks) = absurd (fileless is has.1)
+one_removal_refusal name text error.Absent (error.File x) (contents, has, lacks) (entries, is) = absurd (fileless is has.1)
 one_removal_refusal name text error.Absent error.Absent first second = inr (inr refl)
 one_removal_refusal name text (error.File x) f first second = absurd second
 one_removal_refusal name text error.Absent f first second = absurd second

@@ -2,7 +2,7 @@
 use Rattle.std.proofs.Common.{◌≡◌, ◌≢◌, ℕ, ◌+◌, ◌<◌, Bool, true, false, not, ◌||◌, List, [], ◌∷◌, ◌++◌, Option, Some, None}
 use Rattle.std.proofs.Common.{length, IsTrue, ◌↔◌, refl, sym, ap, ◌∙◌, subst, append_assoc, append-nil, arith, inl, inr, ◌⊎◌}
 use Rattle.std.proofs.lemmas.List.Folds.{list_all-append}
-use Rattle.std.proofs.lemmas.Bool.{true≢false, and_parts, or_parts}
+use Rattle.std.proofs.lemmas.Bool.{true≢false, and_parts, false_from_ne_true, not-false, or_parts}
 use Rattle.std.specs.List.{list_all}
 use Rattle.config_edit.specs.declared.removal.Group.{Group}
 use Rattle.config_edit.specs.declared.piece.Held.{Held}
@@ -26,19 +26,11 @@ use Rattle.config_edit.specs.Reading.{IsSection, AreTaken, TakesParts, is_blank_
 use Rattle.config_file.proofs.LineEnds.{not_none}
 use Rattle.config_edit.proofs.Pieces.{comment_behind}
 use Rattle.config_edit.specs.Cut.{AreBlank, IsPart}
-use Rattle.config_edit.proofs.Cuts.{IsPartOf, part_of, tail_behind, cut_more, section_more, no_part, same_last}
+use Rattle.config_edit.proofs.Cuts.{IsPartOf, part_of, has_before, tail_comment, cut_more, section_more, no_part, same_last}
 use Rattle.config_edit.proofs.Cuts.{one_each}
 use Rattle.config_edit.proofs.CutLoops.{bytes_more, entries_join, has_header, last_is_header, no_header_more}
 use Rattle.config_edit.proofs.OnePart.{end_once, parts_once}
 use Rattle.config_edit.specs.Unset.{IsTakenOut}
-
-not_true : (b : Bool) → ¬ (b ≡ true) → b ≡ false
-not_true true never = absurd (never refl)
-not_true false never = refl
-
-not_not : (b : Bool) → not b ≡ false → b ≡ true
-not_not true e = refl
-not_not false e = absurd (true≢false e)
 
 -- ---- parts one after the other
 
@@ -68,17 +60,17 @@ no_section before (cut.line tail l ∷ parts) all = no_section before parts all
 
 header_stays : (key : Key) (places : Option (List ℕ)) (before : List Part) (part : Part) → is_header part ≡ true
     → ¬ (Goes key places before part)
-header_stays key places before (cut.header blanks section inner) is = λ goes. goes
+header_stays key places before (cut.header blanks section inner) is = λ goes. goes.0
 header_stays key places before (cut.entry blanks name between value tail l) is = absurd (true≢false (sym is))
 header_stays key places before (cut.line tail l) is = absurd (true≢false (sym is))
 
 -- before any header, no entry is of a key
 first_stay : (key : Key) (places : Option (List ℕ)) (before : List Part) (part : Part) → HaveNoHeader before
     → ¬ (Goes key places before part)
-first_stay key places before (cut.header blanks section inner) all = λ goes. goes
+first_stay key places before (cut.header blanks section inner) all = λ goes. goes.0
 first_stay key places before (cut.entry blanks name between value tail l) all = λ goes.
     subst (λ s. edit.IsIn key s) (no_section None before all) goes.0.0
-first_stay key places before (cut.line tail l) all = λ goes. goes
+first_stay key places before (cut.line tail l) all = λ goes. goes.0
 
 -- ---- comments
 
@@ -103,54 +95,6 @@ below_more parts part = (
   λ below. below_last below parts part refl,
 )
 
-sign_of : {comment : List ℕ} → IsComment comment → comment ≢ []
-    → (sign : ℕ) × (more : List ℕ) × (comment ≡ sign ∷ more) × (is_comment_sign sign ≡ true)
-sign_of absent some = absurd (some refl)
-sign_of (present {sign = sign} {bytes = bytes} is all) some = (sign, bytes, refl, is)
-
-none_or_some : (bytes : List ℕ) → (bytes ≡ []) ⊎ (bytes ≢ [])
-none_or_some [] = inl refl
-none_or_some (b ∷ bytes) = inr (λ e. cc)
-
--- what is left of a line has a comment, or none
-line_comment : {tail rest : List ℕ} {is_line : Bool} → (t : IsTail tail rest is_line) → t.comment ≢ [] → HasComment tail
-line_comment {tail = tail} t some =
-    let (end, tail_is) : (end : List ℕ) × (tail ≡ t.blanks ++ (t.comment ++ end)) = elim t.ends [
-      | inl l ↦ (10 ∷ [], l.1)
-      | inr e ↦ ([], e.2 ∙ rw append-nil refl)
-    ] in
-    let (sign, more, is, is_sign) = sign_of t.is_comment some in
-    (t.blanks, more ++ end, sign, tail_is ∙ ap (λ c. t.blanks ++ (c ++ end)) is, t.are_blank, is_sign)
-
-pub no_line_comment : {tail rest : List ℕ} {is_line : Bool} → (t : IsTail tail rest is_line) → t.comment ≡ []
-    → ¬ (HasComment (tail ++ rest))
-no_line_comment {tail = tail} {rest = rest} t none = λ has. elim t.ends [
-  | inl l ↦
-      let whole : tail ++ rest ≡ t.blanks ++ 10 ∷ rest = rw (l.1, none) (simp append_assoc) in
-      let run : Run is_blank (tail ++ rest) t.blanks (10 ∷ rest) = record { joined = whole; pass = t.are_blank; longest = refl } in
-      let (sign, more, also, is) = comment_behind run has in
-      let same : sign ≡ 10 = cc in
-      true≢false (sym is ∙ ap is_comment_sign same)
-  | inr e ↦
-      let whole : tail ++ rest ≡ t.blanks ++ [] = rw (e.2, e.1, none) (simp append-nil) in
-      let run : Run is_blank (tail ++ rest) t.blanks [] = record { joined = whole; pass = t.are_blank; longest = tt } in
-      let (sign, more, also, is) = comment_behind run has in
-      not_none [] more sign (sym also)
-]
-
-has_before : {tail : List ℕ} (rest : List ℕ) → HasComment tail → HasComment (tail ++ rest)
-has_before rest (blanks, more, sign, joined, all, is) =
-    (blanks, more ++ rest, sign, ap (λ t. t ++ rest) joined ∙ append_assoc blanks (sign ∷ more) rest, all, is)
-
-tail_comment : {tail rest : List ℕ} {is_line : Bool} → IsTail tail rest is_line → HasComment (tail ++ rest) ↔ HasComment tail
-tail_comment {tail = tail} {rest = rest} t = (
-  λ has. elim (none_or_some t.comment) [
-    | inl none ↦ absurd (no_line_comment t none has)
-    | inr some ↦ line_comment t some
-  ],
-  λ has. has_before rest has,
-)
-
 -- ---- the part that a piece is
 
 record Fits (key : Key) (places : Option (List ℕ)) (before : List Part) (section : Option Section) (index : ℕ) (h : Held)
@@ -170,7 +114,7 @@ fits : (key : Key) (places : Option (List ℕ)) (before : List Part) (section : 
     → Fits key places before section index h is_line part
 fits key places before section index (held.Header new) blanks bytes rest is_line part section_is index_is all made is (inner, part_is) =
     rw part_is (record {
-      goes = (λ goes. absurd goes, λ held. absurd held.0);
+      goes = (λ goes. absurd goes.0, λ held. absurd held.0);
       blank = (λ blank. absurd blank, λ e. absurd (true≢false (sym e)));
       ends = (λ ends. ends, λ ends. ends);
       section_next = refl;
@@ -189,11 +133,9 @@ fits key places before section index (held.Entry parts) blanks bytes rest is_lin
       header_is = refl;
       line = λ other. refl;
     })
-fits key places before section index held.Nothing blanks bytes rest is_line part section_is index_is all (tail, joined, t, none) is part_is =
-    let (u, same) = tail_behind blanks all joined t in
-    let never : ¬ (HasComment bytes) = λ has. no_line_comment u (same ∙ none) (has_before rest has) in
+fits key places before section index held.Nothing blanks bytes rest is_line part section_is index_is all (t, never) is part_is =
     rw part_is (record {
-      goes = (λ goes. absurd goes, λ held. absurd held.0);
+      goes = (λ goes. absurd goes.0, λ held. absurd held.0);
       blank = (λ blank. refl, λ e. never);
       ends = (λ has. never has, λ never. absurd never);
       section_next = refl;
@@ -201,11 +143,9 @@ fits key places before section index held.Nothing blanks bytes rest is_line part
       header_is = refl;
       line = λ other. refl;
     })
-fits key places before section index held.Comment blanks bytes rest is_line part section_is index_is all (tail, joined, t, some) is part_is =
-    let (u, same) = tail_behind blanks all joined t in
-    let has : HasComment bytes = line_comment u (λ none. some (sym same ∙ none)) in
+fits key places before section index held.Comment blanks bytes rest is_line part section_is index_is all (t, has) is part_is =
     rw part_is (record {
-      goes = (λ goes. absurd goes, λ held. absurd held.0);
+      goes = (λ goes. absurd goes.0, λ held. absurd held.0);
       blank = (λ blank. absurd (blank has), λ e. absurd (true≢false (sym e)));
       ends = (λ ends. tt, λ ends. has);
       section_next = refl;
@@ -280,7 +220,7 @@ module _ {key : Key} {places : Option (List ℕ)} {g now : Group} {piece : Piece
             λ front back other e. absurd (none_part front back other e),
             λ is_below. true≢false (sym (below.1 is_below) ∙ sym b.kept ∙ not_kept),
           ),
-          λ (all, apart). b.kept ∙ not_true is_below (λ is_below. apart (below.0 is_below)),
+          λ (all, apart). b.kept ∙ false_from_ne_true is_below (λ is_below. apart (below.0 is_below)),
         );
       }
 
@@ -515,7 +455,7 @@ module _ {key : Key} {places : Option (List ℕ)} {text rest new : List ℕ} {se
       ) (
         λ not_kept.
             let (was, solid) = or_parts g.is_kept (not (is_blank_held piece.held)) (sym kept_is ∙ not_kept) in
-            (was, inr (f.blank.1 (not_not (is_blank_held piece.held) solid))),
+            (was, inr (f.blank.1 (not-false (is_blank_held piece.held) solid))),
         λ (was, either). elim either [
           | inl goes ↦ absurd (here goes)
           | inr blank ↦ kept_is ∙ rw (was, f.blank.0 blank) refl

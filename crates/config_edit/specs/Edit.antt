@@ -9,7 +9,7 @@
 use Rattle.std.specs.Prelude.{◌≡◌, ◌≢◌, ℕ, Bool, true, false, List, [], ◌∷◌, ◌++◌, Option, Some, None, map}
 use Rattle.std.specs.Prelude.{◌⊎◌, ⊤, ◌+◌, ◌≤◌, ◌<◌, length, option_copied, MatchOption}
 use Rattle.std.specs.Char.{to_ascii_lowercase}
-use Rattle.std.specs.List.{list_all, AllZip}
+use Rattle.std.specs.List.{list_all, AllByRecursion, AllZip}
 use Rattle.config_edit.specs.declared.Change.{Change}
 use Rattle.config_edit.specs.declared.EditError.{EditError}
 use Rattle.config_edit.specs.declared.EditError.TheVariants as error
@@ -120,26 +120,6 @@ pub record Replaces (key : Key) (value : List ℕ) (old new : List Content) : Ty
   pub others : Without key None before left
   pub has_value : HasValue (Some raw) value
   pub new_is : new ≡ left ++ (x.0, x.1, Some raw) ∷ after
-
--- LF, or CR LF
-abbrev pub IsLineEnd : List ℕ → Type 0
-IsLineEnd bytes = (bytes ≡ line_feed ∷ []) ⊎ (bytes ≡ carriage_return ∷ line_feed ∷ [])
-
--- nothing, or a line end
-abbrev pub IsEnd : List ℕ → Type 0
-IsEnd bytes = (bytes ≡ []) ⊎ IsLineEnd bytes
-
--- blanks, an entry of this key and this value before this text, and what is left of its line
-pub record IsEntry
-    (key : List ℕ) (value : Option (List ℕ)) (lines : ℕ) (at blanks bytes rest : List ℕ) (is_line : Bool)
-    : Type 0 where
-  pub front : List ℕ
-  pub tail : List ℕ
-  pub begins : BeginsWithLetter (front ++ at)
-  pub takes : TakesEntry (front ++ at) key value lines at
-  pub left : at ≡ tail ++ rest
-  pub is_tail : IsTail tail rest is_line
-  pub joined : bytes ≡ blanks ++ (front ++ tail)
 
 -- a space where this holds, and otherwise nothing
 pub data SpaceIf (Wanted : Type 0) : List ℕ → Type 0 where
@@ -519,23 +499,20 @@ RefusesOneChange change error.Comment = ¬ (LacksName change) × ¬ (LacksSpelli
     × RefusesComment (option_copied change.value) (option_copied change.comment)
 RefusesOneChange change _ = ⊥
 
--- a change can be written
-abbrev pub IsAccepted : Change → Type 0
-IsAccepted change = (e : EditError) → ¬ (RefusesOneChange change e)
-
-abbrev pub AreAccepted : List Change → Type 0
-AreAccepted [] = ⊤
-AreAccepted (change ∷ changes) = IsAccepted change × AreAccepted changes
+-- a change is refused for no reason of its own
+abbrev pub CanBeMade : Change → Type 0
+CanBeMade change = (e : EditError) → ¬ (RefusesOneChange change e)
 
 -- why changes are refused of which one cannot be written, and none before it
 abbrev pub RefusesOneOf : List Change → EditError → Type 0
 RefusesOneOf changes e = (before after : List Change) × (change : Change) × (changes ≡ before ++ change ∷ after)
-    × AreAccepted before × RefusesOneChange change e
+    × AllByRecursion CanBeMade before × RefusesOneChange change e
 
 -- why changes are refused: by one of them, otherwise by the text, otherwise by their order and the entries of the text
 abbrev pub RefusesChanges : List Change → List ℕ → EditError → Type 0
 RefusesChanges changes text (error.Memory e) = ⊤
-RefusesChanges changes text (error.File e) = AreAccepted changes × (entries : List Entry) × IsFile text entries (Some e)
-RefusesChanges changes text error.Absent = AreAccepted changes
+RefusesChanges changes text (error.File e) = AllByRecursion CanBeMade changes
+    × (entries : List Entry) × IsFile text entries (Some e)
+RefusesChanges changes text error.Absent = AllByRecursion CanBeMade changes
     × (contents : List Content) × HasContents text contents × ¬ (AreInOrder 0 changes (length contents))
 RefusesChanges changes text e = RefusesOneOf changes e

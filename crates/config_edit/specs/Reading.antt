@@ -1,7 +1,7 @@
 -- Pieces of a text, each of which holds the same wherever it stands.
 use Rattle.std.specs.Prelude.{◌≡◌, ◌≢◌, ℕ, ◌+◌, Bool, true, false, List, [], ◌∷◌, ◌++◌, Option, Some, None}
 use Rattle.std.specs.Prelude.{map, not, ◌&&◌, ◌⊎◌, ◌↔◌, ⊤, IsTrue, MatchOption, ◌≤◌, ◌<◌, length, option_copied}
-use Rattle.std.specs.List.{AllZip, list_all}
+use Rattle.std.specs.List.{AllByRecursion, AllZip, list_all}
 use Rattle.std.specs.Char.{is_ascii_alphabetic}
 use Rattle.config_file.specs.declared.entry.EntryParts.{EntryParts}
 use Rattle.config_edit.specs.declared.Change.{Change}
@@ -20,7 +20,7 @@ use Rattle.config_edit.specs.declared.write.End.TheVariants as end
 use Rattle.config_edit.specs.declared.piece.Held.{Held}
 use Rattle.config_edit.specs.declared.piece.Held.TheVariants as held
 use Rattle.config_edit.specs.declared.piece.Piece.{Piece}
-use Rattle.config_file.specs.Bytes.{line_feed, left_bracket, is_blank, is_comment_sign, is_comment_byte}
+use Rattle.config_file.specs.Bytes.{line_feed, carriage_return, left_bracket, is_blank, is_comment_sign, is_comment_byte}
 use Rattle.config_file.specs.Bytes.{BeginsWithLetter}
 use Rattle.config_edit.specs.Reached.{Leads}
 use Rattle.config_file.specs.Header.{Section, Header}
@@ -30,7 +30,7 @@ use Rattle.config_edit.specs.declared.EditError.TheVariants as error
 use Rattle.config_file.specs.Key.{Key, IsKey, RefusesKey, is_name}
 use Rattle.config_file.specs.Spelling.{HasNoHeader, IsGitSpelling, git_spelled}
 use Rattle.config_file.specs.Value.{outside, at_backslash, SpellsValue, line_feeds}
-use Rattle.config_edit.specs.Edit.{Content, content, LosesOne, IsEntry, IsEnd}
+use Rattle.config_edit.specs.Edit.{Content, content, LosesOne}
 use Rattle.config_edit.specs.Cut as cut
 use Rattle.config_edit.specs.Cut.{AreBlank, HasComment, IsTail, Part, Cuts, EachBecomes, part_bytes, parts_bytes, ends_in_header, entries_in}
 use Rattle.config_edit.specs.Cut.{value_bytes, section_from, is_header, HaveNoHeader}
@@ -39,12 +39,32 @@ use Rattle.config_edit.specs.Sections.{BeginsWithHeader}
 use Rattle.config_edit.specs.Unset.{Leaves, LeavesEmptied, LosesOf, KeepsNone, IsBelowComment, TakesOut}
 use Rattle.config_edit.specs.Edit.{IsIn, IsOf, HasValue, Without, HasNone, HasNoneAt, LeavesEnd}
 use Rattle.config_edit.specs.Edit.{IsPlaceOf, HasSeveral, Replaces, SameEntry, NoneIn}
-use Rattle.config_edit.specs.Edit.{IsLineEnd, AddsContent, entry_line, PutsValue, ReplacesPart, HasOne}
+use Rattle.config_edit.specs.Edit.{AddsContent, entry_line, PutsValue, ReplacesPart, HasOne}
 use Rattle.config_edit.specs.Edit.{ChangesEach, ChangesValueTo, ChangesPart, AreInOrder, Has}
 use Rattle.config_edit.specs.Edit.{name_after, ChangesEntry, WritesComment, IsEndOfLine, CanFollow, IsPlace, EndsParts, IsFeedAt}
 use Rattle.config_file.specs.Listing.{IsListedSection}
 use Rattle.config_file.specs.Reading.Spellings.{is_spellable}
 use Rattle.config_file.specs.Views.{section_of, value_of}
+
+-- LF, or CR LF
+abbrev pub IsLineEnd : List ℕ → Type 0
+IsLineEnd bytes = (bytes ≡ line_feed ∷ []) ⊎ (bytes ≡ carriage_return ∷ line_feed ∷ [])
+
+-- nothing, or a line end
+abbrev pub IsEnd : List ℕ → Type 0
+IsEnd bytes = (bytes ≡ []) ⊎ IsLineEnd bytes
+
+-- blanks, an entry of this key and this value before this text, and what is left of its line
+pub record IsEntry
+    (key : List ℕ) (value : Option (List ℕ)) (lines : ℕ) (at blanks bytes rest : List ℕ) (is_line : Bool)
+    : Type 0 where
+  pub front : List ℕ
+  pub tail : List ℕ
+  pub begins : BeginsWithLetter (front ++ at)
+  pub takes : TakesEntry (front ++ at) key value lines at
+  pub left : at ≡ tail ++ rest
+  pub is_tail : IsTail tail rest is_line
+  pub joined : bytes ≡ blanks ++ (front ++ tail)
 
 -- whatever line it is on and whatever follows it, the text leads from the first section to the second one, with these
 -- contents of entries
@@ -103,23 +123,13 @@ pub record IsHeaderAt (section : Section) (blanks bytes : List ℕ) : Type 0 whe
   pub joined : bytes ≡ blanks ++ left_bracket ∷ inner
   pub header : (other : List ℕ) → Header (inner ++ other) section other
 
--- blanks, and what is left of a line with a comment
-abbrev pub IsCommentLine : List ℕ → List ℕ → List ℕ → Bool → Type 0
-IsCommentLine blanks bytes rest is_line =
-    (tail : List ℕ) × (bytes ≡ blanks ++ tail) × (t : IsTail tail rest is_line) × (t.comment ≢ [])
-
--- blanks, and what is left of a line without a comment
-abbrev pub IsBlankLine : List ℕ → List ℕ → List ℕ → Bool → Type 0
-IsBlankLine blanks bytes rest is_line =
-    (tail : List ℕ) × (bytes ≡ blanks ++ tail) × (t : IsTail tail rest is_line) × (t.comment ≡ [])
-
 -- what a piece that holds this is made of: its first blanks, all its bytes, and what follows it
 abbrev pub IsMade : Held → List ℕ → List ℕ → List ℕ → Bool → Type 0
 IsMade (held.Entry parts) blanks bytes rest is_line =
     IsEntry parts.key.now (value_of parts.value) parts.lines parts.rest.now blanks bytes rest is_line
 IsMade (held.Header section) blanks bytes rest is_line = IsHeaderAt (section_of section) blanks bytes
-IsMade held.Nothing blanks bytes rest is_line = IsBlankLine blanks bytes rest is_line
-IsMade held.Comment blanks bytes rest is_line = IsCommentLine blanks bytes rest is_line
+IsMade held.Nothing blanks bytes rest is_line = IsTail bytes rest is_line × ¬ (HasComment bytes)
+IsMade held.Comment blanks bytes rest is_line = IsTail bytes rest is_line × HasComment bytes
 
 -- the last item of a piece is a comment
 abbrev pub EndsInCommentHeld : Held → Type 0
@@ -303,7 +313,7 @@ IsReplacement key value text (replacement.Done r) =
 -- what is left of an entry that is taken out, if one is: its line end, if a header precedes it on the line
 abbrev pub IsLeft : Option Found → List ℕ → Type 0
 IsLeft None left = left ≡ []
-IsLeft (Some f) left = IsEnd left × LeavesEnd f.in_line f.piece.bytes.now f.piece.is_line left
+IsLeft (Some f) left = LeavesEnd f.in_line f.piece.bytes.now f.piece.is_line left
 
 -- the value of these parts ends in a backslash that ends the text
 abbrev pub IsOpenEntry : EntryParts → Type 0
@@ -586,10 +596,6 @@ abbrev pub IsWritable : Change → Type 0
 IsWritable change = IsWritableName (option_copied change.name) × IsWritableValue (option_copied change.value)
     × IsWritableComment (option_copied change.value) (option_copied change.comment)
 
-abbrev pub AreWritable : List Change → Type 0
-AreWritable [] = ⊤
-AreWritable (change ∷ changes) = IsWritable change × AreWritable changes
-
 -- the first of the changes is of another entry
 abbrev pub AreLater : List Change → ℕ → Type 0
 AreLater [] index = ⊤
@@ -677,7 +683,7 @@ pub record Changing (changes : List Change) (text rest : List ℕ) (left : List 
   pub below : (change : Change) → Has done change → change.entry < index
   pub ordered : (count : ℕ) → AreInOrder 0 changes count → AreInOrder index left count
   pub back : (count : ℕ) → index ≤ count → AreInOrder index left count → AreInOrder 0 changes count
-  pub writable : AreWritable left
+  pub writable : AllByRecursion IsWritable left
   pub room : index + length rest ≤ length text
 
 -- the changes are made in the new text

@@ -1,6 +1,7 @@
 -- What a section is made of, and what becomes of it when it gets another name or goes.
 use Rattle.std.specs.Prelude.{◌≡◌, ◌≢◌, ℕ, Bool, true, false, not, List, [], ◌∷◌, ◌++◌, Some, ⊤, ◌⊎◌}
 use Rattle.std.specs.Prelude.{if◌then◌else◌}
+use Rattle.std.specs.List.{AllByRecursion}
 use Rattle.config_edit.specs.declared.EditError.{EditError}
 use Rattle.config_edit.specs.declared.EditError.TheVariants as error
 use Rattle.config_file.specs.Bytes.{left_bracket, dot}
@@ -21,12 +22,8 @@ abbrev pub IsCommentLine : Part → Type 0
 IsCommentLine (line tail is_line) = HasComment tail
 IsCommentLine _ = ⊥
 
-abbrev pub AllAre : (Part → Type 0) → List Part → Type 0
-AllAre Is [] = ⊤
-AllAre Is (part ∷ parts) = Is part × AllAre Is parts
-
 abbrev pub NoneIs : (Part → Type 0) → List Part → Type 0
-NoneIs Is parts = AllAre (λ part. ¬ (Is part)) parts
+NoneIs Is parts = AllByRecursion (λ part. ¬ (Is part)) parts
 
 -- the header of a section of the key that Git writes
 abbrev pub git_header : Key → List ℕ
@@ -51,7 +48,7 @@ EndsInNoComment parts = (front : List Part) (last : Part) → parts ≡ front ++
 pub data EndsInComments : List Part → List Part → Type 0 where
   header_alone : EndsInComments [] []
   lines : {comments : List Part} (own : Part) (lines : List Part)
-      → EndsInNoComment lines → AllAre IsCommentLine comments
+      → EndsInNoComment lines → AllByRecursion IsCommentLine comments
       → EndsInComments (own ∷ (lines ++ comments)) comments
 
 abbrev pub BeginsWithHeader : List Part → Type 0

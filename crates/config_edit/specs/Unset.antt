@@ -3,14 +3,12 @@ use Rattle.std.specs.Prelude.{◌≡◌, ℕ, Bool, true, false, List, [], ◌�
 use Rattle.config_file.specs.Key.{Key}
 use Rattle.config_edit.specs.Cut.{Part, header, entry, line, part_bytes, parts_bytes, ends_line, ends_in_header, entries_in}
 use Rattle.config_edit.specs.Cut.{section_after, HasComment, HasParts, EachBecomes, is_header, HaveNoHeader}
-use Rattle.config_edit.specs.Edit.{Content, HasContents, Edits, IsOf, IsPlaceOf, IsEndOfLine, LosesOne, Without}
+use Rattle.config_edit.specs.Edit.{Content, HasContents, Edits, IsEntryOf, IsPlaceOf, IsEndOfLine, LosesOne, Without}
 pub use Rattle.config_edit.specs.Edit.{LeavesEnd}
 
 -- behind these parts of a text, the part is an entry of the key, at one of the places
 abbrev pub Goes : Key → Option (List ℕ) → List Part → Part → Type 0
-Goes key places before (entry blanks name between value tail is_line) =
-    IsOf key (section_after before, name, value) × IsPlaceOf places (entries_in before)
-Goes key places before _ = ⊥
+Goes key places before part = IsEntryOf key before part × IsPlaceOf places (entries_in before)
 
 -- Behind these parts of a text, an entry that goes leaves nothing, or its line end if a header is on its line. Every other
 -- part stays.

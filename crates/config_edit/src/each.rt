@@ -1,8 +1,10 @@
 //! Entries that get other keys and values.
 ghost use Rattle.std.specs.Prelude.{◌≡◌, ◌++◌, ◌∷◌, [], List, ℕ, None, MatchOption, OnOk, IfOk, length, option_copied, drop, ◌+◌, ◌<◌};
-ghost use Rattle.config_edit.specs.Edit.{Content, AreInOrder, IsEntry};
+ghost use Rattle.std.specs.List.{AllByRecursion};
+ghost use Rattle.config_edit.specs.Edit.{Content, AreInOrder};
 ghost use Rattle.config_file.specs.Views.{value_of};
-ghost use Rattle.config_edit.specs.Reading.{AreLater, AreWritable, Ends, IsWritable, IsWritableValue, IsEachChanged, IsChangedIn, IsNamed, IsWritableName, IsValued};
+ghost use Rattle.config_edit.specs.Reading.{AreLater, Ends, IsWritable, IsWritableValue, IsEachChanged, IsChangedIn, IsNamed, IsWritableName, IsValued};
+ghost use Rattle.config_edit.specs.Reading.{IsEntry};
 
 use crate::Change;
 use crate::piece::{Held, Piece, next_piece};
@@ -17,7 +19,7 @@ pub(crate) fn change_each(
     text: &[u8],
     changes: &[Change<'_>],
 ) -> Result<Option<Vec<u8>>, AllocError>
-    requires { AreWritable changes.now }
+    requires { AllByRecursion IsWritable changes.now }
     ensures { (contents : List Content) → Ends None text.now contents
         → IfOk result (λ found. MatchOption found (¬ (AreInOrder 0 changes.now (length contents)))
         (λ new. IsEachChanged changes.now text.now contents new.items)) }

@@ -3,7 +3,7 @@ ghost use Rattle.std.specs.Prelude.{ℕ, List, [], codes, ◌≡◌, ◌≤◌, 
 ghost use Rattle.config_file.specs.Bytes.{BeginsWithLetter, is_comment_byte, is_comment_sign};
 ghost use Rattle.config_file.specs.Runs.{Run};
 ghost use Rattle.config_file.specs.Header.{Section};
-ghost use Rattle.config_edit.specs.Edit.{AddsOne, ChangesEntries, Content, Decides, HasNone, HasNoneAt, HasOneReason, HasSeveral, IsChange, Never, RefusesEdit, ReplacesAll, Sets};
+ghost use Rattle.config_edit.specs.Edit.{AddsOne, ChangesEntries, Content, Decides, HasNone, HasNoneAt, HasOneReason, HasSeveral, IsChange, Never, RefusesChanges, RefusesEdit, ReplacesAll, Sets};
 ghost use Rattle.config_edit.specs.Unset.{Unsets, UnsetsAll, UnsetsEach};
 ghost use Rattle.config_edit.specs.Cut.{Cuts, Part};
 ghost use Rattle.config_edit.specs.Sections.{LacksSection, RefusesRemoval, RefusesRenaming, RemovesSection, RenamesSection};
@@ -146,6 +146,7 @@ pub fn one_refusal()
     ensures unset { (name text : List ℕ) → HasOneReason (RefusesEdit HasSeveral HasNone name None text) }
     ensures each { (places : Option (List ℕ)) (name text : List ℕ)
         → HasOneReason (RefusesEdit Never (HasNoneAt places) name None text) }
+    ensures changed { (changes : List Change) (text : List ℕ) → HasOneReason (RefusesChanges changes text) }
     ensures renaming { (old new text : List ℕ) → HasOneReason (RefusesRenaming old new text) }
     ensures removal { (name text : List ℕ) → HasOneReason (RefusesRemoval name text) }
 {}

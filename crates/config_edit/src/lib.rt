@@ -9,11 +9,11 @@
 ghost use Rattle.std.specs.Prelude.{◌≡◌, ◌++◌, ◌∷◌, [], List, ℕ, None, Some, true, map, ⊤, IfOk, MatchResult, option_copied};
 ghost use Rattle.config_edit.specs.Edit.{content, AddsOne, AreInOrder, ChangesEntries, HasNone, HasNoneAt, HasSeveral, Never, RefusesChanges, RefusesComment, RefusesEdit, RefusesLastPart, RefusesOneChange, RefusesOneOf, ReplacesAll, Sets};
 ghost use Rattle.config_edit.specs.Unset.{Unsets, UnsetsAll, UnsetsAt, UnsetsEach};
-ghost use Rattle.std.specs.List.{list_all};
+ghost use Rattle.std.specs.List.{list_all, AllByRecursion};
 ghost use Rattle.config_file.specs.Bytes.{is_comment_byte};
 ghost use Rattle.config_file.specs.Spelling.{HasNoHeader, HasNoSpelling, LacksSpelling};
 ghost use Rattle.config_file.specs.File.{Entry, IsFile};
-ghost use Rattle.config_edit.specs.Reading.{AreWritable, IsWritable, IsWritableComment, IsWritableName, IsWritableValue, RefusesName, RefusesText};
+ghost use Rattle.config_edit.specs.Reading.{IsWritable, IsWritableComment, IsWritableName, IsWritableValue, RefusesName, RefusesText};
 ghost use Rattle.config_edit.specs.Cut.{IsSplit};
 ghost use Rattle.config_edit.specs.Sections.{RefusesRemoval, RefusesRenaming, RemovesSection, RenamesSection};
 ghost use Rattle.config_file.specs.Key.{IsKey};
@@ -476,7 +476,7 @@ fn check_change(change: &Change<'_>) -> Result<(), EditError>
 
 /// Refuses changes of which one cannot be written.
 fn check_changes(changes: &[Change<'_>]) -> Result<(), EditError>
-    ensures { MatchResult result (λ _. AreWritable changes.now) (RefusesOneOf changes.now) }
+    ensures { MatchResult result (λ _. AllByRecursion IsWritable changes.now) (RefusesOneOf changes.now) }
 {
     let mut index = 0usize;
     'changes: while let Some(change) = change_at(changes, index) {

@@ -1,7 +1,7 @@
 //! The pieces of a text: each holds the same wherever it stands.
 ghost use Rattle.std.specs.Prelude.{◌≡◌, ◌≢◌, ◌<◌, ◌≤◌, ◌++◌, ◌⊎◌, ◌∷◌, List, ℕ, [], ◌↔◌, true, false, length, IfSome, IsTrue, MatchOption, None, Some};
 ghost use Rattle.config_edit.specs.Reading.{EndsComment, EndsInCommentHeld, GoesOn, IsPiece, IsRead, StartsLine, StartsNoComment};
-ghost use Rattle.config_edit.specs.Edit.{IsEnd, IsEndOfLine, IsLastLineEnd, IsLineEnd};
+ghost use Rattle.config_edit.specs.Edit.{IsEndOfLine, IsLastLineEnd};
 ghost use Rattle.config_edit.specs.Cut.{AreBlank, HasComment, IsComment, IsTail};
 ghost use Rattle.config_file.specs.Bytes.{BeginsWithLetter};
 
@@ -170,8 +170,7 @@ fn line_piece<'a>(text: &'a [u8], blanks: &'a [u8], at: &'a [u8]) -> Option<Piec
 impl<'a> Piece<'a> {
     /// The line end of the piece, or nothing if none ends it.
     pub(crate) fn line_end(&self) -> &'static [u8]
-        ensures is { IsEnd result.now }
-        ensures ends { IsEndOfLine self.now.bytes.now self.now.is_line result.now }
+        ensures { IsEndOfLine self.now.bytes.now self.now.is_line result.now }
     {
         if !self.is_line {
             return &[];
@@ -204,8 +203,7 @@ fn has_comment(text: &[u8]) -> bool
 
 /// The line end of a text that LF ends.
 fn line_end(line: &[u8]) -> &'static [u8]
-    ensures is { IsLineEnd result.now }
-    ensures ends { IsEndOfLine line.now true result.now }
+    ensures { IsEndOfLine line.now true result.now }
 {
     if line.ends_with(b"\r\n") {
         b"\r\n"
@@ -216,8 +214,7 @@ fn line_end(line: &[u8]) -> &'static [u8]
 
 /// The line end that a text uses: its last one, or `None` if it has none.
 pub(crate) fn last_line_end(text: &[u8]) -> Option<&'static [u8]>
-    ensures is { IfSome result (λ line_end. IsLineEnd line_end.now) }
-    ensures last { MatchOption result (IsLastLineEnd text.now None) (λ line_end. IsLastLineEnd text.now (Some line_end.now)) }
+    ensures { MatchOption result (IsLastLineEnd text.now None) (λ line_end. IsLastLineEnd text.now (Some line_end.now)) }
 {
     let last = text.iter().rposition(|byte| *byte == b'\n')?;
     Some(line_end(&text[..last + 1]))

@@ -1,6 +1,6 @@
 //! Entries that are taken out, with the headers of sections that they leave empty.
 ghost use Rattle.std.specs.Prelude.{◌≡◌, ◌++◌, ◌↔◌, List, ℕ, [], None, Option, true, false, IfOk, IsTrue, OnOk, option_copied, ◌||◌, ◌⊎◌, not};
-ghost use Rattle.config_edit.specs.Edit.{Content, IsEnd, IsPlaceOf};
+ghost use Rattle.config_edit.specs.Edit.{Content, IsPlaceOf};
 ghost use Rattle.config_file.specs.KeyView.{key_of};
 ghost use Rattle.config_edit.specs.Unset.{LeavesEnd};
 ghost use Rattle.config_edit.specs.Reading.{AreLeft, EndsInCommentHeld, Ends, IsBegun, IsFinished, IsPushed, IsTaken, is_blank_held, one_more};
@@ -102,7 +102,7 @@ impl Group {
 
     /// Leaves an entry out. The end of its line stays if the header is on the line.
     fn lose(&mut self, piece: &Piece<'_>) -> Result<(), AllocError>
-        ensures { OnOk result ((end : List ℕ) × IsEnd end × LeavesEnd self.old.in_head piece.now.bytes.now piece.now.is_line end
+        ensures { OnOk result ((end : List ℕ) × LeavesEnd self.old.in_head piece.now.bytes.now piece.now.is_line end
             × IsPushed self.old self.new piece.now end
             × (self.new.has_lost ≡ true) × (self.new.is_kept ≡ self.old.is_kept)) }
     {

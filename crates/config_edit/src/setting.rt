@@ -1,6 +1,6 @@
 //! A value that is set, and an entry that is added.
 ghost use Rattle.std.specs.Prelude.{◌≡◌, ◌++◌, ◌∷◌, ◌↔◌, List, ℕ, None, true, IfOk, IfSome, IsTrue, OnOk, option_map};
-ghost use Rattle.config_edit.specs.Edit.{Content, IsFeedAt, IsLineEnd, IsOf};
+ghost use Rattle.config_edit.specs.Edit.{Content, IsFeedAt, IsOf};
 ghost use Rattle.config_file.specs.Key.{is_name};
 ghost use Rattle.config_file.specs.KeyView.{key_of};
 ghost use Rattle.config_file.specs.Views.{section_of};
@@ -192,7 +192,7 @@ fn push_inside(
     value: &[u8],
 ) -> Result<(), AllocError>
     requires { (front : List ℕ) × (text.now ≡ front ++ place.now.rest.now) }
-    ensures { OnOk result ((front feed : List ℕ) × IsLineEnd feed × IsFeedAt front text.now feed
+    ensures { OnOk result ((front feed : List ℕ) × IsFeedAt front text.now feed
         × (text.now ≡ front ++ place.now.rest.now)
         × (new.new.items ≡ new.old.items ++ (front ++ (line_ends place.now.end feed
         ++ (new_line (key_of key.now).name value.now feed ++ place.now.rest.now))))) }
@@ -214,7 +214,7 @@ fn push_behind(
     key: &Key<'_>,
     value: &[u8],
 ) -> Result<(), AllocError>
-    ensures { let k = key_of key.now in OnOk result ((feed : List ℕ) × IsLineEnd feed × IsFeedAt text.now text.now feed
+    ensures { let k = key_of key.now in OnOk result ((feed : List ℕ) × IsFeedAt text.now text.now feed
         × (new.new.items ≡ new.old.items ++ (text.now ++ (line_ends end feed
         ++ ((91 ∷ spelled_section k.section k.subsection) ++ (feed ++ new_line k.name value.now feed)))))) }
 {
@@ -250,8 +250,7 @@ pub(crate) fn added(
 
 /// The line end to use behind this front of a text: its last one, otherwise that of the text, otherwise LF.
 fn line_end_at(front: &[u8], text: &[u8]) -> &'static [u8]
-    ensures is { IsLineEnd result.now }
-    ensures feed { IsFeedAt front.now text.now result.now }
+    ensures { IsFeedAt front.now text.now result.now }
 {
     match last_line_end(front) {
         Some(line_end) => line_end,

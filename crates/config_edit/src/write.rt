@@ -5,8 +5,9 @@ ghost use Rattle.config_edit.specs.Edit.{BeginsWithSign, PartsBlanks};
 ghost use Rattle.config_file.specs.Value.{Ending, SpellsValue};
 ghost use Rattle.config_file.specs.Views.{value_of};
 ghost use Rattle.config_edit.specs.Reading.{IsEndOf, IsOpenEntry, IsValued, IsPutIn, line_ends, new_line, space_if, IsCommented, IsShaped};
-ghost use Rattle.config_edit.specs.Edit.{IsEntry, WritesComment};
+ghost use Rattle.config_edit.specs.Edit.{WritesComment};
 ghost use Rattle.config_edit.specs.Cut.{AreBlank};
+ghost use Rattle.config_edit.specs.Reading.{IsEntry};
 ghost use Rattle.config_file.specs.Reading.Spellings.{is_spellable};
 ghost use Rattle.config_file.specs.Spelling.{git_spelled};
 

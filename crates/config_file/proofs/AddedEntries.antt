@@ -155,7 +155,7 @@ begins_no_mark (file.comment is run h) e = grind (arith, nat_tests)
 begins_no_mark (file.header is header h) e = omega arith
 begins_no_mark (file.entry letter takes h) e = grind (arith, nat_tests)
 
-no_mark : (b : ℕ) (text : List ℕ) → b ≢ 0xef → after_mark (b ∷ text) ≡ None
+pub no_mark : (b : ℕ) (text : List ℕ) → b ≢ 0xef → after_mark (b ∷ text) ≡ None
 no_mark b [] other = refl
 no_mark b (c ∷ []) other = refl
 no_mark b (c ∷ d ∷ text) other = let no : (b == 0xef) ≡ false = grind (arith, nat_tests) in rw no

@@ -1,4 +1,4 @@
--- A loop over the steps of a walk, which adds settings.
+-- A loop over the steps of a walk: what it comes to, and the settings that are added of that.
 use Rattle.std.proofs.Common.{arith, inl, inr, ◌≡◌, ◌≤◌, ◌++◌, ℕ, Bool, true, false, List, [], ◌∷◌, subst}
 use Rattle.std.proofs.Common.{refl, length, map}
 use Rattle.std.specs.Prelude.{Ok, Err}
@@ -33,15 +33,6 @@ use Rattle.config_file.proofs.Steps.{all_of, cut_here, walks_as}
 none_said : (name : List ℕ) (content : Content) → Said [] name content → ⊥
 none_said name content said = let below = said.1 in omega arith
 
--- what the loop keeps: the entries that are added are those that the walk has come to
-pub record Keeps (contents : List ℕ → Content → Type 0) (known : Known) (place : FilePlace) (text : List ℕ)
-    (start now : List Setting) (frames : List Frame) : Type 0 where
-  pub first : List Frame
-  pub enters : Enters [] place text first
-  pub found : List (List ℕ × Entry)
-  pub adds : AddsEach found start now
-  pub comes : Comes contents known first (map found_item found) frames
-
 module _ (contents : List ℕ → Content → Type 0) (known : Known) where
   comes_from : (old new : List Frame) (items : List (List ℕ × Item))
       → ((answers : List (List ℕ × Content)) → Passes answers known old items new)
@@ -62,7 +53,7 @@ module _ (contents : List ℕ → Content → Type 0) (known : Known) where
     λ more within. passes more (within name content (Contains-push [] (name, content))),
   )
 
-  comes_none : (frames : List Frame) → Comes contents known frames [] frames
+  pub comes_none : (frames : List Frame) → Comes contents known frames [] frames
   comes_none frames = comes_from frames frames [] (λ answers left whole has. has)
 
   comes_both : (old mid new : List Frame) (items more : List (List ℕ × Item)) → Comes contents known old items mid
@@ -154,57 +145,88 @@ module _ (contents : List ℕ → Content → Type 0) (known : Known) where
   line_next old new place at takes = comes_from old new ((place.name.now, Stops (w.Line at)) ∷ []) takes
 
   -- the end
-  pub ends_next : (settings : List Setting) (old new : List Frame)
-      → ((answers : List (List ℕ × Content)) → Takes answers known old step.Ends new)
-      → AddsNext contents known old new settings settings (Ok false)
-  ends_next settings old new takes =
-      (refl, (takes []).0, comes_from old new [] (λ answers. (takes answers).1))
+  pub ends_next : (old new : List Frame) → ((answers : List (List ℕ × Content)) → Takes answers known old step.Ends new)
+      → (new ≡ []) × Comes contents known old [] new
+  ends_next old new takes = ((takes []).0, comes_from old new [] (λ answers. (takes answers).1))
+
+-- the entries of a text that its walk has come to
+pub record Came (contents : List ℕ → Content → Type 0) (known : Known) (place : FilePlace) (text : List ℕ)
+    (frames : List Frame) : Type 0 where
+  pub first : List Frame
+  pub enters : Enters [] place text first
+  pub found : List (List ℕ × Entry)
+  pub comes : Comes contents known first (map found_item found) frames
+
+abbrev pub came_first : (contents : List ℕ → Content → Type 0) (known : Known) (place : FilePlace) (text : List ℕ)
+    (frames : List Frame) → Enters [] place text frames → Came contents known place text frames
+came_first contents known place text frames enters =
+    record { first = frames; enters = enters; found = []; comes = comes_none contents known frames }
+
+module _ {contents : List ℕ → Content → Type 0} {known : Known} {place : FilePlace} {text : List ℕ}
+    {frames : List Frame} (came : Came contents known place text frames) where
+  pub comes_on : (more : List (List ℕ × Entry)) (rest : List (List ℕ × Item)) (to : List Frame)
+      → Comes contents known frames (map found_item more ++ rest) to
+      → Comes contents known came.first (map found_item (came.found ++ more) ++ rest) to
+  comes_on more rest to step =
+      rw (map-append found_item came.found more, append_assoc (map found_item came.found) (map found_item more) rest)
+      (comes_both contents known came.first frames to (map found_item came.found) (map found_item more ++ rest)
+      came.comes step)
+
+  -- one more entry
+  abbrev pub came_on : (one : List ℕ × Entry) (to : List Frame) → Comes contents known frames (found_item one ∷ []) to
+      → Came contents known place text to
+  came_on one to step = record {
+    first = came.first;
+    enters = came.enters;
+    found = came.found ++ one ∷ [];
+    comes = rw (append-nil (map found_item (came.found ++ one ∷ []))) at (comes_on (one ∷ []) [] to step);
+  }
+
+  -- the walk that is left, if nothing more comes
+  pub walked : (more : List (List ℕ × Entry)) (rest : List (List ℕ × Item)) (to : List Frame) (whole : Bool)
+      → Comes contents known frames (map found_item more ++ rest) to
+      → ((answers : List (List ℕ × Content)) → Left (Said answers) known to [] whole)
+      → WalksText contents known place text (map found_item (came.found ++ more) ++ rest) whole
+  walked more rest to whole step ended =
+      let items = map found_item (came.found ++ more) ++ rest in
+      let (said, among, passes) = comes_on more rest to step in
+      let (entries, error, reads, walks) = all_of (Said said) known place text came.first items whole came.enters
+      (rw (append-nil items) at (passes said (λ n c is. is) [] whole (ended said))) in
+      (entries, error, reads, walks_as among whole (λ e. e) walks)
+
+  -- the walk at its end
+  pub walked_all : Comes contents known frames [] [] → WalksText contents known place text (map found_item came.found) true
+  walked_all step = rw (append-nil came.found, append-nil (map found_item came.found)) at
+      (walked [] [] [] true step (λ answers. nothing))
+
+-- what the loop keeps: the entries that are added are those that the walk has come to
+pub record Keeps (contents : List ℕ → Content → Type 0) (known : Known) (place : FilePlace) (text : List ℕ)
+    (start now : List Setting) (frames : List Frame) : Type 0 where
+  pub came : Came contents known place text frames
+  pub adds : AddsEach came.found start now
 
 pub keeps_first : (contents : List ℕ → Content → Type 0) (known : Known) (place : FilePlace) (text : List ℕ)
     (start : List Setting) (frames : List Frame) → Enters [] place text frames
     → Keeps contents known place text start start frames
 keeps_first contents known place text start frames enters =
-    record { first = frames; enters = enters; found = []; adds = adds_none start; comes = comes_none contents known frames }
+    record { came = came_first contents known place text frames enters; adds = adds_none start }
 
 module _ {contents : List ℕ → Content → Type 0} {known : Known} {place : FilePlace} {text : List ℕ}
     {start now : List Setting} {frames : List Frame} (keeps : Keeps contents known place text start now frames) where
-  comes_on : (more : List (List ℕ × Entry)) (rest : List (List ℕ × Item)) (to : List Frame)
-      → Comes contents known frames (map found_item more ++ rest) to
-      → Comes contents known keeps.first (map found_item (keeps.found ++ more) ++ rest) to
-  comes_on more rest to step =
-      rw (map-append found_item keeps.found more, append_assoc (map found_item keeps.found) (map found_item more) rest)
-      (comes_both contents known keeps.first frames to (map found_item keeps.found) (map found_item more ++ rest)
-      keeps.comes step)
-
-  -- the walk that is left, if nothing more comes
-  walked : (more : List (List ℕ × Entry)) (rest : List (List ℕ × Item)) (to : List Frame) (whole : Bool)
-      → Comes contents known frames (map found_item more ++ rest) to
-      → ((answers : List (List ℕ × Content)) → Left (Said answers) known to [] whole)
-      → WalksText contents known place text (map found_item (keeps.found ++ more) ++ rest) whole
-  walked more rest to whole step ended =
-      let items = map found_item (keeps.found ++ more) ++ rest in
-      let (said, among, passes) = comes_on more rest to step in
-      let (entries, error, reads, walks) = all_of (Said said) known place text keeps.first items whole keeps.enters
-      (rw (append-nil items) at (passes said (λ n c is. is) [] whole (ended said))) in
-      (entries, error, reads, walks_as among whole (λ e. e) walks)
-
   pub keeps_more : (newer : List Setting) (to : List Frame) (b : Bool) → b ≡ true
       → AddsNext contents known frames to now newer (Ok b) → Keeps contents known place text start newer to
   keeps_more newer to false e next = cc
   keeps_more newer to true e (one, more, step) = record {
-    first = keeps.first;
-    enters = keeps.enters;
-    found = keeps.found ++ one ∷ [];
-    adds = adds_both keeps.found (one ∷ []) start now newer keeps.adds more;
-    comes = rw (append-nil (map found_item (keeps.found ++ one ∷ []))) at (comes_on (one ∷ []) [] to step);
+    came = came_on keeps.came one to step;
+    adds = adds_both keeps.came.found (one ∷ []) start now newer keeps.adds more;
   }
 
   pub keeps_memory : (newer : List Setting) (refused : _) → length frames ≤ 11 → newer ≡ now
       → AddsWalk contents known place text start newer (Err (error.Memory refused))
   keeps_memory newer refused fits same = (
-    keeps.found,
+    keeps.came.found,
     rw same keeps.adds,
-    rw (append-nil keeps.found, append-nil (map found_item keeps.found)) at (walked [] [] frames false
+    rw (append-nil keeps.came.found, append-nil (map found_item keeps.came.found)) at (walked keeps.came [] [] frames false
         (comes_none contents known frames) (λ answers. cut_here (Said answers) known frames fits)),
   )
 
@@ -212,22 +234,18 @@ module _ {contents : List ℕ → Content → Type 0} {known : Known} {place : F
       → AddsNext contents known frames to now newer (Ok b)
       → AddsWalk contents known place text start newer (Ok u)
   keeps_end newer to true u e next = cc
-  keeps_end newer to false u e (same, none, step) = (
-    keeps.found,
-    rw same keeps.adds,
-    rw (append-nil keeps.found, append-nil (map found_item keeps.found)) at (walked [] [] to true step
-        (λ answers. rw none nothing)),
-  )
+  keeps_end newer to false u e (same, none, step) =
+      (keeps.came.found, rw same keeps.adds, walked_all keeps.came (rw none at step))
 
   pub keeps_error : (newer : List Setting) (to : List Frame) (e : AddError) → length frames ≤ 11
       → AddsNext contents known frames to now newer (Err e)
       → AddsWalk contents known place text start newer (Err e)
   keeps_error newer to (error.Memory r) fits same = keeps_memory newer r fits same
   keeps_error newer to e fits (more, file, stop, adds, tells, (last, small, step)) = (
-    keeps.found ++ more,
+    keeps.came.found ++ more,
     file,
     stop,
-    adds_both keeps.found more start now newer keeps.adds adds,
+    adds_both keeps.came.found more start now newer keeps.adds adds,
     tells,
-    walked more ((file, Stops stop) ∷ []) last false step (λ answers. cut_here (Said answers) known last small),
+    walked keeps.came more ((file, Stops stop) ∷ []) last false step (λ answers. cut_here (Said answers) known last small),
   )

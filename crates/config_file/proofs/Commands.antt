@@ -175,7 +175,7 @@ never_lacks : (value : Option (List ℕ)) → is_spellable_or_absent value ≡ t
 never_lacks None all lacks = lacks
 never_lacks (Some value) all lacks = lacks _ (git_spelling value all).0
 
-never_without_header : (section : List ℕ) (subsection : Option (List ℕ))
+pub never_without_header : (section : List ℕ) (subsection : Option (List ℕ))
     → is_section section subsection ≡ true
     → ¬ (HasNoHeader section subsection)
 never_without_header section subsection is lacks =

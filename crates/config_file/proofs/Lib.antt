@@ -43,7 +43,7 @@ pub mod ForbiddenUrls
 pub mod KeyFacts
 pub mod PatternsOnLiterals
 pub mod Steps
-mod Coming
+pub mod Coming
 pub mod Picked
 pub mod ShownTexts
 pub mod Last

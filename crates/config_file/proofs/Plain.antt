@@ -4,7 +4,8 @@ use Rattle.std.proofs.Common.{subst, arith, append_assoc, append-nil, length-app
 use Rattle.std.proofs.lemmas.Bool.{true≢false, and_parts}
 use Rattle.std.proofs.lemmas.Bool.Decides.{nat_tests}
 use Rattle.std.proofs.lemmas.List.Folds.{list_all-append}
-use Rattle.std.specs.List.{list_all}
+use Rattle.std.proofs.lemmas.List.Elements.{Contains-append_right}
+use Rattle.std.specs.List.{list_all, Contains}
 use Rattle.config_file.proofs.Spelled.{after_held, after_blanks, after_plain, word_no_quote}
 use Rattle.config_file.proofs.Spelled.{word_no_backslash}
 use Rattle.config_file.specs.Bytes.{is_blank}
@@ -41,6 +42,14 @@ passed_blank {rest = rest} {b = b} at passed e is =
           let (o, held, same, more) = passed.spells spelled ending s in
           (o, held ++ b ∷ [], (λ some. ap (λ x. x ++ b ∷ []) (same some)), after_held (rw e at more) is);
     }
+
+-- the byte that comes is one of the value
+pub byte_within : {raw blanks start rest : List ℕ} {count b : ℕ} (at : List ℕ) → Run is_blank raw blanks start
+    → PassedPlain raw start at count → at ≡ b ∷ rest → Contains raw b
+byte_within {blanks = blanks} {rest = rest} {b = b} at run passed e =
+    let front = passed.front ++ passed.gap in
+    rw (run.joined, passed.joined, e)
+    (Contains-append_right blanks (front ++ b ∷ rest) b (Contains-append_right front (b ∷ rest) b (0, omega arith, refl)))
 
 kept_is : (front gap start at held : List ℕ) → StopsRun is_blank start → start ≡ (front ++ gap) ++ at
     → list_all is_blank gap ≡ true

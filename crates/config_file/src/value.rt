@@ -1,7 +1,10 @@
 //! The value of an entry.
 ghost use Rattle.std.specs.Prelude.{◌≡◌, ◌≢◌, ℕ, List, [], ◌∷◌, ◌≤◌, length, IfOk, IfSome, OnOk, MatchOption};
 ghost use Rattle.std.specs.Prelude.{MatchResult, false};
-ghost use Rattle.std.specs.Cow.{cow_slice_items};
+ghost use Rattle.std.specs.Cow.{IsBorrowedSlice, cow_slice_items};
+ghost use Rattle.std.specs.List.{Contains};
+ghost use Rattle.std.specs.Option.{IsSome};
+ghost use Rattle.config_file.specs.Bytes.{backslash, double_quote};
 ghost use Rattle.config_file.specs.Value as spec;
 ghost use Rattle.config_file.specs.Value.{TakesValue, ValueStops, IsNoEscape, SpellsValue, kept, Ending};
 ghost use Rattle.config_file.specs.Value.{line_feeds};
@@ -62,8 +65,10 @@ impl<'a> Value<'a> {
     /// assert!(rt; text.as_slice() == b"c  d".as_slice());
     /// ```
     pub fn text(&self, alloc: Global) -> Result<CowSlice<'a, u8>, AllocError>
-        ensures { (spelled : List ℕ) (ending : Ending) → SpellsValue self.now.raw.now spelled ending
+        ensures spelled { (spelled : List ℕ) (ending : Ending) → SpellsValue self.now.raw.now spelled ending
             → IfOk result (λ text. cow_slice_items text ≡ spelled) }
+        ensures borrowed { ¬ (Contains self.now.raw.now double_quote) → ¬ (Contains self.now.raw.now backslash)
+            → MatchResult result IsBorrowedSlice (λ _. ⊥) }
     {
         match plain_text(self.raw) {
             Some(text) => Ok(CowSlice::Borrowed(text)),
@@ -111,8 +116,9 @@ impl<'a> Value<'a> {
 
 /// The text of a value as a slice of its bytes, or `None` if quotes or backslashes may change it.
 fn plain_text(raw: &[u8]) -> Option<&[u8]>
-    ensures { (spelled : List ℕ) (ending : Ending) → SpellsValue raw.now spelled ending
+    ensures spelled { (spelled : List ℕ) (ending : Ending) → SpellsValue raw.now spelled ending
         → IfSome result (λ text. text.now ≡ spelled) }
+    ensures plain { ¬ (Contains raw.now double_quote) → ¬ (Contains raw.now backslash) → IsSome result }
 {
     let (_, start) = run(raw, Class::Blank);
     let mut at = start;

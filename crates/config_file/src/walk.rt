@@ -216,7 +216,7 @@ pub struct Frame<'t> {
 
 impl Default for Frame<'_> {
     ghost is_default = { λ frame. (frame.place.name.now ≡ []) × (frame.place.real_dir.now ≡ [])
-        × HasLeft frame.entries [] None };
+        × HasLeft frame.entries [] None × (frame.forbids_urls ≡ false) };
 
     fn default() -> Self {
         let place = FilePlace {

@@ -348,7 +348,7 @@ impl<'t> Disk<'t> {
     }
 
     /// The bytes of the file that the system opens by this name.
-    fn read_opened(&self, name: &str, is_first: bool) -> Result<&'t [u8], ReadError> {
+    pub(crate) fn read_opened(&self, name: &str, is_first: bool) -> Result<&'t [u8], ReadError> {
         let file = opened(self.host, name, is_first)?;
         let length = known_length(&file, is_first)?;
         self.text(file, length)

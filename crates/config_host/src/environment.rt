@@ -136,17 +136,6 @@ pub(crate) fn kept_variable<'t>(
     }
 }
 
-/// The value of an environment variable that has to be UTF-8.
-pub(crate) fn text_variable<'t>(
-    disk: &Disk<'t>,
-    name: &'static str,
-) -> Result<Option<&'t [u8]>, HostError> {
-    match kept_variable(disk, name)? {
-        Some(value) if str::from_utf8(value).is_err() => Err(HostError::Variable(name)),
-        value => Ok(value),
-    }
-}
-
 /// The arguments of the program, which begin with its name.
 pub fn arguments(host: &HostRuntime) -> Result<Vec<String>, ArgumentError> {
     let mut all = Vec::new(host.alloc());

@@ -2,13 +2,13 @@
 
 use crate::disk::Disk;
 use crate::environment::HostError;
-use crate::error::{HereError, Refusal};
+use crate::error::HereError;
 use crate::reading::settings_at;
 use crate::repository::{Location, find};
-use crate::sources::{Named, is_there, names};
-use crate::surroundings::FoundRepository;
+use crate::sources::{Named, is_there};
 use bumpalo::Bump;
 use config_file::Settings;
+use config_search::Refusal;
 use std::alloc::AllocError;
 use std::io::{self, ErrorKind};
 
@@ -33,31 +33,21 @@ pub struct Here<'t> {
     /// The branch that is checked out, without `refs/heads/`: `None` if HEAD names none, or without a repository.
     pub branch: Option<&'t [u8]>,
     /// Why Git uses no repository although one is there. It then reads none of its settings.
-    pub refusal: Option<Refusal<'t>>,
-}
-
-/// The settings that Git reads if it works in this folder, and uses this repository.
-fn settings_in<'t>(
-    disk: &Disk<'t>,
-    folder: &[u8],
-    repository: Option<FoundRepository<'t>>,
-) -> Result<Settings<'t>, HereError<'t>> {
-    let inner = disk.within(folder)?;
-    settings_at(&inner, &names(disk, repository)?, repository)
+    pub refusal: Option<Refusal>,
 }
 
 /// What Git reads where it works.
 fn read_at<'t>(disk: &Disk<'t>, location: Location<'t>) -> Result<Here<'t>, HereError<'t>> {
-    let (folder, refusal) = (location.folder, location.refusal);
-    let repository = location.used()?;
+    let location = location.unless_stopped()?;
+    let (folder, repository) = (location.folder, location.repository);
     Ok(Here {
-        settings: settings_in(disk, folder, repository)?,
+        settings: settings_at(&disk.within(folder)?, &location.files, repository)?,
         folder,
         branch: match repository {
             Some(repository) => repository.branch,
             None => None,
         },
-        refusal,
+        refusal: location.refusal,
     })
 }
 
@@ -97,12 +87,12 @@ pub fn settings_here<'t>(
     Ok(read_here(host, texts, folder)?.settings)
 }
 
-/// Where Git works in the current folder, and its repository. A line at which Git stops is no error.
-fn found_here<'t>(disk: &Disk<'t>) -> Result<(&'t [u8], Option<FoundRepository<'t>>), HostError> {
+/// Where Git works in the current folder. A line at which Git stops is no error.
+fn found_here<'t>(disk: &Disk<'t>) -> Result<Location<'t>, HostError> {
     match find(disk, b"") {
-        Ok(location) => Ok((location.folder, location.repository)),
+        Ok(location) => Ok(location),
         Err(HereError::Host(error)) => Err(error),
-        // the current folder is there, and whatever else stops Git is kept in the location
+        // the current folder is not there, and whatever else stops Git is kept in the location
         Err(_) => Err(HostError::System(io::Error::from(ErrorKind::NotFound))),
     }
 }
@@ -129,18 +119,9 @@ fn those_there<'t>(disk: &Disk<'t>, names: &[Named<'t>]) -> io::Result<Vec<&'t [
     Ok(files)
 }
 
-/// The names by which the system opens the files that Git reads where it works.
-fn files_at<'t>(
-    disk: &Disk<'t>,
-    folder: &[u8],
-    repository: Option<FoundRepository<'t>>,
-) -> io::Result<Vec<&'t [u8]>> {
-    those_there(&disk.within(folder)?, &names(disk, repository)?)
-}
-
 /// The names of the files that Git reads in the current folder, by which the system opens them, in the order
 /// in which Git reads them. A line at which Git stops is no error here.
 pub fn files_here<'t>(disk: &Disk<'t>) -> Result<Vec<&'t [u8]>, HostError> {
-    let (folder, repository) = found_here(disk)?;
-    Ok(files_at(disk, folder, repository)?)
+    let location = found_here(disk)?;
+    Ok(those_there(&disk.within(location.folder)?, &location.files)?)
 }

@@ -2,7 +2,6 @@
 ghost use Rattle.std.specs.Prelude.{◌≡◌};
 ghost use Rattle.config_text.specs.Orders.{Equates, IsCopied};
 
-use crate::error::Refusal;
 use crate::options::{About, Ends, Given, Misuse, Takes};
 use crate::sources::{Named, Source};
 use crate::surroundings::{Followed, FoundRepository};
@@ -19,7 +18,6 @@ pub fn followed()
 pub fn copies()
     ensures sources { IsCopied ⟦<Source<'static> as Clone>⟧.is_clone ⟦<Source<'static> as Clone>⟧.is_infallible }
     ensures names { IsCopied ⟦<Named<'static> as Clone>⟧.is_clone ⟦<Named<'static> as Clone>⟧.is_infallible }
-    ensures refusals { IsCopied ⟦<Refusal<'static> as Clone>⟧.is_clone ⟦<Refusal<'static> as Clone>⟧.is_infallible }
     ensures repositories { IsCopied ⟦<FoundRepository<'static> as Clone>⟧.is_clone ⟦<FoundRepository<'static> as Clone>⟧.is_infallible }
     ensures users { IsCopied ⟦<Users<'static> as Clone>⟧.is_clone ⟦<Users<'static> as Clone>⟧.is_infallible }
     ensures times { IsCopied ⟦<When as Clone>⟧.is_clone ⟦<When as Clone>⟧.is_infallible }

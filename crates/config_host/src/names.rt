@@ -2,6 +2,7 @@
 //! kept with the texts of files.
 
 use crate::disk::Disk;
+use crate::environment::current_folder;
 use bstr::ByteSlice;
 use bumpalo::collections::into_bump_slice;
 use std::alloc::{AllocError, Global};
@@ -39,16 +40,35 @@ pub(crate) fn folder_of(name: &[u8]) -> &[u8] {
     }
 }
 
-/// The folder above this one, whose name begins at the root and has no `/` at its end.
-pub(crate) fn parent(folder: &[u8]) -> Option<&[u8]> {
-    if folder == b"/".as_slice() {
-        return None;
+/// What follows a folder in the name of a file below it or of the folder itself, or `None` if it is that of another.
+fn below_folder<'n>(name: &'n [u8], folder: &[u8]) -> Option<&'n [u8]> {
+    match name.strip_prefix(folder)? {
+        [] => Some(b""),
+        [b'/', rest @ ..] => Some(rest),
+        _ => None,
     }
-    match split_last(folder) {
-        Some(([], _)) => Some(b"/"),
-        Some((above, _)) => Some(above),
-        None => None,
+}
+
+/// The name by which the system opens a file. It opens no name that is not UTF-8, so that such a one from the root
+/// becomes that of its place as the current folder sees it, if it is one above this, or below one above.
+pub(crate) fn opened_above(host: &HostRuntime, name: &[u8]) -> io::Result<Vec<u8>> {
+    let mut steps = b".".to_vec(host.alloc())?;
+    if str::from_utf8(name).is_ok() || !name.starts_with(b"/") {
+        return Ok(name.to_vec(host.alloc())?);
     }
+    let current = current_folder(host)?;
+    let mut folder = current.as_slice();
+    for _ in 0..current.len() {
+        if let Some(rest) = below_folder(name, folder) {
+            return Ok(path_inside(host.alloc(), &steps, rest)?);
+        }
+        let Some((above, _)) = split_last(folder) else {
+            break;
+        };
+        folder = above;
+        steps.extend_from_slice(b"/..")?;
+    }
+    Ok(name.to_vec(host.alloc())?)
 }
 
 /// These parts, one after the other, as a name that is kept.
@@ -116,22 +136,6 @@ pub fn exists(host: &HostRuntime, name: &[u8]) -> io::Result<bool> {
     Ok(known_of(host, name)?.is_some())
 }
 
-/// Whether there is a folder of this name.
-pub(crate) fn is_folder(host: &HostRuntime, name: &[u8]) -> io::Result<bool> {
-    Ok(match known_of(host, name)? {
-        Some(known) => known.is_dir(),
-        None => false,
-    })
-}
-
-/// Whether there is a regular file of this name.
-pub(crate) fn is_file(host: &HostRuntime, name: &[u8]) -> io::Result<bool> {
-    Ok(match known_of(host, name)? {
-        Some(known) => known.is_file(),
-        None => false,
-    })
-}
-
 /// The name from the root without links, or `None` if the system does not know it.
 pub(crate) fn real_name(host: &HostRuntime, name: &[u8]) -> io::Result<Option<Vec<u8>>> {
     let real = answer(match text_of(name) {
@@ -150,9 +154,4 @@ pub(crate) fn resolved<'t>(disk: &Disk<'t>, name: &[u8], other: &'t [u8]) -> io:
         Some(real) => Ok(disk.kept(&real)?),
         None => Ok(other),
     }
-}
-
-/// A line without the line ends at its end.
-pub(crate) fn without_line_ends(line: &[u8]) -> &[u8] {
-    line.trim_end_with(|character| character == '\n' || character == '\r')
 }

@@ -18,6 +18,8 @@ use thiserror::Error;
 pub enum Takes {
     /// Nothing. `--no-` before its name undoes it.
     Nothing,
+    /// Nothing. `--no-` before its name undoes it. Its name is never shortened, since Git has no such option.
+    Whole,
     /// Nothing, and no option undoes it.
     Ever,
     /// Nothing, and nothing that follows it is read. Its name is never shortened.
@@ -195,7 +197,7 @@ fn exact(tables: Tables, name: &str) -> Option<Found> {
 
 /// Whether a name is the beginning of that of the option, and whether it is the beginning of its opposite.
 fn begins(row: &Row, name: &str) -> (bool, bool) {
-    if matches!(row.2, Takes::End) {
+    if matches!(row.2, Takes::End | Takes::Whole) {
         return (false, false);
     }
     let is_opposite = match name.strip_prefix("no-") {

@@ -103,37 +103,23 @@ pub fn next_entry<'t>(
     }))
 }
 
-/// The conditions that a walk looks for.
-#[derive(Clone, Copy)]
-enum Sought {
-    /// Each one.
-    Any,
-    /// Those on the URLs of remotes.
-    Urls,
-}
-
-impl Sought {
-    /// Whether an entry has such a condition.
-    fn is_of(self, alloc: Global, entry: &Entry<'_>) -> Result<bool, AllocError> {
-        let Some(section) = &entry.section else {
-            return Ok(false);
-        };
-        let Some(subsection) = &section.subsection else {
-            return Ok(false);
-        };
-        if !section.name.eq_ignore_ascii_case(b"includeif") {
-            return Ok(false);
-        }
-        if matches!(self, Sought::Any) {
-            return Ok(true);
-        }
-        let mut text = Vec::new(alloc);
-        subsection.push_text(&mut text)?;
-        Ok(matches!(Condition::parse(&text), Condition::HasRemoteUrl(_)))
+/// Whether an entry has a condition on the URLs of remotes.
+fn asks_for_urls(alloc: Global, entry: &Entry<'_>) -> Result<bool, AllocError> {
+    let Some(section) = &entry.section else {
+        return Ok(false);
+    };
+    let Some(subsection) = &section.subsection else {
+        return Ok(false);
+    };
+    if !section.name.eq_ignore_ascii_case(b"includeif") {
+        return Ok(false);
     }
+    let mut text = Vec::new(alloc);
+    subsection.push_text(&mut text)?;
+    Ok(matches!(Condition::parse(&text), Condition::HasRemoteUrl(_)))
 }
 
-/// What a walk that looks for conditions comes to.
+/// What a walk that looks for conditions on the URLs of remotes comes to.
 #[derive(Clone, Copy)]
 enum Asked {
     /// One of them.
@@ -150,7 +136,6 @@ enum Asked {
 fn asked_next<'t>(
     disk: &Disk<'t>,
     known: &Known<'_>,
-    sought: Sought,
     walk: &mut Walk<'t>,
 ) -> Result<Asked, HereError<'t>> {
     let taken = match next_entry(disk, known, walk) {
@@ -159,7 +144,7 @@ fn asked_next<'t>(
         Err(HereError::Host(error)) => return Err(HereError::Host(error)),
         Err(_) => return Ok(Asked::Stop),
     };
-    if sought.is_of(disk.host.alloc(), &taken.entry)? {
+    if asks_for_urls(disk.host.alloc(), &taken.entry)? {
         Ok(Asked::Condition)
     } else if taken.stop.is_some() {
         Ok(Asked::Stop)
@@ -172,13 +157,12 @@ fn asked_next<'t>(
 fn text_asks<'t>(
     disk: &Disk<'t>,
     known: &Known<'_>,
-    sought: Sought,
     source: &Source<'t>,
 ) -> Result<Option<bool>, HereError<'t>> {
     let disk = files_of(disk, source)?;
     let mut walk = Walk::new(source.place, source.text);
     for _ in 0..u64::MAX {
-        match asked_next(&disk, known, sought, &mut walk)? {
+        match asked_next(&disk, known, &mut walk)? {
             Asked::Condition => return Ok(Some(true)),
             Asked::Nothing => {}
             Asked::End => break,
@@ -192,26 +176,16 @@ fn text_asks<'t>(
 fn ask<'t>(
     disk: &Disk<'t>,
     known: &Known<'_>,
-    sought: Sought,
     sources: &[Source<'t>],
 ) -> Result<bool, HereError<'t>> {
     for source in sources {
-        match text_asks(disk, known, sought, source)? {
+        match text_asks(disk, known, source)? {
             Some(false) => {}
             Some(true) => return Ok(true),
             None => return Ok(false),
         }
     }
     Ok(false)
-}
-
-/// Whether walks over these texts come to a condition.
-pub fn ask_for_conditions<'t>(
-    disk: &Disk<'t>,
-    surroundings: &Surroundings<'t>,
-    sources: &[Source<'t>],
-) -> Result<bool, HereError<'t>> {
-    ask(disk, &surroundings.known(), Sought::Any, sources)
 }
 
 /// Adds the URL of a remote, if the entry has one. A key alone has none.
@@ -272,7 +246,7 @@ pub fn seek_urls<'t>(
     surroundings: &mut Surroundings<'t>,
     sources: &[Source<'t>],
 ) -> Result<(), HereError<'t>> {
-    let urls = if ask(disk, &surroundings.known(), Sought::Urls, sources)? {
+    let urls = if ask(disk, &surroundings.known(), sources)? {
         urls_of(disk, &surroundings.seeking(), sources)?
     } else {
         Vec::new(disk.host.alloc())

@@ -4,7 +4,6 @@ use crate::command::command_text;
 use crate::disk::Disk;
 use crate::environment::kept_variable;
 use crate::error::HereError;
-use crate::lines::is_on;
 use crate::names::{answer, below, exists, known_of, path_inside, text_of};
 use crate::surroundings::FoundRepository;
 use bstr::ByteSlice;
@@ -18,12 +17,13 @@ use std::{fs, io};
 /// use bumpalo::Bump;
 /// use config_file::Scope;
 /// use config_host::Disk;
-/// use config_host::sources::{is_there, names};
+/// use config_host::repository::find;
+/// use config_host::sources::is_there;
 ///
 /// let texts = Bump::new(rt.alloc());
 /// let disk = Disk::new(&rt, &texts);
-/// let files = names(&disk, None)?;
-/// assert!(rt; matches!(files.first(), Some(system) if system.scope == Scope::System));
+/// let location = find(&disk, b".").expect(&rt, "a folder");
+/// assert!(rt; matches!(location.files.first(), Some(system) if system.scope == Scope::System));
 /// assert!(rt; !is_there(&disk, b"missing")?);
 /// ```
 #[derive(Clone, Copy)]
@@ -73,106 +73,9 @@ const COMMAND: FilePlace<'static> = FilePlace {
     real_dir: b"\0",
 };
 
-/// Adds a name. An empty one is that of no file.
-fn push<'t>(names: &mut Vec<Named<'t>>, scope: Scope, name: &'t [u8]) -> Result<(), AllocError> {
-    if name.is_empty() {
-        return Ok(());
-    }
-    Ok(names.push(Named { scope, name })?)
-}
-
 /// The name of the file of the system, which may be empty.
 pub fn system_name<'t>(disk: &Disk<'t>) -> Result<&'t [u8], AllocError> {
     Ok(kept_variable(disk, "GIT_CONFIG_SYSTEM")?.unwrap_or(b"/etc/gitconfig"))
-}
-
-/// Adds the file of the system, unless GIT_CONFIG_NOSYSTEM says that it is not read.
-fn push_system<'t>(disk: &Disk<'t>, names: &mut Vec<Named<'t>>) -> Result<(), AllocError> {
-    if is_on(disk.host, "GIT_CONFIG_NOSYSTEM")? {
-        return Ok(());
-    }
-    push(names, Scope::System, system_name(disk)?)
-}
-
-/// The folder XDG_CONFIG_HOME, or `None` if it is not set, or empty.
-fn own_folder<'t>(disk: &Disk<'t>) -> Result<Option<&'t [u8]>, AllocError> {
-    match kept_variable(disk, "XDG_CONFIG_HOME")? {
-        Some(folder) if !folder.is_empty() => Ok(Some(folder)),
-        _ => Ok(None),
-    }
-}
-
-/// Adds the file of this name below the home directory, if that is known.
-fn push_home<'t>(
-    disk: &Disk<'t>,
-    names: &mut Vec<Named<'t>>,
-    name: &[u8],
-) -> Result<(), AllocError> {
-    match kept_variable(disk, "HOME")? {
-        Some(home) => push(names, Scope::Global, below(disk, home, name)?),
-        None => Ok(()),
-    }
-}
-
-/// Adds the files of the user.
-fn push_global<'t>(disk: &Disk<'t>, names: &mut Vec<Named<'t>>) -> Result<(), AllocError> {
-    match kept_variable(disk, "GIT_CONFIG_GLOBAL")? {
-        Some(name) => push(names, Scope::Global, name),
-        None => push_own(disk, names),
-    }
-}
-
-/// Adds the files of the user that no variable names.
-fn push_own<'t>(disk: &Disk<'t>, names: &mut Vec<Named<'t>>) -> Result<(), AllocError> {
-    match own_folder(disk)? {
-        Some(folder) => push(names, Scope::Global, below(disk, folder, b"git/config")?)?,
-        None => push_home(disk, names, b".config/git/config")?,
-    }
-    push_home(disk, names, b".gitconfig")
-}
-
-/// The name of a file in a git directory, as Git shows it: without `./` at its start.
-fn shown_name<'t>(disk: &Disk<'t>, folder: &[u8], name: &[u8]) -> Result<&'t [u8], AllocError> {
-    let whole = below(disk, folder, name)?;
-    match whole.strip_prefix(b"./") {
-        Some(rest) => Ok(rest.trim_start_with(|character| character == '/')),
-        None => Ok(whole),
-    }
-}
-
-/// Adds the files of a repository.
-fn push_repository<'t>(
-    disk: &Disk<'t>,
-    names: &mut Vec<Named<'t>>,
-    repository: FoundRepository<'t>,
-) -> Result<(), AllocError> {
-    let shared = shown_name(disk, repository.common_dir, b"config")?;
-    push(names, Scope::Local, shared)?;
-    if repository.has_worktree_files {
-        let own = shown_name(disk, repository.named_dir, b"config.worktree")?;
-        push(names, Scope::Worktree, own)?;
-    }
-    Ok(())
-}
-
-/// The files that no repository can change: those of the system and of the user.
-pub(crate) fn protected_names<'t>(disk: &Disk<'t>) -> Result<Vec<Named<'t>>, AllocError> {
-    let mut names = Vec::new(disk.host.alloc());
-    push_system(disk, &mut names)?;
-    push_global(disk, &mut names)?;
-    Ok(names)
-}
-
-/// The files that Git reads, whether they are there or not. They come in the order in which it reads them.
-pub fn names<'t>(
-    disk: &Disk<'t>,
-    repository: Option<FoundRepository<'t>>,
-) -> Result<Vec<Named<'t>>, AllocError> {
-    let mut names = protected_names(disk)?;
-    if let Some(repository) = repository {
-        push_repository(disk, &mut names, repository)?;
-    }
-    Ok(names)
 }
 
 /// Whether a folder of the work trees of a repository has one: it has the name of the file `.git` of that tree.

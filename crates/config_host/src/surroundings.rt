@@ -8,9 +8,8 @@ use config_file::{Directories, Includes, Known, Repository, Urls};
 use std::alloc::AllocError;
 use std::io;
 
-/// Whether a text has a section of includes, whose name follows a `[` at once.
-pub fn has_includes(text: &[u8]) -> bool {
-    let name = b"include";
+/// Whether a text has a section whose name begins with this one, which follows a `[` at once.
+fn has_section(text: &[u8], name: &[u8]) -> bool {
     let mut rest = text;
     for _ in 0..text.len() {
         let at = rest.find_byte(b'[').unwrap_or(rest.len());
@@ -25,6 +24,16 @@ pub fn has_includes(text: &[u8]) -> bool {
         }
     }
     false
+}
+
+/// Whether a text has a section of includes.
+pub fn has_includes(text: &[u8]) -> bool {
+    has_section(text, b"include")
+}
+
+/// Whether a text has a section of includes on a condition.
+pub fn has_conditions(text: &[u8]) -> bool {
+    has_section(text, b"includeif")
 }
 
 /// Which includes a program follows.

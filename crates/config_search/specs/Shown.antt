@@ -4,6 +4,8 @@ use Rattle.config_search.specs.System.{IsOpen}
 use Rattle.config_search.specs.declared.fact.Fact.{Fact}
 use Rattle.config_search.specs.declared.fact.Stop.{Stop}
 use Rattle.config_search.specs.declared.fact.Stop.TheVariants.{Ask, Memory}
+use Rattle.config_search.specs.declared.halt.Halt.{Halt}
+use Rattle.config_search.specs.declared.halt.Halt.TheVariants.{Stopped, Fault}
 use Rattle.config_search.specs.Rule as rule
 use Rattle.config_search.specs.declared.git_dir.Common.{Common}
 use Rattle.config_search.specs.declared.seek.Form.{Form}
@@ -31,3 +33,12 @@ form_of Bare = rule.IsBare
 -- the git directory that the program shows
 abbrev pub git_dir_of : GitDir → rule.GitDir
 git_dir_of it = record { name = it.name.items; named = it.named.items; form = form_of it.form }
+
+-- a question that stops the part of a search that reads settings is one that no fact answers
+abbrev pub IsNewHalt : List Fact → Halt → Type 0
+IsNewHalt facts (Stopped stop) = IsNew facts stop
+IsNewHalt facts (Fault fault) = Unit {0}
+
+-- it is no question that stops the search
+abbrev pub AsksNothing : Halt → Type 0
+AsksNothing halt = (facts : List Fact) → IsNewHalt facts halt

@@ -1,4 +1,6 @@
 //! The files that Git reads, in its order.
+ghost use Rattle.std.specs.Prelude.{IfErr};
+ghost use Rattle.config_search.specs.Shown.{IsNew};
 
 use crate::VARIABLE;
 use crate::answer::Named;
@@ -18,7 +20,9 @@ fn push(names: &mut Vec<Named>, scope: Scope, name: Vec<u8>) -> Result<(), Alloc
 }
 
 /// Adds the file of the system, unless GIT_CONFIG_NOSYSTEM says that it is not read.
-fn push_system(asked: &Asked<'_, '_>, names: &mut Vec<Named>) -> Result<(), Stop> {
+fn push_system(asked: &Asked<'_, '_>, names: &mut Vec<Named>) -> Result<(), Stop>
+    ensures { IfErr result (IsNew asked.now.facts.now) }
+{
     if is_on(asked, b"GIT_CONFIG_NOSYSTEM")? {
         return Ok(());
     }
@@ -41,7 +45,9 @@ fn push_home(
 
 /// Adds the files of the user that no variable names: one in XDG_CONFIG_HOME, if that is not empty, or in `.config` of
 /// the home folder, and one in the home folder.
-fn push_own(asked: &Asked<'_, '_>, names: &mut Vec<Named>) -> Result<(), Stop> {
+fn push_own(asked: &Asked<'_, '_>, names: &mut Vec<Named>) -> Result<(), Stop>
+    ensures { IfErr result (IsNew asked.now.facts.now) }
+{
     let own = told(asked, VARIABLE, b"XDG_CONFIG_HOME")?;
     let home = told(asked, VARIABLE, b"HOME")?;
     match own {
@@ -55,7 +61,9 @@ fn push_own(asked: &Asked<'_, '_>, names: &mut Vec<Named>) -> Result<(), Stop> {
 }
 
 /// The files that no repository can change: those of the system and of the user.
-pub(crate) fn protected_files(asked: &Asked<'_, '_>) -> Result<Vec<Named>, Stop> {
+pub(crate) fn protected_files(asked: &Asked<'_, '_>) -> Result<Vec<Named>, Stop>
+    ensures { IfErr result (IsNew asked.now.facts.now) }
+{
     let mut names = Vec::new(asked.alloc);
     push_system(asked, &mut names)?;
     match told(asked, VARIABLE, b"GIT_CONFIG_GLOBAL")? {

@@ -1,4 +1,6 @@
 //! The format of a repository: its version, its extensions, and whether it is bare.
+ghost use Rattle.std.specs.Prelude.{IfOk, IfErr};
+ghost use Rattle.config_search.specs.Shown.{IsNewHalt, AsksNothing};
 
 use crate::answer::{FaultKind, Refusal};
 use crate::fact::{Asked, told, told_in};
@@ -89,7 +91,9 @@ fn store_in(alloc: Global, text: &[u8]) -> Result<Option<Store>, AllocError> {
 }
 
 /// What GIT_REFERENCE_BACKEND says of how references are stored, or `None` if it is not set.
-pub(crate) fn given_store(asked: &Asked<'_, '_>) -> Result<Option<Store>, Halt> {
+pub(crate) fn given_store(asked: &Asked<'_, '_>) -> Result<Option<Store>, Halt>
+    ensures { IfErr result (IsNewHalt asked.now.facts.now) }
+{
     let Some(given) = told(asked, VARIABLE, b"GIT_REFERENCE_BACKEND")? else {
         return Ok(None);
     };
@@ -107,7 +111,9 @@ fn stop<F: fmt::Display + Drop>(
     alloc: Global,
     setting: &Setting<'_>,
     why: F,
-) -> Result<Halt, AllocError> {
+) -> Result<Halt, AllocError>
+    ensures { IfOk result AsksNothing }
+{
     let (file, line) = (setting.file, setting.entry.line);
     let whole = format!(in alloc; "{}", setting.refused(why))?;
     // the place of the setting comes first, which is told apart
@@ -120,7 +126,9 @@ fn stop<F: fmt::Display + Drop>(
 }
 
 /// The boolean of a setting.
-fn boolean(alloc: Global, setting: &Setting<'_>) -> Result<bool, Halt> {
+fn boolean(alloc: Global, setting: &Setting<'_>) -> Result<bool, Halt>
+    ensures { IfErr result AsksNothing }
+{
     match setting.read::<Boolean>() {
         Ok(boolean) => Ok(boolean.0),
         Err(refused) => Err(stop(alloc, setting, refused.fault)?),
@@ -128,7 +136,9 @@ fn boolean(alloc: Global, setting: &Setting<'_>) -> Result<bool, Halt> {
 }
 
 /// The text of a setting, which needs one.
-fn text<'s>(alloc: Global, setting: &'s Setting<'_>) -> Result<&'s [u8], Halt> {
+fn text<'s>(alloc: Global, setting: &'s Setting<'_>) -> Result<&'s [u8], Halt>
+    ensures { IfErr result AsksNothing }
+{
     match setting.value.as_deref() {
         Some(text) => Ok(text),
         None => Err(stop(alloc, setting, "no value")?),
@@ -136,7 +146,9 @@ fn text<'s>(alloc: Global, setting: &'s Setting<'_>) -> Result<&'s [u8], Halt> {
 }
 
 /// The version that a setting has.
-fn version(alloc: Global, setting: &Setting<'_>) -> Result<i32, Halt> {
+fn version(alloc: Global, setting: &Setting<'_>) -> Result<i32, Halt>
+    ensures { IfErr result AsksNothing }
+{
     match Integer::from_bytes::<i32>(setting.text()) {
         Ok(version) => Ok(version),
         Err(error) => Err(stop(alloc, setting, error.fault)?),
@@ -144,7 +156,9 @@ fn version(alloc: Global, setting: &Setting<'_>) -> Result<i32, Halt> {
 }
 
 /// Whether an extension may have the value of this setting.
-fn is_right(alloc: Global, setting: &Setting<'_>, extension: Extension) -> Result<bool, Halt> {
+fn is_right(alloc: Global, setting: &Setting<'_>, extension: Extension) -> Result<bool, Halt>
+    ensures { IfErr result AsksNothing }
+{
     match extension {
         Extension::Unknown | Extension::Any => Ok(true),
         Extension::Boolean => {
@@ -161,7 +175,9 @@ fn is_right(alloc: Global, setting: &Setting<'_>, extension: Extension) -> Resul
 }
 
 /// Whether an extension is known. It then has to have a value that it may have.
-fn is_extension(alloc: Global, setting: &Setting<'_>, extension: Extension) -> Result<bool, Halt> {
+fn is_extension(alloc: Global, setting: &Setting<'_>, extension: Extension) -> Result<bool, Halt>
+    ensures { IfErr result AsksNothing }
+{
     if matches!(extension, Extension::Unknown) {
         return Ok(false);
     }
@@ -197,7 +213,9 @@ impl Format {
     }
 
     /// Takes an extension of this name, in lower case.
-    fn extend(&mut self, alloc: Global, setting: &Setting<'_>, name: &[u8]) -> Result<(), Halt> {
+    fn extend(&mut self, alloc: Global, setting: &Setting<'_>, name: &[u8]) -> Result<(), Halt>
+        ensures { IfErr result AsksNothing }
+    {
         if is_extension(alloc, setting, early(name))? {
             return Ok(());
         }
@@ -213,7 +231,9 @@ impl Format {
         alloc: Global,
         setting: &Setting<'_>,
         key: &[u8],
-    ) -> Result<(), Halt> {
+    ) -> Result<(), Halt>
+        ensures { IfErr result AsksNothing }
+    {
         match key {
             b"core.bare" => self.is_bare = boolean(alloc, setting)?,
             b"core.worktree" => {
@@ -225,7 +245,9 @@ impl Format {
     }
 
     /// Takes what a setting of this key says.
-    fn take_named(&mut self, alloc: Global, setting: &Setting<'_>, key: &[u8]) -> Result<(), Halt> {
+    fn take_named(&mut self, alloc: Global, setting: &Setting<'_>, key: &[u8]) -> Result<(), Halt>
+        ensures { IfErr result AsksNothing }
+    {
         match key {
             b"core.repositoryformatversion" => self.version = Some(version(alloc, setting)?),
             b"extensions.worktreeconfig" => self.has_worktree_files = boolean(alloc, setting)?,
@@ -249,17 +271,21 @@ impl Format {
         folder: &[u8],
         name: &[u8],
         is_own: bool,
-    ) -> Result<(), Halt> {
+    ) -> Result<(), Halt>
+        ensures { IfErr result (IsNewHalt asked.now.facts.now) }
+    {
         let Some(text) = told_in(asked, SETTINGS, folder, name)? else {
             return Ok(());
         };
         let file = inside(asked.alloc, folder, name)?;
-        for setting in &settings_in(asked.alloc, &file, text)?.entries {
+        for setting in &settings_in(asked, &file, text)?.entries {
             let key = setting.entry.key_text(asked.alloc)?;
             if is_own {
-                self.take_work_tree(asked.alloc, setting, &key)?;
-            } else {
-                self.take_named(asked.alloc, setting, &key)?;
+                if let Err(halt) = self.take_work_tree(asked.alloc, setting, &key) {
+                    return Err(halt);
+                }
+            } else if let Err(halt) = self.take_named(asked.alloc, setting, &key) {
+                return Err(halt);
             }
         }
         Ok(())
@@ -279,17 +305,25 @@ impl Format {
 }
 
 /// The entries of a text.
-fn settings_in<'s>(alloc: Global, file: &'s [u8], text: &'s [u8]) -> Result<Settings<'s>, Halt> {
-    let mut settings = Settings::new(alloc);
-    match settings.add_file(alloc, file, text) {
+fn settings_in<'s>(
+    asked: &Asked<'_, '_>,
+    file: &'s [u8],
+    text: &'s [u8],
+) -> Result<Settings<'s>, Halt>
+    ensures { IfErr result (IsNewHalt asked.now.facts.now) }
+{
+    let mut settings = Settings::new(asked.alloc);
+    match settings.add_file(asked.alloc, file, text) {
         Ok(()) => Ok(settings),
-        Err(AddError::Line { file, error }) => Err(at_line(alloc, file, error)?),
+        Err(AddError::Line { file, error }) => Err(at_line(asked.alloc, file, error)?),
         Err(_) => Err(Halt::from(AllocError)),
     }
 }
 
 /// The format that the file of a repository states. A file that states no version states nothing.
-fn stated(asked: &Asked<'_, '_>, common: &[u8]) -> Result<Format, Halt> {
+fn stated(asked: &Asked<'_, '_>, common: &[u8]) -> Result<Format, Halt>
+    ensures { IfErr result (IsNewHalt asked.now.facts.now) }
+{
     let mut format = Format::new();
     format.take_file(asked, common, b"config", false)?;
     match format.version {
@@ -303,7 +337,9 @@ pub(crate) fn format_of(
     asked: &Asked<'_, '_>,
     git_dir: &[u8],
     common: &Common,
-) -> Result<Format, Halt> {
+) -> Result<Format, Halt>
+    ensures { IfErr result (IsNewHalt asked.now.facts.now) }
+{
     let mut format = stated(asked, common.or(git_dir))?;
     if format.has_worktree_files {
         format.take_file(asked, git_dir, b"config.worktree", true)?;

@@ -1,5 +1,6 @@
 //! Why the part of a search that reads settings stops.
-ghost use Rattle.std.specs.Prelude.{◌≡◌};
+ghost use Rattle.config_search.specs.Shown.{AsksNothing};
+ghost use Rattle.std.specs.Prelude.{◌≡◌, IfOk};
 ghost use Rattle.config_search.specs.declared.fact.Stop.TheVariants.{Memory};
 ghost use Rattle.config_search.specs.declared.halt.Halt.TheVariants.{Stopped};
 
@@ -39,7 +40,9 @@ pub(crate) fn fault(
     file: &[u8],
     line: usize,
     reason: &[u8],
-) -> Result<Halt, AllocError> {
+) -> Result<Halt, AllocError>
+    ensures { IfOk result AsksNothing }
+{
     Ok(Halt::Fault(Fault {
         kind,
         file: file.to_vec(alloc)?,

@@ -1,4 +1,6 @@
 //! The branch to which HEAD of a git directory leads.
+ghost use Rattle.std.specs.Prelude.{IfErr};
+ghost use Rattle.config_search.specs.Shown.{IsNew};
 
 use crate::fact::{Asked, Stop, told_in};
 use crate::format::Store;
@@ -69,7 +71,9 @@ fn reference_in(text: &[u8]) -> Reference<'_> {
 }
 
 /// The reference that is kept in the file of this name in a folder, to which a link may lead.
-fn text_at<'t>(asked: &Asked<'_, 't>, folder: &[u8], name: &[u8]) -> Result<Reference<'t>, Stop> {
+fn text_at<'t>(asked: &Asked<'_, 't>, folder: &[u8], name: &[u8]) -> Result<Reference<'t>, Stop>
+    ensures { IfErr result (IsNew asked.now.facts.now) }
+{
     match told_in(asked, TEXT, folder, name)? {
         Some(text) => Ok(reference_in(text)),
         None => Ok(Reference::Broken),
@@ -77,7 +81,9 @@ fn text_at<'t>(asked: &Asked<'_, 't>, folder: &[u8], name: &[u8]) -> Result<Refe
 }
 
 /// The reference that is kept where this link leads.
-fn linked_at<'t>(asked: &Asked<'_, 't>, folder: &[u8], name: &[u8]) -> Result<Reference<'t>, Stop> {
+fn linked_at<'t>(asked: &Asked<'_, 't>, folder: &[u8], name: &[u8]) -> Result<Reference<'t>, Stop>
+    ensures { IfErr result (IsNew asked.now.facts.now) }
+{
     match told_in(asked, LINK, folder, name)? {
         Some(target) if target.starts_with(b"refs/") && is_reference(target) => {
             Ok(Reference::Symbolic(target))
@@ -94,7 +100,9 @@ fn reference_at<'t>(
     asked: &Asked<'_, 't>,
     folder: &[u8],
     name: &[u8],
-) -> Result<Reference<'t>, Stop> {
+) -> Result<Reference<'t>, Stop>
+    ensures { IfErr result (IsNew asked.now.facts.now) }
+{
     match told_in(asked, KIND, folder, name)? {
         None | Some(b"folder") => Ok(Reference::Last),
         Some(b"link") => linked_at(asked, folder, name),
@@ -133,7 +141,9 @@ fn references_in(
 }
 
 /// Where a git directory keeps references.
-fn references_of(asked: &Asked<'_, '_>, git_dir: &[u8], store: &Store) -> Result<References, Stop> {
+fn references_of(asked: &Asked<'_, '_>, git_dir: &[u8], store: &Store) -> Result<References, Stop>
+    ensures { IfErr result (IsNew asked.now.facts.now) }
+{
     let linked = linked_folder(asked, git_dir)?;
     if let Some(place) = &store.place {
         return Ok(references_in(asked, git_dir, &linked, store, place)?);
@@ -147,7 +157,9 @@ fn references_of(asked: &Asked<'_, '_>, git_dir: &[u8], store: &Store) -> Result
 
 impl References {
     /// The reference of this name.
-    fn get<'t>(&self, asked: &Asked<'_, 't>, name: &[u8]) -> Result<Reference<'t>, Stop> {
+    fn get<'t>(&self, asked: &Asked<'_, 't>, name: &[u8]) -> Result<Reference<'t>, Stop>
+        ensures { IfErr result (IsNew asked.now.facts.now) }
+    {
         let folder = if name == b"HEAD".as_slice() {
             &self.own
         } else {
@@ -168,7 +180,9 @@ pub(crate) fn branch_of<'t>(
     asked: &Asked<'_, 't>,
     git_dir: &[u8],
     store: &Store,
-) -> Result<Option<&'t [u8]>, Stop> {
+) -> Result<Option<&'t [u8]>, Stop>
+    ensures { IfErr result (IsNew asked.now.facts.now) }
+{
     let references = references_of(asked, git_dir, store)?;
     let mut name: &'t [u8] = b"HEAD";
     for _ in 0..DEPTH {

@@ -29,6 +29,7 @@
 //! | [`HOME`] | of a user | the home folder of this user | no such user |
 #![tactic(auto)]
 
+mod ahead;
 pub mod answer;
 pub mod fact;
 mod files;

@@ -1,4 +1,6 @@
 //! Which repositories Git trusts: those of the same owner, and those that settings name which no repository can change.
+ghost use Rattle.std.specs.Prelude.{IfErr};
+ghost use Rattle.config_search.specs.Shown.{IsNew, IsNewHalt};
 
 use crate::answer::{FaultKind, Refusal};
 use crate::fact::{Asked, Stop, told};
@@ -21,7 +23,9 @@ fn number_of(text: Option<&[u8]>) -> Option<u32> {
 
 /// Whether the file of this name, which may be a link, belongs to the user. To root it also belongs if its owner became
 /// root by sudo.
-fn is_owned(asked: &Asked<'_, '_>, name: &[u8]) -> Result<bool, Stop> {
+fn is_owned(asked: &Asked<'_, '_>, name: &[u8]) -> Result<bool, Stop>
+    ensures { IfErr result (IsNew asked.now.facts.now) }
+{
     let owner = number_of(told(asked, OWNER, name)?);
     if owner.is_none() {
         return Ok(false);
@@ -35,7 +39,9 @@ fn is_owned(asked: &Asked<'_, '_>, name: &[u8]) -> Result<bool, Stop> {
 
 /// Whether all files that have to belong to the user do: the folder in which a git directory is found, and for `.git` of
 /// a folder also this file and the git directory. A variable may say that they do not, which Git has for tests.
-fn are_owned(asked: &Asked<'_, '_>, folder: &[u8], git_dir: &GitDir) -> Result<bool, Stop> {
+fn are_owned(asked: &Asked<'_, '_>, folder: &[u8], git_dir: &GitDir) -> Result<bool, Stop>
+    ensures { IfErr result (IsNew asked.now.facts.now) }
+{
     if is_on(asked, b"GIT_TEST_ASSUME_DIFFERENT_OWNER")? {
         return Ok(false);
     }
@@ -52,7 +58,9 @@ fn are_owned(asked: &Asked<'_, '_>, folder: &[u8], git_dir: &GitDir) -> Result<b
 }
 
 /// The path that a value of `safe.directory` spells, or `None` if it begins with a folder that is not known.
-fn spelled(asked: &Asked<'_, '_>, value: &[u8]) -> Result<Option<Vec<u8>>, Stop> {
+fn spelled(asked: &Asked<'_, '_>, value: &[u8]) -> Result<Option<Vec<u8>>, Stop>
+    ensures { IfErr result (IsNew asked.now.facts.now) }
+{
     let directories = Directories {
         home: told(asked, VARIABLE, b"HOME")?,
         install_dir: None,
@@ -64,7 +72,9 @@ fn spelled(asked: &Asked<'_, '_>, value: &[u8]) -> Result<Option<Vec<u8>>, Stop>
 }
 
 /// Whether the folder is below the one of this name, whose links are resolved.
-fn is_below(asked: &Asked<'_, '_>, name: &[u8], folder: &[u8]) -> Result<bool, Stop> {
+fn is_below(asked: &Asked<'_, '_>, name: &[u8], folder: &[u8]) -> Result<bool, Stop>
+    ensures { IfErr result (IsNew asked.now.facts.now) }
+{
     let above = if name.is_empty() { b"/" } else { name };
     let Some(real) = told(asked, REAL, above)? else {
         return Ok(false);
@@ -76,7 +86,9 @@ fn is_below(asked: &Asked<'_, '_>, name: &[u8], folder: &[u8]) -> Result<bool, S
 }
 
 /// Whether a path from the root is that of a folder, or is one above it that ends with `/*`.
-fn covers(asked: &Asked<'_, '_>, path: &[u8], folder: &[u8]) -> Result<bool, Stop> {
+fn covers(asked: &Asked<'_, '_>, path: &[u8], folder: &[u8]) -> Result<bool, Stop>
+    ensures { IfErr result (IsNew asked.now.facts.now) }
+{
     if let Some(above) = path.strip_suffix(b"/*") {
         return is_below(asked, above, folder);
     }
@@ -90,7 +102,9 @@ fn names_folder(
     start: &[u8],
     value: &[u8],
     folder: &[u8],
-) -> Result<bool, Stop> {
+) -> Result<bool, Stop>
+    ensures { IfErr result (IsNew asked.now.facts.now) }
+{
     let Some(path) = spelled(asked, value)? else {
         return Ok(false);
     };
@@ -110,7 +124,9 @@ fn name_as_safe(
     said: &[Said],
     start: &[u8],
     folder: &[u8],
-) -> Result<bool, Stop> {
+) -> Result<bool, Stop>
+    ensures { IfErr result (IsNew asked.now.facts.now) }
+{
     let mut is_safe = false;
     for setting in said {
         if !setting.is_bare {
@@ -125,7 +141,9 @@ fn name_as_safe(
 }
 
 /// Whether the last setting of `safe.bareRepository` lets Git find bare repositories, which needs one of two words.
-fn allow_bare(asked: &Asked<'_, '_>, said: &[Said]) -> Result<bool, Halt> {
+fn allow_bare(asked: &Asked<'_, '_>, said: &[Said]) -> Result<bool, Halt>
+    ensures { IfErr result (IsNewHalt asked.now.facts.now) }
+{
     let mut may_be = true;
     for setting in said {
         if setting.is_bare {
@@ -155,7 +173,9 @@ fn refuses_bare(
     asked: &Asked<'_, '_>,
     start: &[u8],
     folder: Folder<'_>,
-) -> Result<Option<Refusal>, Halt> {
+) -> Result<Option<Refusal>, Halt>
+    ensures { IfErr result (IsNewHalt asked.now.facts.now) }
+{
     let may_be = allow_bare(asked, &protected_settings(asked, start)?)?;
     let real = told(asked, REAL, opened(folder.name))?.unwrap_or(folder.path);
     if may_be || is_in_work_tree(real) {
@@ -169,7 +189,9 @@ fn refuses_owner(
     asked: &Asked<'_, '_>,
     start: &[u8],
     folder: Folder<'_>,
-) -> Result<Option<Refusal>, Halt> {
+) -> Result<Option<Refusal>, Halt>
+    ensures { IfErr result (IsNewHalt asked.now.facts.now) }
+{
     let Some(real) = told(asked, REAL, opened(folder.name))? else {
         return Ok(Some(Refusal::Owner(folder.path.to_vec(asked.alloc)?)));
     };
@@ -185,7 +207,9 @@ pub(crate) fn refuses(
     start: &[u8],
     folder: Folder<'_>,
     git_dir: &GitDir,
-) -> Result<Option<Refusal>, Halt> {
+) -> Result<Option<Refusal>, Halt>
+    ensures { IfErr result (IsNewHalt asked.now.facts.now) }
+{
     if git_dir.form == Form::Given {
         return Ok(None);
     }

@@ -1,5 +1,8 @@
 //! The search.
+ghost use Rattle.std.specs.Prelude.{IfErr};
+ghost use Rattle.config_search.specs.Shown.{IsNew, IsNewHalt};
 
+use crate::ahead::ask_ahead;
 use crate::answer::{Answer, Fault, FaultKind, Named, Outcome, Refusal, Repository};
 use crate::fact::{Asked, Fact, Stop, told};
 use crate::files::{protected_files, push_repository};
@@ -36,7 +39,9 @@ fn named_top(
     asked: &Asked<'_, '_>,
     site: &Site<'_>,
     format: &Format,
-) -> Result<Option<Vec<u8>>, Stop> {
+) -> Result<Option<Vec<u8>>, Stop>
+    ensures { IfErr result (IsNew asked.now.facts.now) }
+{
     let top = match told(asked, VARIABLE, b"GIT_WORK_TREE")? {
         Some(top) => inside(asked.alloc, site.start.name, top)?,
         None => match &format.work_tree {
@@ -57,7 +62,9 @@ fn is_below(folder: &[u8], top: &[u8]) -> bool {
 
 /// The name of a git directory in the folder in which Git starts: the same as in the folder in which it is found, if
 /// that is this one, and otherwise its path.
-fn name_here(asked: &Asked<'_, '_>, site: &Site<'_>) -> Result<Vec<u8>, Stop> {
+fn name_here(asked: &Asked<'_, '_>, site: &Site<'_>) -> Result<Vec<u8>, Stop>
+    ensures { IfErr result (IsNew asked.now.facts.now) }
+{
     if site.folder.name == site.start.name {
         return Ok(site.git_dir.named.to_vec(asked.alloc)?);
     }
@@ -88,11 +95,9 @@ impl WorkFolder {
 }
 
 /// The folder in which Git works: the top of the work tree if it starts below it, and otherwise where it starts.
-fn work_folder(
-    asked: &Asked<'_, '_>,
-    site: &Site<'_>,
-    format: &Format,
-) -> Result<WorkFolder, Stop> {
+fn work_folder(asked: &Asked<'_, '_>, site: &Site<'_>, format: &Format) -> Result<WorkFolder, Stop>
+    ensures { IfErr result (IsNew asked.now.facts.now) }
+{
     let git_dir = &site.git_dir;
     let start = site.start;
     match named_top(asked, site, format)? {
@@ -116,7 +121,9 @@ fn work_folder(
 }
 
 /// The name of the folder that work trees share, as Git shows it.
-fn shown_common(asked: &Asked<'_, '_>, common: &Common, named_dir: &[u8]) -> Result<Vec<u8>, Stop> {
+fn shown_common(asked: &Asked<'_, '_>, common: &Common, named_dir: &[u8]) -> Result<Vec<u8>, Stop>
+    ensures { IfErr result (IsNew asked.now.facts.now) }
+{
     let Common::Linked(folder) = common else {
         return Ok(named_dir.to_vec(asked.alloc)?);
     };
@@ -127,7 +134,9 @@ fn shown_common(asked: &Asked<'_, '_>, common: &Common, named_dir: &[u8]) -> Res
 }
 
 /// A name from the root without links, or the other name if the system knows none.
-fn real_or(asked: &Asked<'_, '_>, name: &[u8], other: &[u8]) -> Result<Vec<u8>, Stop> {
+fn real_or(asked: &Asked<'_, '_>, name: &[u8], other: &[u8]) -> Result<Vec<u8>, Stop>
+    ensures { IfErr result (IsNew asked.now.facts.now) }
+{
     Ok(
         told(asked, REAL, name)?
             .unwrap_or(other)
@@ -141,7 +150,9 @@ fn repository_in(
     site: &Site<'_>,
     place: &WorkFolder,
     format: &Format,
-) -> Result<Repository, Stop> {
+) -> Result<Repository, Stop>
+    ensures { IfErr result (IsNew asked.now.facts.now) }
+{
     let path = inside(asked.alloc, &place.path, &place.named_dir)?;
     let branch = match branch_of(asked, &site.git_dir.name, &format.store)? {
         Some(branch) => Some(branch.to_vec(asked.alloc)?),
@@ -158,7 +169,9 @@ fn repository_in(
 }
 
 /// Where Git works with this git directory, if it may have this format.
-fn located(asked: &Asked<'_, '_>, site: &Site<'_>, format: &Format) -> Result<Place, Stop> {
+fn located(asked: &Asked<'_, '_>, site: &Site<'_>, format: &Format) -> Result<Place, Stop>
+    ensures { IfErr result (IsNew asked.now.facts.now) }
+{
     if let Some(refusal) = format.refusal(asked.alloc)? {
         return Ok(Place::new(asked.alloc, site.folder, Outcome::Refuses(refusal))?);
     }
@@ -185,7 +198,10 @@ fn or_stops(
     asked: &Asked<'_, '_>,
     folder: Folder<'_>,
     place: Result<Place, Halt>,
-) -> Result<Place, Stop> {
+) -> Result<Place, Stop>
+    ensures { IfErr place (IsNewHalt asked.now.facts.now)
+        → IfErr result (IsNew asked.now.facts.now) }
+{
     match place {
         Ok(place) => Ok(place),
         Err(Halt::Stopped(stop)) => Err(stop),
@@ -194,7 +210,9 @@ fn or_stops(
 }
 
 /// Where Git works with this git directory, in which references are stored as it is given.
-fn used(asked: &Asked<'_, '_>, site: &Site<'_>, given: Option<Store>) -> Result<Place, Halt> {
+fn used(asked: &Asked<'_, '_>, site: &Site<'_>, given: Option<Store>) -> Result<Place, Halt>
+    ensures { IfErr result (IsNewHalt asked.now.facts.now) }
+{
     let mut format = format_of(asked, &site.git_dir.name, &site.common)?;
     format.store = given.unwrap_or(format.store);
     Ok(located(asked, site, &format)?)
@@ -206,7 +224,9 @@ fn site_of<'t>(
     start: Folder<'t>,
     folder: Folder<'t>,
     git_dir: GitDir,
-) -> Result<Site<'t>, Halt> {
+) -> Result<Site<'t>, Halt>
+    ensures { IfErr result (IsNewHalt asked.now.facts.now) }
+{
     let common = common_of(asked, &git_dir.name)?;
     if matches!(common, Common::Broken) {
         let file = inside(asked.alloc, &git_dir.name, b"commondir")?;
@@ -222,7 +242,9 @@ fn site_of<'t>(
 }
 
 /// What Git does with this git directory, if it trusts it.
-fn trusted(asked: &Asked<'_, '_>, site: &Site<'_>) -> Result<Place, Halt> {
+fn trusted(asked: &Asked<'_, '_>, site: &Site<'_>) -> Result<Place, Halt>
+    ensures { IfErr result (IsNewHalt asked.now.facts.now) }
+{
     let start = site.start;
     if let Some(refusal) = refuses(asked, start.name, site.folder, &site.git_dir)? {
         given_store(asked)?;
@@ -233,7 +255,9 @@ fn trusted(asked: &Asked<'_, '_>, site: &Site<'_>) -> Result<Place, Halt> {
 }
 
 /// What Git does where it starts in this folder.
-fn place_of<'t>(asked: &Asked<'_, 't>, start: Folder<'t>) -> Result<Place, Halt> {
+fn place_of<'t>(asked: &Asked<'_, 't>, start: Folder<'t>) -> Result<Place, Halt>
+    ensures { IfErr result (IsNewHalt asked.now.facts.now) }
+{
     let outcome = match seek(asked, start)? {
         Found::In(folder, git_dir) => {
             return trusted(asked, &site_of(asked, start, folder, git_dir)?);
@@ -246,7 +270,9 @@ fn place_of<'t>(asked: &Asked<'_, 't>, start: Folder<'t>) -> Result<Place, Halt>
 }
 
 /// The files that Git reads where it does this.
-fn files_of(asked: &Asked<'_, '_>, outcome: &Outcome) -> Result<Vec<Named>, Stop> {
+fn files_of(asked: &Asked<'_, '_>, outcome: &Outcome) -> Result<Vec<Named>, Stop>
+    ensures { IfErr result (IsNew asked.now.facts.now) }
+{
     let mut files = protected_files(asked)?;
     if let Outcome::Uses(repository) = outcome {
         let own = if repository.has_worktree_files {
@@ -273,7 +299,9 @@ fn nowhere(alloc: Global, folder: &[u8]) -> Result<Place, AllocError> {
 }
 
 /// What Git reads in a folder, or the question that no fact answers yet.
-fn answer_by<'t>(asked: &Asked<'_, 't>, folder: &'t [u8]) -> Result<Answer, Stop> {
+fn answer_by<'t>(asked: &Asked<'_, 't>, folder: &'t [u8]) -> Result<Answer, Stop>
+    ensures { IfErr result (IsNew asked.now.facts.now) }
+{
     let place = match folder_of_name(asked, folder)? {
         Some(start) => or_stops(asked, start, place_of(asked, start))?,
         None => nowhere(asked.alloc, folder)?,
@@ -297,7 +325,10 @@ fn answer_by<'t>(asked: &Asked<'_, 't>, folder: &'t [u8]) -> Result<Answer, Stop
 /// assert_eq!(rt; question.subject, VARIABLE);
 /// assert_eq!(rt; question.name.as_slice(), b"PWD".as_slice()); // tell it as a fact, and search again
 /// ```
-pub fn search<'t>(alloc: Global, folder: &'t [u8], facts: &[Fact<'t>]) -> Result<Answer, Stop> {
+pub fn search<'t>(alloc: Global, folder: &'t [u8], facts: &[Fact<'t>]) -> Result<Answer, Stop>
+    ensures { IfErr result (IsNew facts.now) }
+{
     let asked = Asked::new(alloc, facts);
+    ask_ahead(&asked)?;
     answer_by(&asked, folder)
 }

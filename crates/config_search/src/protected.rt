@@ -1,5 +1,7 @@
 //! The settings that no repository can change, as far as they decide whether Git uses one: those of the system, of the
 //! user and of the command. No repository is known to their conditions.
+ghost use Rattle.std.specs.Prelude.{IfOk, IfErr};
+ghost use Rattle.config_search.specs.Shown.{IsNew, IsNewHalt, AsksNothing};
 
 use crate::answer::{FaultKind, Named};
 use crate::fact::{Asked, Stop, fact_in, told, told_in};
@@ -58,7 +60,9 @@ fn has_conditions(text: &[u8]) -> bool {
 }
 
 /// The folder of the file of this name without links, which only conditions ask for.
-fn real_dir<'t>(asked: &Asked<'_, 't>, opened: &[u8], text: &[u8]) -> Result<&'t [u8], Stop> {
+fn real_dir<'t>(asked: &Asked<'_, 't>, opened: &[u8], text: &[u8]) -> Result<&'t [u8], Stop>
+    ensures { IfErr result (IsNew asked.now.facts.now) }
+{
     if !has_conditions(text) {
         return Ok(b"");
     }
@@ -77,7 +81,9 @@ fn without_last(name: &[u8]) -> &[u8] {
 }
 
 /// Why the text of a file is not read, or `None` if there is no such file.
-fn refusal_of<'t>(asked: &Asked<'_, 't>, opened: &[u8]) -> Result<Option<&'t [u8]>, Stop> {
+fn refusal_of<'t>(asked: &Asked<'_, 't>, opened: &[u8]) -> Result<Option<&'t [u8]>, Stop>
+    ensures { IfErr result (IsNew asked.now.facts.now) }
+{
     match told(asked, REFUSAL, opened)? {
         Some(b"denied") => Ok(Some(b"Permission denied")),
         refusal => Ok(refusal),
@@ -90,7 +96,9 @@ fn source_of<'s, 't: 's>(
     asked: &Asked<'_, 't>,
     start: &[u8],
     named: &'s Named,
-) -> Result<Option<Source<'s>>, Halt> {
+) -> Result<Option<Source<'s>>, Halt>
+    ensures { IfErr result (IsNewHalt asked.now.facts.now) }
+{
     let opened = inside(asked.alloc, start, &named.name)?;
     if let Some(text) = told(asked, SETTINGS, &opened)? {
         let place = FilePlace {
@@ -111,7 +119,9 @@ fn source_of<'s, 't: 's>(
 }
 
 /// The refusal of the settings of a command.
-fn of_command(alloc: Global, error: CommandError) -> Result<Halt, AllocError> {
+fn of_command(alloc: Global, error: CommandError) -> Result<Halt, AllocError>
+    ensures { IfOk result AsksNothing }
+{
     match error {
         CommandError::Memory(error) => Ok(Halt::from(error)),
         error => {
@@ -128,17 +138,17 @@ fn of_command(alloc: Global, error: CommandError) -> Result<Halt, AllocError> {
 }
 
 /// The value of the variable with this name and this number.
-fn numbered<'t>(
-    asked: &Asked<'_, 't>,
-    name: &str,
-    number: usize,
-) -> Result<Option<&'t [u8]>, Stop> {
+fn numbered<'t>(asked: &Asked<'_, 't>, name: &str, number: usize) -> Result<Option<&'t [u8]>, Stop>
+    ensures { IfErr result (IsNew asked.now.facts.now) }
+{
     let name = format!(in asked.alloc; "{name}{number}")?;
     Ok(told(asked, VARIABLE, name.as_bytes())?)
 }
 
 /// Appends the setting of this number.
-fn push_numbered(asked: &Asked<'_, '_>, text: &mut Vec<u8>, number: usize) -> Result<(), Halt> {
+fn push_numbered(asked: &Asked<'_, '_>, text: &mut Vec<u8>, number: usize) -> Result<(), Halt>
+    ensures { IfErr result (IsNewHalt asked.now.facts.now) }
+{
     let Some(key) = numbered(asked, "GIT_CONFIG_KEY_", number)? else {
         return Err(of_command(asked.alloc, CommandError::MissingKey(number))?);
     };
@@ -153,7 +163,9 @@ fn push_numbered(asked: &Asked<'_, '_>, text: &mut Vec<u8>, number: usize) -> Re
 
 /// The settings of the command as the text of a file: first those of GIT_CONFIG_COUNT, and then those of
 /// GIT_CONFIG_PARAMETERS, in which `git -c` hands them on.
-fn command_text(asked: &Asked<'_, '_>) -> Result<Vec<u8>, Halt> {
+fn command_text(asked: &Asked<'_, '_>) -> Result<Vec<u8>, Halt>
+    ensures { IfErr result (IsNewHalt asked.now.facts.now) }
+{
     let mut text = Vec::new(asked.alloc);
     if let Some(count) = told(asked, VARIABLE, b"GIT_CONFIG_COUNT")? {
         match count_of(count) {
@@ -175,7 +187,9 @@ fn command_text(asked: &Asked<'_, '_>) -> Result<Vec<u8>, Halt> {
 
 /// The home folder of the user with whose name a path begins, and what follows the name, or `None` if it begins with
 /// none that the system knows.
-pub(crate) fn of_user(asked: &Asked<'_, '_>, path: &[u8]) -> Result<Option<Vec<u8>>, Stop> {
+pub(crate) fn of_user(asked: &Asked<'_, '_>, path: &[u8]) -> Result<Option<Vec<u8>>, Stop>
+    ensures { IfErr result (IsNew asked.now.facts.now) }
+{
     let Some(rest) = path.strip_prefix(b"~") else {
         return Ok(None);
     };
@@ -197,7 +211,9 @@ fn at_include(
     at: FilePlace<'_>,
     line: usize,
     why: IncludeFault<'_>,
-) -> Result<Halt, AllocError> {
+) -> Result<Halt, AllocError>
+    ensures { IfOk result AsksNothing }
+{
     fault(alloc, kind, at.name, line, why.text().as_bytes())
 }
 
@@ -215,7 +231,9 @@ fn name_in(
     at: FilePlace<'_>,
     entry: &Entry<'_>,
     include: Include,
-) -> Result<Option<Vec<u8>>, Halt> {
+) -> Result<Option<Vec<u8>>, Halt>
+    ensures { IfErr result (IsNewHalt asked.now.facts.now) }
+{
     let (kind, why) = match include {
         Include::NotFollowed => return Ok(None),
         Include::Named(name) => return Ok(Some(name)),
@@ -238,7 +256,9 @@ fn included<'t>(
     at: FilePlace<'_>,
     line: usize,
     name: &[u8],
-) -> Result<Option<(FilePlace<'t>, &'t [u8])>, Halt> {
+) -> Result<Option<(FilePlace<'t>, &'t [u8])>, Halt>
+    ensures { IfErr result (IsNewHalt asked.now.facts.now) }
+{
     let fact = fact_in(asked, INCLUDED, start, name)?;
     let opened = fact.name;
     if fact.has != 0 {
@@ -266,7 +286,9 @@ fn enter<'s, 't: 's>(
     walk: &mut Walk<'s>,
     source: &Source<'_>,
     at: (FilePlace<'_>, usize, &[u8]),
-) -> Result<(), Halt> {
+) -> Result<(), Halt>
+    ensures { IfErr result (IsNewHalt asked.now.facts.now) }
+{
     let (place, line, name) = at;
     if !source.is_file && !name.starts_with(b"/") {
         let why = b"relative config includes must come from files";
@@ -350,7 +372,9 @@ impl Findings {
         known: &Known<'_>,
         source: &Source<'s>,
         walk: &mut Walk<'s>,
-    ) -> Result<bool, Halt> {
+    ) -> Result<bool, Halt>
+        ensures { IfErr result (IsNewHalt asked.now.facts.now) }
+    {
         let (place, entry, include) = match walk.next(asked.alloc, known)? {
             Step::Entry(place, entry, include) => (place, entry, include),
             Step::Line(place, error) => return Err(at_line(asked.alloc, place.name, error)?),
@@ -370,7 +394,9 @@ impl Findings {
         start: &[u8],
         known: &Known<'_>,
         source: &Source<'s>,
-    ) -> Result<(), Halt> {
+    ) -> Result<(), Halt>
+        ensures { IfErr result (IsNewHalt asked.now.facts.now) }
+    {
         let mut walk = Walk::new(source.place, source.text);
         for _ in 0..u64::MAX {
             if !self.take_next(asked, start, known, source, &mut walk)? {
@@ -382,7 +408,9 @@ impl Findings {
 }
 
 /// A line of a file that cannot be read.
-pub(crate) fn at_line(alloc: Global, file: &[u8], error: FileError) -> Result<Halt, AllocError> {
+pub(crate) fn at_line(alloc: Global, file: &[u8], error: FileError) -> Result<Halt, AllocError>
+    ensures { IfOk result AsksNothing }
+{
     let kind = match error.fault {
         FileFault::BadLine => FaultKind::Line,
         FileFault::Nul => FaultKind::Nul,
@@ -396,7 +424,9 @@ fn walked<'s, 't: 's>(
     start: &[u8],
     sources: &[Source<'s>],
     urls: Urls<'_>,
-) -> Result<Findings, Halt> {
+) -> Result<Findings, Halt>
+    ensures { IfErr result (IsNewHalt asked.now.facts.now) }
+{
     let directories = Directories {
         home: told(asked, VARIABLE, b"HOME")?,
         install_dir: None,
@@ -417,7 +447,9 @@ fn said_in<'s, 't: 's>(
     asked: &Asked<'_, 't>,
     start: &[u8],
     sources: &[Source<'s>],
-) -> Result<Vec<Said>, Halt> {
+) -> Result<Vec<Said>, Halt>
+    ensures { IfErr result (IsNewHalt asked.now.facts.now) }
+{
     let found = walked(asked, start, sources, Urls::Sought)?;
     if !found.asks_for_urls {
         return Ok(found.said);
@@ -430,7 +462,9 @@ fn said_in<'s, 't: 's>(
 }
 
 /// What the settings say that no repository can change, in order. Names begin in the folder `start`.
-pub(crate) fn protected_settings(asked: &Asked<'_, '_>, start: &[u8]) -> Result<Vec<Said>, Halt> {
+pub(crate) fn protected_settings(asked: &Asked<'_, '_>, start: &[u8]) -> Result<Vec<Said>, Halt>
+    ensures { IfErr result (IsNewHalt asked.now.facts.now) }
+{
     let names = protected_files(asked)?;
     let text = command_text(asked)?;
     let mut sources = Vec::new(asked.alloc);

@@ -1,5 +1,7 @@
 //! References that are in a reftable, which is a stack of tables in the folder `reftable`. Git's technical/reftable
 //! has the format of a table: the names of its first block come in order, HEAD among the first of them.
+ghost use Rattle.std.specs.Prelude.{IfErr};
+ghost use Rattle.config_search.specs.Shown.{IsNew};
 
 use crate::fact::{Asked, Stop, told_in};
 use crate::name::{inside, line};
@@ -121,7 +123,9 @@ fn first_block<'t>(
     folder: &[u8],
     table: &[u8],
     left: usize,
-) -> Result<Option<&'t [u8]>, Stop> {
+) -> Result<Option<&'t [u8]>, Stop>
+    ensures { IfErr result (IsNew asked.now.facts.now) }
+{
     let Some(start) = told_in(asked, TEXT, folder, table)? else {
         return Ok(None);
     };
@@ -142,7 +146,9 @@ fn target_in_table<'t>(
     table: &[u8],
     name: &[u8],
     left: &mut usize,
-) -> Result<Option<Option<&'t [u8]>>, Stop> {
+) -> Result<Option<Option<&'t [u8]>>, Stop>
+    ensures { IfErr result (IsNew asked.now.facts.now) }
+{
     let Some(block) = first_block(asked, folder, table, *left)? else {
         return Ok(None);
     };
@@ -159,7 +165,9 @@ pub(crate) fn target_in<'t>(
     asked: &Asked<'_, 't>,
     folder: &[u8],
     name: &[u8],
-) -> Result<Option<&'t [u8]>, Stop> {
+) -> Result<Option<&'t [u8]>, Stop>
+    ensures { IfErr result (IsNew asked.now.facts.now) }
+{
     let folder = inside(asked.alloc, folder, b"reftable")?;
     let Some(tables) = told_in(asked, TEXT, &folder, b"tables.list")? else {
         return Ok(None);

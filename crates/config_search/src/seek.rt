@@ -1,6 +1,6 @@
 //! Seeks the git directory of a folder, as Git does: GIT_DIR, or the first one upwards.
 
-ghost use Rattle.std.specs.Prelude.{◌≡◌, MatchResult, option_copied, option_map};
+ghost use Rattle.std.specs.Prelude.{◌≡◌, MatchResult, option_copied, option_map, IfErr};
 ghost use Rattle.config_search.specs.System.{System, AreTrueIn};
 ghost use Rattle.config_search.specs.Shown.{IsNew, form_of, git_dir_of};
 ghost use Rattle.config_search.specs.Rule as rule;
@@ -54,7 +54,9 @@ pub(crate) enum Found<'t> {
 }
 
 /// Whether a variable has a boolean text that is true.
-pub(crate) fn is_on(asked: &Asked<'_, '_>, name: &[u8]) -> Result<bool, Stop> {
+pub(crate) fn is_on(asked: &Asked<'_, '_>, name: &[u8]) -> Result<bool, Stop>
+    ensures { IfErr result (IsNew asked.now.facts.now) }
+{
     let Some(value) = told(asked, VARIABLE, name)? else {
         return Ok(false);
     };
@@ -81,7 +83,9 @@ pub(crate) fn real_folder<'t>(asked: &Asked<'_, 't>, name: &[u8]) -> Result<Opti
 }
 
 /// Whether this name begins at the root, and is one of the folder.
-fn is_path_of(asked: &Asked<'_, '_>, path: &[u8], folder: &[u8]) -> Result<bool, Stop> {
+fn is_path_of(asked: &Asked<'_, '_>, path: &[u8], folder: &[u8]) -> Result<bool, Stop>
+    ensures { IfErr result (IsNew asked.now.facts.now) }
+{
     if !path.starts_with(b"/") {
         return Ok(false);
     }
@@ -90,7 +94,9 @@ fn is_path_of(asked: &Asked<'_, '_>, path: &[u8], folder: &[u8]) -> Result<bool,
 }
 
 /// The path of a folder: the text of PWD if that is the same folder, and otherwise its path without links.
-fn named_path<'t>(asked: &Asked<'_, 't>, name: &[u8]) -> Result<Option<&'t [u8]>, Stop> {
+fn named_path<'t>(asked: &Asked<'_, 't>, name: &[u8]) -> Result<Option<&'t [u8]>, Stop>
+    ensures { IfErr result (IsNew asked.now.facts.now) }
+{
     match told(asked, VARIABLE, b"PWD")? {
         Some(path) if is_path_of(asked, path, name)? => Ok(Some(path)),
         _ => Ok(real_folder(asked, name)?),
@@ -101,7 +107,9 @@ fn named_path<'t>(asked: &Asked<'_, 't>, name: &[u8]) -> Result<Option<&'t [u8]>
 pub(crate) fn folder_of_name<'t>(
     asked: &Asked<'_, 't>,
     name: &'t [u8],
-) -> Result<Option<Folder<'t>>, Stop> {
+) -> Result<Option<Folder<'t>>, Stop>
+    ensures { IfErr result (IsNew asked.now.facts.now) }
+{
     let name = if name == b".".as_slice() { b"" } else { name };
     match named_path(asked, name)? {
         Some(path) => Ok(Some(Folder { name, path })),
@@ -183,11 +191,9 @@ fn find_in(asked: &Asked<'_, '_>, start: &[u8], folder: &[u8]) -> Result<Option<
 
 /// A folder of GIT_CEILING_DIRECTORIES without links if it is to be resolved, and otherwise without one slash at its
 /// end.
-fn ceiling<'t>(
-    asked: &Asked<'_, 't>,
-    folder: &'t [u8],
-    is_resolved: bool,
-) -> Result<&'t [u8], Stop> {
+fn ceiling<'t>(asked: &Asked<'_, 't>, folder: &'t [u8], is_resolved: bool) -> Result<&'t [u8], Stop>
+    ensures { IfErr result (IsNew asked.now.facts.now) }
+{
     if is_resolved {
         return Ok(told(asked, REAL, folder)?.unwrap_or(folder));
     }
@@ -199,7 +205,9 @@ fn ceiling<'t>(
 
 /// The folders of GIT_CEILING_DIRECTORIES, between which are colons, without links. Those after an empty one are taken
 /// as they are.
-fn ceilings<'t>(asked: &Asked<'_, 't>) -> Result<Vec<&'t [u8]>, Stop> {
+fn ceilings<'t>(asked: &Asked<'_, 't>) -> Result<Vec<&'t [u8]>, Stop>
+    ensures { IfErr result (IsNew asked.now.facts.now) }
+{
     let mut ceilings = Vec::new(asked.alloc);
     let Some(folders) = told(asked, VARIABLE, b"GIT_CEILING_DIRECTORIES")? else {
         return Ok(ceilings);
@@ -223,7 +231,9 @@ struct Limits<'t> {
 
 impl<'t> Limits<'t> {
     /// What the environment says of a search that begins in this folder.
-    fn new(asked: &Asked<'_, 't>, folder: &[u8]) -> Result<Limits<'t>, Stop> {
+    fn new(asked: &Asked<'_, 't>, folder: &[u8]) -> Result<Limits<'t>, Stop>
+        ensures { IfErr result (IsNew asked.now.facts.now) }
+    {
         let crosses = is_on(asked, b"GIT_DISCOVERY_ACROSS_FILESYSTEM")?;
         let device = if crosses {
             None
@@ -238,7 +248,9 @@ impl<'t> Limits<'t> {
     }
 
     /// Whether the search ends before this folder.
-    fn end_at(&self, asked: &Asked<'_, '_>, folder: &[u8]) -> Result<bool, Stop> {
+    fn end_at(&self, asked: &Asked<'_, '_>, folder: &[u8]) -> Result<bool, Stop>
+        ensures { IfErr result (IsNew asked.now.facts.now) }
+    {
         if self.ceilings.contains(&folder) {
             return Ok(true);
         }
@@ -259,7 +271,9 @@ fn find_above<'t>(
     start: &[u8],
     limits: &Limits<'t>,
     lowest: &'t [u8],
-) -> Result<Found<'t>, Stop> {
+) -> Result<Found<'t>, Stop>
+    ensures { IfErr result (IsNew asked.now.facts.now) }
+{
     let mut folder = lowest;
     'up: loop {
         let Some(above) = parent(folder) else {
@@ -284,7 +298,9 @@ fn find_given<'t>(
     asked: &Asked<'_, 't>,
     start: Folder<'t>,
     given: &'t [u8],
-) -> Result<Found<'t>, Stop> {
+) -> Result<Found<'t>, Stop>
+    ensures { IfErr result (IsNew asked.now.facts.now) }
+{
     // an empty text would become the name of the folder
     if given.is_empty() {
         return Ok(Found::Refused(given));
@@ -298,7 +314,9 @@ fn find_given<'t>(
 }
 
 /// The git directory of a folder: that of the folder itself, or of the first one above it.
-fn find_upwards<'t>(asked: &Asked<'_, 't>, start: Folder<'t>) -> Result<Found<'t>, Stop> {
+fn find_upwards<'t>(asked: &Asked<'_, 't>, start: Folder<'t>) -> Result<Found<'t>, Stop>
+    ensures { IfErr result (IsNew asked.now.facts.now) }
+{
     if let Some(git_dir) = find_in(asked, start.name, start.name)? {
         return Ok(Found::In(start, git_dir));
     }
@@ -310,7 +328,9 @@ fn find_upwards<'t>(asked: &Asked<'_, 't>, start: Folder<'t>) -> Result<Found<'t
 }
 
 /// The git directory of a folder: GIT_DIR, or the first one upwards.
-pub(crate) fn seek<'t>(asked: &Asked<'_, 't>, start: Folder<'t>) -> Result<Found<'t>, Stop> {
+pub(crate) fn seek<'t>(asked: &Asked<'_, 't>, start: Folder<'t>) -> Result<Found<'t>, Stop>
+    ensures { IfErr result (IsNew asked.now.facts.now) }
+{
     match told(asked, VARIABLE, b"GIT_DIR")? {
         Some(given) => find_given(asked, start, given),
         None => find_upwards(asked, start),

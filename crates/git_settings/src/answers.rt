@@ -53,7 +53,7 @@ fn put_plain_key(key: &mut Text, section: &str, name: &[u8]) {
 /// Whether the run goes on after a setting that has no value of its type. As in Git, it ends at others.
 fn is_passed_over(shown: Shown, setting: &Setting<'_>) -> bool {
     match shown {
-        Shown::Escape => true,
+        Shown::Escape | Shown::Date => true,
         Shown::Path => setting.value.is_none(),
         _ => false,
     }

@@ -4,6 +4,7 @@ ghost use Rattle.std.specs.Prelude.{◌≡◌, ◌⊎◌};
 ghost use Rattle.git_settings.specs.declared.edits.Refusal.TheVariants.{Edit as OfEdit, Pattern};
 
 use crate::output::{Ending, tell, tell_error};
+use crate::posix::NoPattern;
 use crate::request::{Change, Chosen, Edit, Subject, Texts};
 use crate::shown::{Outcome, Wrong, tell_wrong};
 use crate::sources::{file_of, located, tell_stop};
@@ -28,7 +29,7 @@ use std::alloc::{AllocError, Global};
 enum Refusal {
     Edit(EditError),
     /// The text is no pattern.
-    Pattern,
+    Pattern(NoPattern),
 }
 
 impl From<EditError> for Refusal {
@@ -40,13 +41,12 @@ impl From<EditError> for Refusal {
 }
 
 impl From<Unclear> for Refusal {
-    ghost from_gives = { λ _ refusal. (refusal ≡ Pattern) ⊎ ((error : _) × (refusal ≡ OfEdit error)) };
+    ghost from_gives = { λ _ refusal. ((why : _) × (refusal ≡ Pattern why)) ⊎ ((error : _) × (refusal ≡ OfEdit error)) };
 
     fn from(unclear: Unclear) -> Refusal {
         match unclear {
             Unclear::Key(error) => Refusal::Edit(EditError::Key(error)),
-            Unclear::Memory => Refusal::Edit(EditError::Memory(AllocError)),
-            _ => Refusal::Pattern,
+            Unclear::Keys(why) | Unclear::Values(why) => Refusal::Pattern(why),
         }
     }
 }
@@ -385,7 +385,9 @@ fn change_file<'t>(
     let new = match changed(rt.alloc(), text, edit, value) {
         Ok(new) => new,
         Err(Refusal::Edit(error)) => return Ok(tell_refusal(rt, name, text, edit, &error)?),
-        Err(Refusal::Pattern) => return Ok(Unclear::Values.tell(rt, &chosen_of(edit))),
+        Err(Refusal::Pattern(why)) => {
+            return Ok(Unclear::Values(why).tell(rt, &chosen_of(edit)));
+        }
     };
     if new.as_slice() == text {
         return Ok(Ending::Done);
@@ -405,13 +407,13 @@ fn change_here<'t>(
     value: &[u8],
 ) -> Result<Ending, HereError<'t>> {
     let disk = Disk::new(rt, texts);
-    let (folder, repository) = located(rt, &disk, scope)?;
-    let disk = disk.within(folder)?;
-    if scope.is_none() && repository.is_none() {
+    let place = located(rt, &disk, scope)?;
+    let disk = disk.within(place.folder)?;
+    if scope.is_none() && place.repository.is_none() {
         tell(rt, &[b"fatal: not in a git directory"]);
         return Ok(Ending::Refused);
     }
-    match file_of(rt, &disk, repository, scope.unwrap_or(Scope::Local))? {
+    match file_of(rt, &disk, &place, scope.unwrap_or(Scope::Local))? {
         Some(name) => Ok(change_file(rt, &disk, name, edit, value)?),
         None => Ok(Ending::Refused),
     }

@@ -2,16 +2,15 @@
 ghost use Rattle.std.specs.Prelude.{⊤};
 
 use crate::output::{Ending, Name, form_of};
-use crate::request::{Request, Subject};
+use crate::request::{Request, Subject, Texts};
 use crate::shown::{Outcome, Shown, System, Values, Wrong, homes_of, tell_wrong};
-use crate::sources::{Opened, open_texts, tell_stop, unfiled};
+use crate::sources::{Opened, is_unknown, open_texts, tell_stop, unfiled};
 use crate::wanted::{Patterns, Unclear, choice_of};
 use bumpalo::Bump;
 use config_answers::answer::{Answer, Writer};
 use config_answers::choice::Choice;
 use config_answers::read::{Receiver, Stopped, Text};
 use config_file::{Key, Scope, Setting};
-use config_host::reading::files_of;
 use config_host::{HereError, HostError};
 use std::io::{self, Write};
 use std::mem;
@@ -28,6 +27,10 @@ pub struct Found<'t> {
     lists: bool,
     /// The settings that are kept, if they are not.
     settings: Vec<Setting<'t>>,
+    /// How many settings were received.
+    received: usize,
+    /// How many of them this reading has come to.
+    passed: usize,
     /// What is still to be written.
     pub writer: Writer,
 }
@@ -63,8 +66,13 @@ impl<'t> Found<'t> {
 impl<'t> Receiver<'t> for Found<'t> {
     ghost receives = { λ _ _ _. ⊤ };
 
-    /// Lists a setting, or keeps it. As in Git, a list leaves out what is none of its type.
+    /// Lists a setting, or keeps it, once. As in Git, a list leaves out what is none of its type.
     fn receive(&mut self, setting: Setting<'t>) -> io::Result<()> {
+        self.passed = self.passed.saturating_add(1);
+        if self.passed <= self.received {
+            return Ok(());
+        }
+        self.received = self.passed;
         if !self.lists {
             return Ok(self.settings.push(setting)?);
         }
@@ -87,15 +95,16 @@ pub struct Reading<'r, 't> {
     pub found: Found<'t>,
 }
 
-/// Reads the texts that are opened, up to where Git stops, which is told.
+/// Reads the texts that are opened, up to where Git stops, which is told. Returns `None` if it is not known what a
+/// condition asks about.
 fn read_all<'t>(
     rt: &HostRuntime,
     opened: &Opened<'t>,
     choice: &mut Choice<'_, '_>,
     found: &mut Found<'t>,
-) -> Result<Ending, HostError> {
+) -> Result<Option<Ending>, HostError> {
     for source in &opened.sources {
-        let files = files_of(&opened.disk, source)?;
+        let files = opened.included(source)?;
         let text = Text {
             scope: source.scope,
             place: source.place,
@@ -110,13 +119,32 @@ fn read_all<'t>(
         ) {
             Ok(()) => {}
             Err(Stopped::System(error)) => return Err(HostError::from(error)),
+            Err(Stopped::Git(stop)) if is_unknown(&stop) => return Ok(None),
             Err(Stopped::Git(stop)) => {
                 tell_stop(rt, &opened.sources, source.scope, HereError::Stops(stop));
-                return Ok(Ending::Refused);
+                return Ok(Some(Ending::Refused));
             }
         }
     }
-    Ok(Ending::Done)
+    Ok(Some(Ending::Done))
+}
+
+/// Reads the texts that are opened. If one includes a condition, it finds what that asks about, and reads once more
+/// what comes before it.
+fn read_opened<'t>(
+    rt: &HostRuntime,
+    texts: Texts<'_>,
+    opened: &mut Opened<'t>,
+    choice: &mut Choice<'_, '_>,
+    found: &mut Found<'t>,
+) -> Result<Ending, HereError<'t>> {
+    if let Some(ending) = read_all(rt, opened, choice, found)? {
+        return Ok(ending);
+    }
+    opened.learn(texts)?;
+    found.passed = 0;
+    let ending = read_all(rt, opened, choice, found)?;
+    Ok(ending.unwrap_or(Ending::Refused))
 }
 
 impl<'t> Reading<'_, 't> {
@@ -185,7 +213,7 @@ fn answer_in<'r, 't>(
     commands: &[u8],
 ) -> Result<Ending, HereError<'t>> {
     let mut choice = choice;
-    let Some(opened) = open_texts(rt, texts, request, commands)? else {
+    let Some(mut opened) = open_texts(rt, texts, request, commands)? else {
         return Ok(Ending::Refused);
     };
     let shown = if request.shows_values {
@@ -201,9 +229,11 @@ fn answer_in<'r, 't>(
         },
         lists: request.lists(),
         settings: Vec::new(rt.alloc()),
+        received: 0,
+        passed: 0,
         writer: Writer::new(rt.alloc(), form_of(request), unfiled(&opened.sources)),
     };
-    let mut ending = read_all(rt, &opened, &mut choice, &mut found)?;
+    let mut ending = read_opened(rt, request.texts, &mut opened, &mut choice, &mut found)?;
     let mut reading = Reading { rt, request, found };
     if matches!(ending, Ending::Done) {
         ending = reading.answer()?;

@@ -1,6 +1,6 @@
 //! The words of the command line, their options, and what the help says of them.
 
-use config_host::options::Takes::{self, Ever, Nothing, Value};
+use config_host::options::Takes::{self, Ever, Nothing, Value, Whole};
 use config_host::options::{About, GENERAL, Row, Tables};
 
 /// What is done.
@@ -98,7 +98,7 @@ pub const TYPE_FLAGS: &[Row] = &[
 /// Of which type values are, and how one is shown that Git shows otherwise.
 const TYPE: &[Row] = &[
     ("type", "t", Value("TYPE", &[]), TYPES),
-    ("canonical", "", Nothing, CANONICAL),
+    ("canonical", "", Whole, CANONICAL),
 ];
 
 const TYPES: &str = "\

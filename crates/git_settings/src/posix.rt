@@ -21,6 +21,19 @@ struct Reading<'p> {
     before: Before,
     /// How many groups are open.
     open: usize,
+    /// Whether it refers to what a group has matched.
+    refers: bool,
+}
+
+/// Why a text is no pattern.
+#[derive(Clone, Copy, Debug)]
+pub enum NoPattern {
+    /// Git takes it for none.
+    Invalid,
+    /// It refers to what a group has matched.
+    Refers,
+    /// Memory is refused.
+    Memory,
 }
 
 /// The first character of a text, and the others.
@@ -34,9 +47,15 @@ fn is_sign(character: char) -> bool {
     "\\.+*?()|[]{}^$#&-~".contains(character)
 }
 
-/// Whether a text has digits alone.
-fn are_digits(text: &str) -> bool {
-    text.as_bytes().iter().all(|byte| byte.is_ascii_digit())
+/// The largest count of an interval.
+const MOST: u16 = 32767;
+
+/// Whether a text has digits alone, and is at most the largest count of an interval, if it is not empty.
+fn is_count(text: &str) -> bool {
+    if !text.as_bytes().iter().all(|byte| byte.is_ascii_digit()) {
+        return false;
+    }
+    text.is_empty() || matches!(text.parse::<u16>(), Ok(count) if count <= MOST)
 }
 
 /// The classes of characters that POSIX names.
@@ -61,7 +80,7 @@ fn interval_of(text: &str) -> Option<(&str, &str)> {
         Some(counts) => counts,
         None => (text, text),
     };
-    if text.is_empty() || !are_digits(least) || !are_digits(most) {
+    if text.is_empty() || !is_count(least) || !is_count(most) {
         return None;
     }
     Some((least, most))
@@ -98,7 +117,10 @@ impl<'p> Reading<'p> {
         };
         self.before = Before::Item;
         match character {
-            '1'..='9' => return Ok(false),
+            '1'..='9' => {
+                self.refers = true;
+                return Ok(false);
+            }
             'w' | 'W' | 's' | 'S' | 'b' | 'B' | '<' | '>' => {
                 self.written.push('\\')?;
                 self.written.push(character)?;
@@ -106,6 +128,9 @@ impl<'p> Reading<'p> {
             '`' => self.written.push_str("\\A")?,
             '\'' => self.written.push_str("\\z")?,
             character => self.put_plain(character)?,
+        }
+        if "bB<>`'".contains(character) {
+            self.before = Before::Nothing;
         }
         Ok(true)
     }
@@ -159,12 +184,13 @@ impl<'p> Reading<'p> {
             Some(true) => return Ok(true),
             Some(false) => {}
         }
+        let is_class = self.rest.starts_with("[=");
         let Some(first) = self.member() else {
             return Ok(false);
         };
         self.put_plain(first)?;
         match self.rest.strip_prefix("-") {
-            Some(rest) if !rest.starts_with(']') => self.rest = rest,
+            Some(rest) if !is_class && !rest.starts_with(']') => self.rest = rest,
             _ => return Ok(true),
         }
         let Some(last) = self.member() else {
@@ -175,7 +201,8 @@ impl<'p> Reading<'p> {
         Ok(true)
     }
 
-    /// Writes a list in brackets, in which a backslash stands for itself. Returns false if it has no end.
+    /// Writes a list in brackets, in which a backslash stands for itself. Returns false if it has no end, or a `-` that
+    /// is neither first nor last nor of a range.
     fn put_list(&mut self) -> Result<bool, AllocError> {
         self.before = Before::Item;
         self.written.push('[')?;
@@ -190,6 +217,9 @@ impl<'p> Reading<'p> {
                     self.rest = rest;
                     self.written.push(']')?;
                     return Ok(true);
+                }
+                if self.rest.starts_with('-') && !self.rest.starts_with("-]") {
+                    return Ok(false);
                 }
             }
             is_first = false;
@@ -247,8 +277,8 @@ impl<'p> Reading<'p> {
                 self.open = self.open.saturating_add(1);
                 self.before = Before::Nothing;
             }
-            '|' | '^' => self.before = Before::Nothing,
-            '.' | '$' => self.before = Before::Item,
+            '|' | '^' | '$' => self.before = Before::Nothing,
+            '.' => self.before = Before::Item,
             character => {
                 self.before = Before::Item;
                 self.put_plain(character)?;
@@ -260,22 +290,25 @@ impl<'p> Reading<'p> {
     }
 }
 
-/// The pattern of a text as the regex crate reads it, or `None` if Git would take it for none, or if it refers to
-/// what a group has matched.
-pub fn translated(alloc: Global, text: &str) -> Result<Option<String>, AllocError> {
+/// The pattern of a text as the regex crate reads it, or why it is none.
+pub fn translated(alloc: Global, text: &str) -> Result<String, NoPattern> {
     let mut reading = Reading {
         rest: text,
         written: String::new(alloc),
         before: Before::Nothing,
         open: 0,
+        refers: false,
     };
     for _ in 0..text.len() {
         let Some(character) = reading.next() else {
             break;
         };
-        if !reading.put_next(character)? {
-            return Ok(None);
+        match reading.put_next(character) {
+            Ok(true) => {}
+            Ok(false) if reading.refers => return Err(NoPattern::Refers),
+            Ok(false) => return Err(NoPattern::Invalid),
+            Err(_) => return Err(NoPattern::Memory),
         }
     }
-    Ok(Some(reading.written))
+    Ok(reading.written)
 }

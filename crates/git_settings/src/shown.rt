@@ -86,11 +86,22 @@ pub struct Wrong<'v> {
     pub place: Option<Place<'v>>,
 }
 
+/// Whether a text begins with decimal digits whose number is too large.
+fn is_too_large(value: &[u8]) -> bool {
+    let rest = value.strip_prefix(b"-").unwrap_or(value);
+    let count = rest.iter().take_while(|byte| byte.is_ascii_digit()).count();
+    match rest.get(..count) {
+        Some(digits) => count > 0 && Amount::try_read(digits).is_err(),
+        None => false,
+    }
+}
+
 /// Tells that a value is no number.
 fn tell_number(rt: &HostRuntime, wrong: &Wrong<'_>) {
     let value = wrong.value.unwrap_or(b"");
     let why: &[u8] = match Amount::try_read(value) {
         Err(Fault::Overflow) => b": out of range",
+        _ if is_too_large(value) => b": out of range",
         _ => b": invalid unit",
     };
     let (at, file): (&[u8], &[u8]) = match wrong.place {

@@ -1,18 +1,19 @@
 //! The texts that a request reads.
+ghost use Rattle.std.specs.Prelude.{⊤};
 
 use crate::output::{Place, Unfiled, tell, tell_error, tell_here, tell_line};
 use crate::request::{Request, Texts};
 use bumpalo::Bump;
 use config_answers::line::{COMMAND, INPUT};
 use config_file::errors::FileFault;
-use config_file::{AddError, FilePlace, Scope};
+use config_file::{AddError, Content, FilePlace, Files, IncludeFault, Scope};
 use config_host::disk::ReadError;
-use config_host::reading::{ask_for_conditions, seek_urls};
-use config_host::repository::find;
-use config_host::sources::{Named, Source, has_worktrees, is_there, names, sources, system_name};
-use config_host::surroundings::{Followed, FoundRepository, has_includes};
-use config_host::{Disk, HereError, Surroundings};
-use std::alloc::AllocError;
+use config_host::reading::{files_of, seek_urls};
+use config_host::repository::{Location, find};
+use config_host::sources::{Named, Source, has_worktrees, is_there, sources, system_name};
+use config_host::surroundings::{Followed, FoundRepository, has_conditions};
+use config_host::{Disk, HereError, Refusal, Surroundings};
+use std::alloc::{AllocError, Global};
 use std::io;
 
 /// The texts of a request, and where they are read.
@@ -24,6 +25,69 @@ pub struct Opened<'t> {
     pub surroundings: Surroundings<'t>,
     /// The texts, in order.
     pub sources: Vec<Source<'t>>,
+    /// Whether it is known what conditions ask about. It is found only if one is there.
+    is_known: bool,
+}
+
+/// Why a file is not read: it is not known what its conditions ask about.
+const UNKNOWN: &str = "a condition";
+
+/// The files that a text includes. None with a condition is read if it is not known what conditions ask about.
+#[derive(Drop)]
+pub struct Included<'t> {
+    disk: Disk<'t>,
+    is_known: bool,
+}
+
+impl<'t> Files<'t> for Included<'t> {
+    ghost contents = { λ _ _ _. ⊤ };
+
+    fn read(&self, alloc: Global, name: &[u8]) -> Result<Content<'t>, AllocError> {
+        match self.disk.read(alloc, name)? {
+            Content::Text(_, text) if !self.is_known && has_conditions(text) => {
+                Ok(Content::Unreadable(UNKNOWN))
+            }
+            content => Ok(content),
+        }
+    }
+}
+
+/// Whether a reading stops since it is not known what conditions ask about.
+pub fn is_unknown(stop: &AddError<'_>) -> bool {
+    matches!(stop, AddError::Include { fault: IncludeFault::Unreadable(why), .. } if *why == UNKNOWN)
+}
+
+impl<'t> Opened<'t> {
+    /// The files that this text includes.
+    pub fn included(&self, source: &Source<'t>) -> Result<Included<'t>, AllocError> {
+        Ok(Included {
+            disk: files_of(&self.disk, source)?,
+            is_known: self.is_known,
+        })
+    }
+
+    /// Finds what conditions ask about. Of the texts that Git reads here the repository is known.
+    pub fn learn(&mut self, texts: Texts<'_>) -> Result<(), HereError<'t>> {
+        if matches!(texts, Texts::Named(_)) {
+            let repository = find(&self.disk, b"")?.unless_stopped()?.repository;
+            self.surroundings.set_repository(&self.disk, repository)?;
+        }
+        self.is_known = true;
+        seek_urls(&self.disk, &mut self.surroundings, &self.sources)
+    }
+
+    /// Whether a text has a condition of which it is not known what it asks about.
+    fn asks(&self) -> bool {
+        if self.is_known {
+            return false;
+        }
+        for source in &self.sources {
+            if has_conditions(source.text) {
+                return true;
+            }
+        }
+        false
+    }
 }
 
 /// The place of settings that are in no file. No folder is above it, so that no condition on one holds.
@@ -138,19 +202,8 @@ fn closed<'t>(
         surroundings: Surroundings::new(&disk, followed)?,
         disk,
         sources: Vec::new(rt.alloc()),
+        is_known: !request.follows,
     })
-}
-
-/// Finds what conditions ask about, if one is in the text or in what it includes.
-fn prepare<'t>(opened: &mut Opened<'t>) -> Result<(), HereError<'t>> {
-    if !ask_for_conditions(&opened.disk, &opened.surroundings, &opened.sources)? {
-        return Ok(());
-    }
-    let repository = find(&opened.disk, b"")?.used()?;
-    opened
-        .surroundings
-        .set_repository(&opened.disk, repository)?;
-    seek(opened)
 }
 
 /// The text of this file.
@@ -159,13 +212,10 @@ fn open_named<'t>(
     texts: &'t Bump,
     request: &Request<'_>,
     file: &str,
-) -> Result<Option<Opened<'t>>, HereError<'t>> {
+) -> Result<Opened<'t>, HereError<'t>> {
     let mut opened = closed(rt, Disk::new(rt, texts), request)?;
     open(rt, request, &mut opened, Scope::Command, file.as_bytes())?;
-    if may_include(&opened, request) {
-        prepare(&mut opened)?;
-    }
-    Ok(Some(opened))
+    Ok(opened)
 }
 
 /// The file of this scope among those that Git reads here: the last one, unless only one before it is there.
@@ -224,14 +274,14 @@ fn scope_of_worktree(
     Ok(Some(Scope::Local))
 }
 
-/// The name of the file of a scope here, or `None` if there is none, which is told.
+/// The name of the file of a scope in this place, or `None` if there is none, which is told.
 pub fn file_of<'t>(
     rt: &HostRuntime,
     disk: &Disk<'t>,
-    repository: Option<FoundRepository<'t>>,
+    place: &Location<'t>,
     scope: Scope,
 ) -> Result<Option<&'t [u8]>, HereError<'t>> {
-    let wanted = match (scope, repository) {
+    let wanted = match (scope, place.repository) {
         (Scope::System, _) => return Ok(Some(system_name(disk)?)),
         (Scope::Worktree, Some(repository)) => scope_of_worktree(rt, disk, repository)?,
         _ => Some(scope),
@@ -239,7 +289,7 @@ pub fn file_of<'t>(
     let Some(wanted) = wanted else {
         return Ok(None);
     };
-    match of_scope(disk, &names(disk, repository)?, wanted)? {
+    match of_scope(disk, &place.files, wanted)? {
         Some(named) => Ok(Some(named.name)),
         None => {
             tell_no_file(rt, scope);
@@ -267,35 +317,26 @@ fn open_all<'t>(
     Ok(add(&mut opened.sources, source)?)
 }
 
-/// The folder in which Git works, and the repository that it uses. If no scope is asked for, or that of a repository,
-/// it tells why Git uses none although one is there.
+/// Tells why Git uses no repository although one is there.
+fn tell_refusal(rt: &HostRuntime, refusal: Option<&Refusal>) -> Result<(), AllocError> {
+    if let Some(refusal) = refusal {
+        let words = refusal.words(rt.alloc())?;
+        tell(rt, &[b"warning: ", &words]);
+    }
+    Ok(())
+}
+
+/// Where Git works. If no scope is asked for, or that of a repository, it tells why Git uses none although one is there.
 pub fn located<'t>(
     rt: &HostRuntime,
     disk: &Disk<'t>,
     scope: Option<Scope>,
-) -> Result<(&'t [u8], Option<FoundRepository<'t>>), HereError<'t>> {
+) -> Result<Location<'t>, HereError<'t>> {
     let location = find(disk, b"")?;
-    match location.refusal {
-        Some(refusal) if !matches!(scope, Some(Scope::System | Scope::Global)) => {
-            tell_error(rt, [b"warning: ", b"", b""], refusal);
-        }
-        _ => {}
+    if !matches!(scope, Some(Scope::System | Scope::Global)) {
+        tell_refusal(rt, location.refusal.as_ref())?;
     }
-    let folder = location.folder;
-    Ok((folder, location.used()?))
-}
-
-/// Whether one of the texts that are opened includes files that are followed.
-fn may_include(opened: &Opened<'_>, request: &Request<'_>) -> bool {
-    if !request.follows {
-        return false;
-    }
-    for source in &opened.sources {
-        if has_includes(source.text) {
-            return true;
-        }
-    }
-    false
+    location.unless_stopped()
 }
 
 /// The scope that entries of the file of a scope have. In Git a work tree is not told from the repository here.
@@ -315,28 +356,17 @@ fn open_here<'t>(
     commands: &[u8],
 ) -> Result<Option<Opened<'t>>, HereError<'t>> {
     let disk = Disk::new(rt, texts);
-    let (folder, repository) = located(rt, &disk, scope)?;
-    let mut opened = closed(rt, disk.within(folder)?, request)?;
-    opened.surroundings.set_repository(&disk, repository)?;
+    let place = located(rt, &disk, scope)?;
+    let mut opened = closed(rt, disk.within(place.folder)?, request)?;
+    opened.surroundings.set_repository(&disk, place.repository)?;
     match scope {
-        Some(scope) => match file_of(rt, &opened.disk, repository, scope)? {
+        Some(scope) => match file_of(rt, &opened.disk, &place, scope)? {
             Some(name) => open(rt, request, &mut opened, shown_scope(scope), name)?,
             None => return Ok(None),
         },
-        None => {
-            let files = names(&disk, repository)?;
-            open_all(&mut opened, &files, commands)?;
-        }
-    }
-    if may_include(&opened, request) {
-        seek(&mut opened)?;
+        None => open_all(&mut opened, &place.files, commands)?,
     }
     Ok(Some(opened))
-}
-
-/// Finds the URLs of remotes if conditions ask about them.
-fn seek<'t>(opened: &mut Opened<'t>) -> Result<(), HereError<'t>> {
-    seek_urls(&opened.disk, &mut opened.surroundings, &opened.sources)
 }
 
 /// The texts of a request, after which these settings of the command line come, or `None` if there are none,
@@ -347,9 +377,15 @@ pub fn open_texts<'t>(
     request: &Request<'_>,
     commands: &[u8],
 ) -> Result<Option<Opened<'t>>, HereError<'t>> {
-    match request.texts {
-        Texts::Named(file) => open_named(rt, texts, request, file),
-        Texts::OfScope(scope) => open_here(rt, texts, request, Some(scope), commands),
-        Texts::Here => open_here(rt, texts, request, None, commands),
+    let mut opened = match request.texts {
+        Texts::Named(file) => Some(open_named(rt, texts, request, file)?),
+        Texts::OfScope(scope) => open_here(rt, texts, request, Some(scope), commands)?,
+        Texts::Here => open_here(rt, texts, request, None, commands)?,
+    };
+    if let Some(opened) = &mut opened {
+        if opened.asks() {
+            opened.learn(request.texts)?;
+        }
     }
+    Ok(opened)
 }

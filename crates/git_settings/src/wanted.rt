@@ -1,7 +1,7 @@
 //! The entries that are asked for: of a key, or of a pattern of keys, and with a value that fits.
 
 use crate::output::{Ending, tell};
-use crate::posix::translated;
+use crate::posix::{NoPattern, translated};
 use crate::request::{Chosen, Subject};
 use config_answers::choice::{Choice, Keys};
 use config_file::{Key, KeyError};
@@ -24,11 +24,9 @@ pub enum Unclear {
     /// The text is no key.
     Key(KeyError),
     /// The text is no pattern of keys.
-    Keys,
+    Keys(NoPattern),
     /// The text is no pattern of values.
-    Values,
-    /// Memory is refused.
-    Memory,
+    Values(NoPattern),
 }
 
 /// Tells why a text is no key.
@@ -45,6 +43,23 @@ fn tell_about(rt: &HostRuntime, why: &str, text: &str) {
     tell(rt, &[b"error: ", why.as_bytes(), b": ", text.as_bytes()]);
 }
 
+/// Tells why a text is no pattern. Returns how the run ends.
+fn tell_pattern(rt: &HostRuntime, what: &str, text: &str, why: NoPattern) -> Ending {
+    let end: &[u8] = match why {
+        NoPattern::Memory => {
+            tell(rt, &[b"fatal: out of memory"]);
+            return Ending::Refused;
+        }
+        NoPattern::Refers => b": \\1 to \\9 are not offered",
+        NoPattern::Invalid => b"",
+    };
+    tell(
+        rt,
+        &[b"error: ", what.as_bytes(), b": ", text.as_bytes(), end],
+    );
+    Ending::NoPattern
+}
+
 impl Unclear {
     /// Tells it. Returns how the run ends.
     pub fn tell(self, rt: &HostRuntime, chosen: &Chosen<'_>) -> Ending {
@@ -58,37 +73,25 @@ impl Unclear {
                 tell_key(rt, key, error);
                 Ending::Absent
             }
-            Unclear::Keys => {
-                tell_about(rt, "invalid key pattern", key);
-                Ending::NoPattern
-            }
-            Unclear::Values => {
+            Unclear::Keys(why) => tell_pattern(rt, "invalid key pattern", key, why),
+            Unclear::Values(why) => {
                 let pattern = value.strip_prefix("!").unwrap_or(value);
-                tell_about(rt, "invalid pattern", pattern);
-                Ending::NoPattern
-            }
-            Unclear::Memory => {
-                tell(rt, &[b"fatal: out of memory"]);
-                Ending::Refused
+                tell_pattern(rt, "invalid pattern", pattern, why)
             }
         }
     }
 }
 
-/// The pattern of this text, in which a point stands for a line end too, or this reason why there is none.
-fn pattern_of(alloc: Global, text: &str, unclear: Unclear) -> Result<Regex, Unclear> {
-    let text = match translated(alloc, text) {
-        Ok(Some(text)) => text,
-        Ok(None) => return Err(unclear),
-        Err(_) => return Err(Unclear::Memory),
-    };
+/// The pattern of this text, in which a point stands for a line end too, or why there is none.
+fn pattern_of(alloc: Global, text: &str) -> Result<Regex, NoPattern> {
+    let text = translated(alloc, text)?;
     let built = RegexBuilder::new(&text)
         .dot_matches_new_line(true)
         .build_bytes(alloc);
     match built {
         Ok(pattern) => Ok(pattern),
-        Err(Error::OutOfMemory) => Err(Unclear::Memory),
-        Err(_) => Err(unclear),
+        Err(Error::OutOfMemory) => Err(NoPattern::Memory),
+        Err(_) => Err(NoPattern::Invalid),
     }
 }
 
@@ -113,8 +116,11 @@ impl Patterns {
     pub fn new(alloc: Global, chosen: &Chosen<'_>) -> Result<Patterns, Unclear> {
         let key = match chosen.subject {
             Subject::Pattern(pattern) => match lower_ends(alloc, pattern) {
-                Ok(text) => Some(pattern_of(alloc, &text, Unclear::Keys)?),
-                Err(_) => return Err(Unclear::Memory),
+                Ok(text) => match pattern_of(alloc, &text) {
+                    Ok(pattern) => Some(pattern),
+                    Err(why) => return Err(Unclear::Keys(why)),
+                },
+                Err(_) => return Err(Unclear::Keys(NoPattern::Memory)),
             },
             _ => None,
         };
@@ -126,7 +132,10 @@ impl Patterns {
             _ => (false, None),
         };
         let value = match text {
-            Some(text) => Some(pattern_of(alloc, text, Unclear::Values)?),
+            Some(text) => match pattern_of(alloc, text) {
+                Ok(pattern) => Some(pattern),
+                Err(why) => return Err(Unclear::Values(why)),
+            },
             None => None,
         };
         Ok(Patterns {
@@ -151,7 +160,7 @@ fn search<'p>(alloc: Global, pattern: &'p Option<Regex>) -> Result<Option<Matche
         None => Ok(None),
         Some(pattern) => match pattern.matcher(alloc) {
             Ok(matcher) => Ok(Some(matcher)),
-            Err(_) => Err(Unclear::Memory),
+            Err(_) => Err(Unclear::Values(NoPattern::Memory)),
         },
     }
 }

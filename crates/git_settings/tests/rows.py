@@ -13,9 +13,10 @@ They are in rows.tsv, a row a line, whose fields are between tabs and have Pytho
     @link NAME TO  a link                        @git NAME REF  a git directory whose HEAD has this text
     @in NAME       the program runs there        @NAME          all that the line `= NAME` of rows.tsv has
 
-<F> is the folder. No row leaves a lock. A line that begins with `#` is a comment, and one with `=` names things that
-several rows have. A row that begins with `!` is not asked of Git, nor what stands behind `~` in what is said. The last
-line is 'N passed, M failed'. Without PROGRAM it says `skipped`, and nothing has passed.
+<F> is the folder. No row leaves a lock, and with status 0 nothing is said that the row does not name. A line that begins
+with `#` is a comment, and one with `=` names things that several rows have. A row that begins with `!` is not asked of
+Git, nor what stands behind `~` in what is said. The last line is 'N passed, M failed'. Without PROGRAM it says
+`skipped`, and nothing has passed.
 """
 import concurrent.futures
 import os
@@ -114,6 +115,7 @@ def faults(program, row):
                              capture_output=True, timeout=LONGEST_RUN, check=False)
         pairs = [("status", status, run.returncode), ("locks", [], place.locks())]
         pairs += [("output", place.bytes(output), run.stdout)] if output != "*" else []
+        pairs += [("what is said", b"", run.stderr)] if status == 0 and not told else []
         pieces = place.bytes("" if told.startswith("~") and program[1:] else told.lstrip("~")).split(b"|")
         pairs += [(f"what is said of {piece!r}", True, piece in run.stderr) for piece in pieces]
         for name, text in place.after.items():

@@ -1,18 +1,15 @@
 #!/usr/bin/env python3
-"""The words of the command line, and files, names and repositories that are unusual: python3 run.py PROGRAM [--git
-COMMAND].
+"""Files, names and repositories that are unusual: python3 run.py PROGRAM [--git COMMAND].
 
 PROGRAM is git-settings. Which entries are right is asked of a Git: the installed one, or that of --git. Git keeps names
-as bytes; the program refuses names that are not UTF-8 where it has to open them. What the words answer is in words.tsv,
-what they change in changes.tsv, and of types a Git 2.55 is asked if the folder NEWER_GITS has it. The last line is
-'N passed, M failed'.
+as bytes; the program refuses names that are not UTF-8 where it has to open them. Of ages a Git 2.55 is asked if the
+folder NEWER_GITS has it. The last line is 'N passed, M failed'.
 """
 import argparse
 import os
 import pathlib
 import re
 import resource
-import shlex
 import shutil
 import subprocess
 import sys
@@ -24,25 +21,8 @@ NOT_UTF8, NO_FOLDER = b"n\xff", b"d\xff"
 HIT = b"[hit]\n\tk = 1\n"
 # the memory that a program may take for a small file, and the address space that is too small for a large one, in bytes
 SMALL, ADDRESSES, LARGE = 50_000_000, 100_000_000, 200_000_000
-WORDS = pathlib.Path(__file__).with_name("words.tsv")
-CHANGES = pathlib.Path(__file__).with_name("changes.tsv")
-NUMBER = re.compile(rb" \(os error \d+\)")
-ESCAPES = ((r"\n", "\n"), (r"\r", "\r"), (r"\t", "\t"), (r"\e", "\x1b"), (r"\0", "\0"), (r"\ufeff", "\ufeff"))
-# the options of words that older Gits have too, as flags of their own
-OLDER = {"-f", "f", "-", "absent", "-z", "--all", "--show-origin", "--show-scope"}
-# texts that have a value of each type, or none, without those that the page of differences names
-TYPED = {
-    "bool": ("yes", "ON", "", "0", "0x10", "10k", "maybe", "-1", "tru"),
-    "int": ("10k", "0x1fM", "017", "-5", "9223372036854775807", "9223372036854775808", "1kb", "", "08"),
-    "bool-or-int": ("yes", "", "10k", "0", "off", "nope", "0x10", "1"),
-    "bool-or-str": ("yes", "", "10k", "0", "nope", "a b", "Off"),
-    "path": ("~/x", "~", "/abs", "rel", "~nobody-here/x", ":(optional)/no/such", ":(optional)/", "a~b"),
-    "color": ("bold red", "red blue", "#ff0000", "208", "256", "no-bold", "reset", "default", "red blue green"),
-    "expiry-date": ("never", "false", "all", "now", "100000000", "1700000000", "2147483648", "4102444799"),
-}
-# ages, which Git reads so too, and dates that only Git reads
+# ages, which Git reads so too
 AGES = ("2.weeks.ago", "90 days", "1.day", "36.hours", "30 minutes ago", "1000.seconds.ago", "1.week.ago")
-OTHER_DATES = ("yesterday", "1.month.ago", "2020-01-01", "99999999", "4102444800", "0.days", "01.day", "3551.weeks")
 
 
 class Tests:
@@ -282,44 +262,6 @@ def memory(tests):
     tests.expect("no memory for a file", (128, b"fatal: out of memory\n"), (run.returncode, run.stderr))
 
 
-def plain(text):
-    """A text without the escapes of words.tsv and changes.tsv."""
-    for escape, byte in ESCAPES:
-        text = text.replace(escape, byte)
-    return text
-
-
-def words(tests):
-    """The words and Git's older flags answer as Git 2.55.0, and where older Gits have a flag for a word, as they do."""
-    texts = {}
-    for line in WORDS.read_text("utf-8").splitlines():
-        if line.startswith("# ") and line[2:].partition(": ")[0].isupper():
-            name, _, text = line[2:].partition(": ")
-            texts[name] = plain(text).encode()
-        if line.startswith("#"):
-            continue
-        arguments, name, status, output, *message = line.split("\t")
-        asked = [plain(word) for word in shlex.split(arguments)]
-        tests.write(b"w/f", texts[name])
-        wanted = (int(status), plain(output).encode())
-        home = {b"HOME": b"/nonexistent", b"TERM": b"xterm"}
-        run = tests.run(tests.program, *asked, folder=b"w", more=home)
-        tests.expect(f"{arguments} of {name}", wanted, (run.returncode, run.stdout))
-        for text in message:
-            # after such a message Git says how it is used
-            usage = text.startswith(("error: unknown ", "error: ambiguous "))
-            said = NUMBER.sub(b"", run.stderr)
-            said, more = (said[:len(plain(text))], b"\nUsage: " in said) if usage else (said, usage)
-            tests.expect(f"the message of {arguments} of {name}", (plain(text).encode(), usage), (said, more))
-        word, *options = asked or [""]
-        flags = {option for option in options if "." not in option or "=" in option}
-        if word in ("get", "list") and flags <= OLDER and not (word == "list" and "--all" in options):
-            flag = "--list" if word == "list" else "--get-all" if "--all" in options else "--get"
-            options = [option for option in options if option != "--all"]
-            run = tests.run(tests.git, "config", flag, *options, folder=b"w", more=home)
-            tests.expect(f"{arguments} of {name}, in an older Git", wanted, (run.returncode, run.stdout))
-
-
 def flags(tests):
     """Git's older flags, the settings of `-c` and of scopes, and standard input."""
     tests.git_dir(b"flags/.git")
@@ -348,26 +290,16 @@ def flags(tests):
         tests.expect(option, wanted, tests.run(*shell).stdout)
 
 
-def types(tests):
-    """Values of types, beside a newer Git."""
+def ages(tests):
+    """Ages are those of a newer Git."""
     git = pathlib.Path(os.environ.get("NEWER_GITS", "nowhere"), "sid", "git")
     if not git.exists():
-        print("skipped: values of types, since NEWER_GITS names no folder with a newer Git")
+        print("skipped: ages, since NEWER_GITS names no folder with a newer Git")
         return
-    values = [(kind, value) for kind, texts in TYPED.items() for value in texts]
-    tests.write(b"typed", b"[t]\n" + b"".join(b'\tk%d = "%s"\n' % (number, value.encode())
-                                             for number, (_, value) in enumerate(values)))
-    for number, (kind, value) in enumerate(values):
-        asked = ["get", "-f", "typed", f"--type={kind}", f"t.k{number}"]
+    for age in AGES:
+        asked = ["get", "-f", "/dev/null", "--type=expiry-date", f"--default={age}", "no.date"]
         ours, theirs = tests.run(tests.program, *asked), tests.run(git, "config", *asked)
-        tests.expect(f"{value!r} as {kind}", (theirs.returncode, theirs.stdout), (ours.returncode, ours.stdout))
-    for date in AGES + OTHER_DATES:
-        asked = ["get", "-f", "typed", "--type=expiry-date", f"--default={date}", "no.date"]
-        ours, theirs = tests.run(tests.program, *asked), tests.run(git, "config", *asked)
-        if date in AGES:
-            tests.expect(date, True, 0 <= int(theirs.stdout) - int(ours.stdout or 0) < LONGEST_RUN)
-        else:
-            tests.expect(date, (128, b""), (ours.returncode, ours.stdout))
+        tests.expect(age, True, 0 <= int(theirs.stdout) - int(ours.stdout or 0) < LONGEST_RUN)
 
 
 def changes(tests):
@@ -379,11 +311,6 @@ def changes(tests):
         tests.expect(f"{words}, afterwards", after, file.read_bytes() if file.exists() else None)
         tests.expect(f"{words}, its lock", False, os.path.exists(tests.path(name + b".lock")))
 
-    for line in CHANGES.read_text("utf-8").splitlines():
-        if not line.startswith("#"):
-            arguments, old, new = line.split("\t")
-            tests.write(b"edit", plain(old).encode())
-            change([plain(word) for word in shlex.split(arguments)], 0, plain(new).encode())
     change(["set", "-f", "new", "a.k", "v"], 0, b"[a]\n\tk = v\n", name=b"new")
     change(["unset", "-f", "absent", "a.k"], 5, None, name=b"absent")
     for words in (["set", "-f", "-", "a.k", "v"], ["unset", "-f", "-", "a.k"], ["--file", "-", "a.k", "v"]):
@@ -491,7 +418,7 @@ def main():
     arguments = arguments.parse_args()
     with tempfile.TemporaryDirectory() as folder:
         tests = Tests(arguments.program, arguments.git, os.path.realpath(folder))
-        for part in (words, flags, types, endless, names, folders, shown, statuses, repositories, here, changes, unread,
+        for part in (flags, ages, endless, names, folders, shown, statuses, repositories, here, changes, unread,
                      together, killed, memory):
             part(tests)
     print(f"{tests.passed} passed, {tests.failed} failed")

@@ -237,7 +237,7 @@ for compiler in gcc clang g++ clang++; do
             *) set -- -L"$prefix/lib" -lgix_config_value ;;
         esac
         by="by $compiler, $linked"
-        for example in theme check config six_settings table; do
+        for example in theme check six_settings table; do
             # shellcheck disable=SC2086
             holds "$example $by" "$compiler" $language $warnings -I"$prefix/include" -o "$work/$example" \
                 "$root/examples/c/$example.c" -x none "$@"
@@ -254,15 +254,10 @@ for compiler in gcc clang g++ clang++; do
         holds "check $by, runs" answers 0 '16k$' "$work/check" integer 0x10k
         holds "check $by, refuses" answers 1 'refused: Booleans need' "$work/check" boolean maybe
         [ -d "$work/repository" ] || continue
-        for key in a.b A.B remote.O.url core.bare some.k; do
-            wanted=$(HOME=$work/home git -C "$work/repository" config --get "$key")
-            holds "config $by, $key" answers $? "$wanted\$" env HOME="$work/home" "$work/config" "$work/repository/.git" "$key"
-        done
         holds "six_settings $by, sets" env HOME="$work/home" "$work/six_settings" "$work/repository" 'A B'
         holds "six_settings $by, has set" test "$(git config -f "$work/repository/.git/config" user.name)" = 'A B'
         holds "table $by" answers 0 "$(printf '\033')\[1;4;91mbranch" env HOME="$work/home" TERM=xterm \
             "$work/table" "$work/repository" always
-        holds "config $by, another subsection" test -z "$(HOME=$work/home "$work/config" "$work/repository/.git" remote.o.url)"
     done
 done
 

@@ -1,6 +1,6 @@
 -- What the steps of a check count, and what is received.
 use Rattle.std.specs.Prelude.{◌≡◌, ◌≢◌, ⊤, ℕ, ◌+◌, ◌^◌, ◌<◌, ◌≤◌, List, [], ◌∷◌, ◌++◌, Option, None, Some, option_map}
-use Rattle.std.specs.Prelude.{Bool, true, false, IsTrue, ◌↔◌, IfSome, ◌==◌}
+use Rattle.std.specs.Prelude.{Bool, true, false, not, IsTrue, ◌↔◌, IfSome, ◌==◌}
 use Rattle.std.specs.List.{AllZip, list_any}
 use Rattle.std.specs.Char.{to_ascii_lowercase}
 use Rattle.config_text.specs.SameWord.{SameWord}
@@ -116,6 +116,11 @@ pub record ReportsEntries (rows : List Row) (options : Options) (file text : Lis
   pub settings : List Setting
   pub of_file : HasSettings file text settings error
   pub all : ReportsAll rows options settings known known' s
+
+-- every other field is one behind which a color stands no more: `color` if the last is where a color belongs
+pub data Turn : (color : Bool) → List (List ℕ) → Type 0 where
+  start : Turn false []
+  turn : (color : Bool) (fields : List (List ℕ)) (field : List ℕ) → Turn color fields → Turn (not color) (fields ++ field ∷ [])
 
 -- the number of edits, or `None` if there is no such number of at most three
 abbrev pub IsFew : (ℕ → Type 0) → Option ℕ → Type 0

@@ -5,7 +5,7 @@ ghost use Rattle.config_text.specs.Orders.{Equates, IsCopied};
 use crate::check::Counts;
 use crate::code::Code;
 use crate::finding::Finding;
-use crate::fix::Fix;
+use crate::fix::{Fix, Safety};
 use crate::kind::Form;
 use crate::options::Options;
 use crate::outcome::Outcome;
@@ -16,6 +16,7 @@ use crate::shape::Shape;
 use crate::suggestion::UnknownKey;
 use crate::table::{BadRow, RowFault};
 use crate::version::Version;
+use crate::wrong::Wrong;
 
 /// A clone of a form, a version, a run of rows or the fault of a row is the same, and never fails.
 pub fn rows()
@@ -44,6 +45,8 @@ pub fn findings()
     ensures findings { IsCopied ⟦<Finding<'static> as Clone>⟧.is_clone
         ⟦<Finding<'static> as Clone>⟧.is_infallible }
     ensures fixes { IsCopied ⟦<Fix<'static> as Clone>⟧.is_clone ⟦<Fix<'static> as Clone>⟧.is_infallible }
+    ensures safeties { IsCopied ⟦<Safety as Clone>⟧.is_clone ⟦<Safety as Clone>⟧.is_infallible }
+    ensures wrongs { IsCopied ⟦<Wrong<'static> as Clone>⟧.is_clone ⟦<Wrong<'static> as Clone>⟧.is_infallible }
 {}
 
 /// A clone of the options, the users or the counts of a check is the same, and never fails.

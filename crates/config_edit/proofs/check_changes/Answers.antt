@@ -1,6 +1,8 @@
-use Rattle.std.proofs.Common.{◌+◌, sym, take, drop}
+use Rattle.std.proofs.Common.{◌+◌, ◌∷◌, [], sym, take, drop}
 use Rattle.std.proofs.lemmas.List.{take-append-drop}
-use Rattle.config_edit.proofs.EditedKeys.{all_written, writable_more, take_more, take_all}
+use Rattle.config_file.proofs.ListsA.{all_appended}
+use Rattle.config_edit.specs.Reading.{IsWritable}
+use Rattle.config_edit.proofs.EditedKeys.{all_written, take_more, take_all}
 use Rattle.config_edit.proofs.check_changes.Goals as goal
 
 pub changes-preserved : goal.changes-preserved
@@ -8,7 +10,7 @@ changes-preserved c =
     let changes = c.args.changes.now in
     let index = c.changes.index in
     rw (take_more index changes c.in-Some.change.now c.in-Some.ensures.0)
-    (writable_more (take index changes) c.in-Some.change.now c.changes.invariant c.in_default-check_change.ensures)
+    (all_appended IsWritable (take index changes) (c.in-Some.change.now ∷ []) c.changes.invariant (c.in_default-check_change.ensures, tt))
 
 pub returns-in-Err : goal.returns-in-Err
 returns-in-Err c =

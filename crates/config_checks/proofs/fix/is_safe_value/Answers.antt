@@ -1,4 +1,4 @@
-use Rattle.std.proofs.Common.{◌≡◌, ◌≢◌, ◌∙◌, sym, ap, Some, option_copied, rules}
+use Rattle.std.proofs.Common.{◌≡◌, ◌≢◌, Some, rules}
 use Rattle.std.proofs.lemmas.Result.{IfOk-weaker}
 use Rattle.config_checks.specs.declared.code.Code.TheVariants.{NotCanonical, OtherValue}
 use Rattle.config_checks.specs.Settings.{value_of}

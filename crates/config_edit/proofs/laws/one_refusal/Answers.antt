@@ -1,6 +1,6 @@
 use Rattle.std.proofs.Common.{Some, None}
 use Rattle.config_edit.specs.Edit.{HasSeveral, HasNone, HasNoneAt, Never}
-use Rattle.config_edit.proofs.Refused.{refused_once, none_of_several}
+use Rattle.config_edit.proofs.Refused.{changes_refused_once, refused_once, none_of_several}
 use Rattle.config_edit.proofs.SectionLaws.{one_renaming_refusal, one_removal_refusal}
 use Rattle.config_edit.proofs.laws.one_refusal.Goals as goal
 
@@ -18,6 +18,9 @@ returns-clause-unset c = λ name text. refused_once HasSeveral HasNone name text
 pub returns-clause-each : goal.returns-clause-each
 returns-clause-each c = λ places name text.
     refused_once Never (HasNoneAt places) name text None (λ key contents several none. several)
+
+pub returns-clause-changed : goal.returns-clause-changed
+returns-clause-changed c = changes_refused_once
 
 pub returns-clause-renaming : goal.returns-clause-renaming
 returns-clause-renaming c = one_renaming_refusal

@@ -14,7 +14,8 @@ use Rattle.config_edit.specs.Edit.{Content, HasContents, IsOf, LosesOne, Without
 use Rattle.config_edit.specs.Unset as spec
 use Rattle.config_edit.specs.Unset.{Goes, Leaves, LeavesEmptied, IsEmptied, IsBelowComment, KeepsNone, LosesOf, TakesOut, IsTakenOut}
 use Rattle.config_edit.proofs.Literals.{at_comment, at_end, at_entry, at_top, comment_tail, end, feed_end, feed_tail, reads, top, valued}
-use Rattle.config_edit.proofs.TakenOut.{keeps_more, loses_more, no_line_comment, none_part, nothing_below, taken_out_once}
+use Rattle.config_edit.proofs.Cuts.{no_line_comment}
+use Rattle.config_edit.proofs.TakenOut.{keeps_more, loses_more, none_part, nothing_below, taken_out_once}
 use Rattle.config_edit.proofs.Literals.{ak, ak_is}
 use Rattle.config_edit.proofs.laws.unset_texts.Goals as goal
 
@@ -76,7 +77,7 @@ below bytes all =
     let goes : Goes ak None (front ∷ header ∷ end ∷ []) own = ((listing.plain, refl), tt) in
     let becomes : EachBecomes (λ before. Leaves ak None (front ∷ before)) (header ∷ end ∷ own ∷ []) (codes "[a]\n") =
     cut.next {before = header ∷ end ∷ []} own [] (cut.next {before = header ∷ []} end (codes "\n")
-    (cut.next {before = []} header (codes "[a]") cut.none (inr (λ goes. goes, refl))) (inr (λ goes. goes, refl))) (inl (goes, refl)) in
+    (cut.next {before = []} header (codes "[a]") cut.none (inr (λ goes. goes.0, refl))) (inr (λ goes. goes.0, refl))) (inl (goes, refl)) in
     spec.section {before = front ∷ []} header (spec.front {parts = front ∷ []} refl) refl refl
     (inr (λ (loses, none, apart). apart is_below, becomes))
 
@@ -92,13 +93,13 @@ in_line =
     ] in
     let becomes : EachBecomes (λ before. Leaves ak None before) (header ∷ own ∷ other ∷ []) (codes "[a]\nj=0\n") =
     cut.next {before = header ∷ own ∷ []} other (codes "j=0\n") (cut.next {before = header ∷ []} own (codes "\n")
-    (cut.next {before = []} header (codes "[a]") cut.none (inr (λ goes. goes, refl))) (inl (goes, feed_end (codes "k=") 49 (omega arith)))) (inr (stays, refl)) in
+    (cut.next {before = []} header (codes "[a]") cut.none (inr (λ goes. goes.0, refl))) (inl (goes, feed_end (codes "k=") 49 (omega arith)))) (inr (stays, refl)) in
     spec.section {before = []} header (spec.front {parts = []} refl) refl refl (inr (full, becomes))
 
 no_own : LosesOf ak None (header ∷ []) (end ∷ []) → ⊥
 no_own loses = elim ((loses_more ak None (header ∷ []) [] end).1 loses) [
   | inl (front, back, part, e, goes) ↦ none_part front back part e
-  | inr goes ↦ goes
+  | inr goes ↦ goes.0
 ]
 
 -- a section with no entry of the key, before one with another entry
@@ -112,11 +113,11 @@ kept =
       | inr blank ↦ blank
     ] in
     let first : EachBecomes (λ before. Leaves ak None before) (header ∷ end ∷ []) (codes "[a]\n") =
-    cut.next {before = header ∷ []} end (codes "\n") (cut.next {before = []} header (codes "[a]") cut.none (inr (λ goes. goes, refl)))
-    (inr (λ goes. goes, refl)) in
+    cut.next {before = header ∷ []} end (codes "\n") (cut.next {before = []} header (codes "[a]") cut.none (inr (λ goes. goes.0, refl)))
+    (inr (λ goes. goes.0, refl)) in
     let second : EachBecomes (λ before. Leaves ak None (header ∷ end ∷ before)) (header ∷ end ∷ other ∷ []) (codes "[a]\nj=0\n") =
     cut.next {before = header ∷ end ∷ []} other (codes "j=0\n") (cut.next {before = header ∷ []} end (codes "\n")
-    (cut.next {before = []} header (codes "[a]") cut.none (inr (λ goes. goes, refl))) (inr (λ goes. goes, refl))) (inr (stays, refl)) in
+    (cut.next {before = []} header (codes "[a]") cut.none (inr (λ goes. goes.0, refl))) (inr (λ goes. goes.0, refl))) (inr (stays, refl)) in
     spec.section {before = header ∷ end ∷ []} header
     (spec.section {before = []} header (spec.front {parts = []} refl) refl refl (inr (full, first))) refl refl (inr (more, second))
 

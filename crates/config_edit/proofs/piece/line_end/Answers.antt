@@ -5,12 +5,12 @@ use Rattle.config_edit.specs.Edit as spec
 use Rattle.config_edit.specs.Edit.{IsEndOfLine}
 use Rattle.config_edit.proofs.piece.line_end.Goals as goal
 
-pub returns-then-ends_with-clause-ends : goal.returns-then-ends_with-clause-ends
-returns-then-ends_with-clause-ends c =
+pub returns-then-ends_with : goal.returns-then-ends_with
+returns-then-ends_with c =
     let is = ends_is Decides-eqb c.args.line.now (13 ∷ 10 ∷ []) c.ends_with.result c.ends_with.ensures.value in
     subst (λ l. IsEndOfLine l true (13 ∷ 10 ∷ [])) (sym (is.0 c.if-ends_with.true)) (spec.return_feed _)
 
-pub returns-else-ends_with-clause-ends : goal.returns-else-ends_with-clause-ends
-returns-else-ends_with-clause-ends c =
+pub returns-else-ends_with : goal.returns-else-ends_with
+returns-else-ends_with c =
     let is = ends_is Decides-eqb c.args.line.now (13 ∷ 10 ∷ []) c.ends_with.result c.ends_with.ensures.value in
     spec.feed (λ front e. true≢false (sym (is.1 front e) ∙ c.if-ends_with.false))

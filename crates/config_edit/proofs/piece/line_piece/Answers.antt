@@ -1,5 +1,6 @@
 use Rattle.std.proofs.Common.{inl, inr}
-use Rattle.config_edit.proofs.Pieces.{joined_more, line_made, nothing_stops, refused, same_bytes}
+use Rattle.config_edit.proofs.Cuts.{line_made}
+use Rattle.config_edit.proofs.Pieces.{joined_more, nothing_stops, refused, same_bytes}
 use Rattle.config_edit.proofs.piece.line_piece.Goals as goal
 use Rattle.config_edit.proofs.piece.line_piece.Goals.{then-tail, else-tail}
 
@@ -15,7 +16,7 @@ returns-after-tail-clause-piece c =
     let rest = c.in-Some.tail.rest.now in
     let whole = joined_more c.args.text.now blanks c.args.at.now tail rest c.requires.joined cut in
     let made =
-    line_made c.if-tail.result blanks c.in-Some.tail.is_line tail (same_bytes rest c.before-in-Some.ensures whole) is in
+    line_made c.if-tail.result blanks c.in-Some.tail.is_line tail c.requires.blank (same_bytes rest c.before-in-Some.ensures whole) is in
     record {
       joined = c.before-in-Some.ensures;
       blank = c.requires.blank;

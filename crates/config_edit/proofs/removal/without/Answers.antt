@@ -8,6 +8,7 @@ use Rattle.config_edit.specs.Reading.{IsEntryHeld, contents_in, one_more, sectio
 use Rattle.config_edit.proofs.Replaced.{no_entry_held, no_header_after}
 use Rattle.config_edit.proofs.Removed.{losing_begins, losing_header, losing_keeps, losing_loses, losing_ends}
 use Rattle.config_edit.proofs.Removed.{nothing_in}
+use Rattle.config_edit.proofs.OnePart.{left_is_end}
 use Rattle.config_edit.proofs.TakenOut.{taken_begins, taken_header, taken_keeps, taken_loses, nothing_header}
 use Rattle.config_edit.proofs.AtPlaces.{all_left, left_after}
 use Rattle.config_edit.proofs.removal.without.Goals as goal
@@ -53,13 +54,13 @@ pieces-preserved c =
             omega arith,
           )
       | in-Entry+then-is_place+then-is_of+in_ok-lose-in-Entry w ↦
-          let (end, is_end, leaves, pushed, lost, kept) = w.in_ok-lose-in-Entry.ensures in
+          let (end, leaves, pushed, lost, kept) = w.in_ok-lose-in-Entry.ensures in
           let at = (left p.index (omega arith)).1 (w.at_place-is_place.ensures.here.0 w.if-is_place.true) in
           let of = (w.is_of.ensures losing.past.listable).0 w.if-is_of.true in
           let one : p.index + 1 ≡ p.index + length (contents_in piece.held section) = rw w.in-Entry.is in
           let count_is : m.count ≡ one_more p.count = w.count-is ∙ w.more-count.ensures in
           rw (w.new-is, w.group-is, count_is, w.left-is, w.index-is, w.section-is) (
-            losing_loses losing is shorter w.lose.new.self w.in-Entry.parts end w.in-Entry.is of at is_end pushed kept,
+            losing_loses losing is shorter w.lose.new.self w.in-Entry.parts end w.in-Entry.is of at (left_is_end p.group.in_head piece.bytes.now end piece.is_line leaves) pushed kept,
             rw w.in-Entry.is at (taken_loses taken is shorter {next = p.index + 1} (rw w.in-Entry.is refl) (rw w.in-Entry.is (of, at)) leaves pushed one below lost kept),
             left_after places (option_copied p.left) (option_copied w.at_place-is_place.result.1) p.index left w.at_place-is_place.ensures.left,
             omega arith,

@@ -72,7 +72,7 @@ returns c =
         ends_core = c.trimmed.ensures.last;
         feed_is = feed_is;
         is_written = c.comment_front.ensures;
-        is_end = c.line_end.ensures.ends;
+        is_end = c.line_end.ensures;
         put_is = refl;
       },
     )

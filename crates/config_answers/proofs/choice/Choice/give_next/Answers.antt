@@ -1,8 +1,8 @@
 use Rattle.std.proofs.Common.{rules, refl, [], ◌∷◌}
 use Rattle.config_file.specs.Views.{entry_of}
 use Rattle.config_file.specs.Walk.{Line, TooDeep}
+use Rattle.config_file.proofs.Coming.{line_next, ends_next, passed_next, entered_next, deep_next, stop_comes}
 use Rattle.config_answers.specs.Given.{nothing, one_more}
-use Rattle.config_answers.proofs.GivenLemmas.{line_next, ends_next, passed_next, entered_next, deep_next, stop_comes}
 use Rattle.config_answers.proofs.choice.Choice.give_next.Goals as goal
 
 pub returns-in-Line-clause-gives : goal.returns-in-Line-clause-gives

@@ -22,9 +22,10 @@ returns-in-Line-clause-adds g c = (
 )
 
 pub returns-in-Ends-clause-adds : goal.returns-in-Ends-clause-adds
-returns-in-Ends-clause-adds g c = ends_next (g.S.Files.contents c.args.files.now) c.args.known.now
-    c.args.self.now.entries.items c.args.walk.now.frames.items c.next.new.self.frames.items
-    (λ answers. rw c.in-Ends.is at (c.in-Ok.ensures.takes answers))
+returns-in-Ends-clause-adds g c =
+    let (none, comes) = ends_next (g.S.Files.contents c.args.files.now) c.args.known.now
+    c.args.walk.now.frames.items c.next.new.self.frames.items
+    (λ answers. rw c.in-Ends.is at (c.in-Ok.ensures.takes answers)) in (refl, none, comes)
 
 pub returns-in-Behind-clause-adds : goal.returns-in-Behind-clause-adds
 returns-in-Behind-clause-adds g c = (

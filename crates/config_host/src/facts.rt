@@ -1,0 +1,224 @@
+//! Answers what a search asks, by this system.
+
+use crate::disk::{Disk, ReadError};
+use crate::environment::{HostError, current_folder, kept_variable};
+use crate::names::{answer, known_of, known_of_link, opened_above, real_name, text_of};
+use crate::users::Users;
+use config_search as asks;
+use config_search::{Answer, Fact, Question, Stop, search};
+use gix_config_value::path::interpolate::home_for_user;
+use std::alloc::AllocError;
+use std::fs::{self, File, Metadata};
+use std::io::{self, ErrorKind, Read};
+use std::os::unix::fs::MetadataExt;
+
+/// The number of bytes of the start of a file.
+const START: u64 = 1 << 16;
+
+/// The number of bytes of a long start of a file.
+const LONG_START: u64 = 1 << 24;
+
+/// The value of a variable. The system opens no folder of a name that is not UTF-8, so that those that name the git
+/// directory have to be.
+fn variable<'t>(disk: &Disk<'t>, name: &str) -> Result<Option<&'t [u8]>, HostError> {
+    let value = kept_variable(disk, name)?;
+    if str::from_utf8(value.unwrap_or_default()).is_ok() {
+        return Ok(value);
+    }
+    match name {
+        "GIT_DIR" => Err(HostError::Variable("GIT_DIR")),
+        "GIT_COMMON_DIR" => Err(HostError::Variable("GIT_COMMON_DIR")),
+        _ => Ok(value),
+    }
+}
+
+/// What a file is.
+fn kind_of(known: io::Result<Metadata>) -> io::Result<Option<&'static [u8]>> {
+    let kind = match known {
+        Ok(known) => known.file_type(),
+        Err(error) => return match error.kind() {
+            ErrorKind::NotFound | ErrorKind::NotADirectory | ErrorKind::InvalidFilename => Ok(None),
+            ErrorKind::OutOfMemory => Err(error),
+            _ => Ok(Some(b"unknown")),
+        },
+    };
+    Ok(Some(if kind.is_symlink() {
+        b"link"
+    } else if kind.is_dir() {
+        b"folder"
+    } else if kind.is_file() {
+        b"file"
+    } else {
+        b"other"
+    }))
+}
+
+/// The name in a link.
+fn target_of<'t>(disk: &Disk<'t>, name: &str) -> io::Result<Option<&'t [u8]>> {
+    match answer(fs::read_link(disk.host, name))? {
+        Some(target) => Ok(Some(disk.kept(target.as_path().as_str().as_bytes())?)),
+        None => Ok(None),
+    }
+}
+
+/// The first bytes of a regular file.
+fn start_of<'t>(disk: &Disk<'t>, name: &str, most: u64) -> io::Result<Option<&'t [u8]>> {
+    match answer(fs::metadata(disk.host, name))? {
+        Some(known) if known.is_file() => {}
+        _ => return Ok(None),
+    }
+    let Some(file) = answer(File::open(disk.host, name))? else {
+        return Ok(None);
+    };
+    let mut text = Vec::new(disk.host.alloc());
+    match answer(file.take(most).read_to_end(&mut text))? {
+        Some(_) => Ok(Some(disk.kept(&text)?)),
+        None => Ok(None),
+    }
+}
+
+/// The whole text of a file that Git reads first, or that is included.
+fn whole_of<'t>(
+    disk: &Disk<'t>,
+    name: &str,
+    is_first: bool,
+) -> Result<Option<&'t [u8]>, AllocError> {
+    match disk.read_opened(name, is_first) {
+        Ok(text) => Ok(Some(text)),
+        Err(error) if error.is_memory() => Err(AllocError),
+        Err(_) => Ok(None),
+    }
+}
+
+/// Why the text of a file is not read.
+fn refusal_of<'t>(disk: &Disk<'t>, name: &str) -> Result<Option<&'t [u8]>, AllocError> {
+    let error = match disk.read_opened(name, true) {
+        Ok(_) => ReadError::Kind,
+        Err(error) => error,
+    };
+    if error.is_memory() {
+        return Err(AllocError);
+    }
+    if error.is_missing() {
+        return Ok(None);
+    }
+    if error.is_denied() {
+        return Ok(Some(b"denied"));
+    }
+    let words = format!(in disk.host.alloc(); "{error}")?;
+    Ok(Some(disk.kept(words.as_bytes())?))
+}
+
+/// The home folder of a user.
+fn home_of<'t>(disk: &Disk<'t>, user: &str) -> Result<Option<&'t [u8]>, AllocError> {
+    let Some(passwd) = Users::new(disk, b"")?.passwd else {
+        return Ok(None);
+    };
+    let Ok(passwd) = str::from_utf8(passwd) else {
+        return Ok(None);
+    };
+    match home_for_user(passwd, user) {
+        Some(home) => Ok(Some(home.as_bytes())),
+        None => Ok(None),
+    }
+}
+
+/// A number that the system knows of a file, in decimal, with another one behind it if there is one.
+fn number<'t>(disk: &Disk<'t>, first: u64, second: Option<u64>) -> Result<&'t [u8], AllocError> {
+    let text = match second {
+        Some(second) => format!(in disk.host.alloc(); "{first} {second}")?,
+        None => format!(in disk.host.alloc(); "{first}")?,
+    };
+    disk.kept(text.as_bytes())
+}
+
+/// What the system knows of a file, as an answer about this subject.
+fn numbers_of<'t>(
+    disk: &Disk<'t>,
+    subject: u32,
+    known: Option<Metadata>,
+) -> Result<Option<&'t [u8]>, AllocError> {
+    let Some(known) = known else {
+        return Ok(None);
+    };
+    Ok(Some(match subject {
+        asks::DEVICE => number(disk, known.dev(), None)?,
+        asks::IDENTITY => number(disk, known.dev(), Some(known.ino()))?,
+        _ => number(disk, u64::from(known.uid()), None)?,
+    }))
+}
+
+/// The answer about the file, the variable or the user of this name.
+fn answer_named<'t>(
+    disk: &Disk<'t>,
+    subject: u32,
+    name: &str,
+) -> Result<Option<&'t [u8]>, HostError> {
+    let host = disk.host;
+    Ok(match subject {
+        asks::VARIABLE => variable(disk, name)?,
+        asks::KIND => kind_of(fs::symlink_metadata(host, name))?,
+        asks::LEADS => kind_of(fs::metadata(host, name))?,
+        asks::LINK => target_of(disk, name)?,
+        asks::REAL => match real_name(host, name.as_bytes())? {
+            Some(real) => Some(disk.kept(&real)?),
+            None => None,
+        },
+        asks::TEXT => start_of(disk, name, START)?,
+        asks::BLOCK => start_of(disk, name, LONG_START)?,
+        asks::SETTINGS => whole_of(disk, name, true)?,
+        asks::INCLUDED => whole_of(disk, name, false)?,
+        asks::REFUSAL => refusal_of(disk, name)?,
+        asks::HOME => home_of(disk, name)?,
+        asks::OWNER => numbers_of(disk, subject, known_of_link(host, name.as_bytes())?)?,
+        _ => numbers_of(disk, subject, known_of(host, name.as_bytes())?)?,
+    })
+}
+
+/// The answer to a question.
+fn answer_to<'t>(disk: &Disk<'t>, question: &Question) -> Result<Option<&'t [u8]>, HostError> {
+    match question.subject {
+        asks::CURRENT => Ok(match answer(current_folder(disk.host))? {
+            Some(folder) => Some(disk.kept(&folder)?),
+            None => None,
+        }),
+        asks::USER => Ok(numbers_of(disk, asks::OWNER, known_of(disk.host, b"/proc/self")?)?),
+        subject => {
+            let opened = opened_above(disk.host, &question.name)?;
+            match text_of(&opened) {
+                Ok(name) => answer_named(disk, subject, name),
+                Err(_) => Ok(None),
+            }
+        }
+    }
+}
+
+/// The answer to a question, as a fact.
+fn fact_of<'t>(disk: &Disk<'t>, question: &Question) -> Result<Fact<'t>, HostError> {
+    let told = answer_to(disk, question)?;
+    Ok(Fact {
+        name: disk.kept(&question.name)?,
+        text: told.unwrap_or_default(),
+        subject: question.subject,
+        has: u32::from(told.is_some()),
+    })
+}
+
+/// Adds a fact.
+fn push<'t>(facts: &mut Vec<Fact<'t>>, fact: Fact<'t>) -> Result<(), AllocError> {
+    Ok(facts.push(fact)?)
+}
+
+/// What Git reads in the folder of this name. Names begin in the current folder.
+pub(crate) fn search_here<'t>(disk: &Disk<'t>, folder: &'t [u8]) -> Result<Answer, HostError> {
+    let alloc = disk.host.alloc();
+    let mut facts = Vec::new(alloc);
+    for _ in 0..u64::MAX {
+        match search(alloc, folder, &facts) {
+            Ok(answer) => return Ok(answer),
+            Err(Stop::Ask(question)) => push(&mut facts, fact_of(disk, &question)?)?,
+            Err(Stop::Memory(error)) => return Err(HostError::from(error)),
+        }
+    }
+    Err(HostError::from(AllocError))
+}
