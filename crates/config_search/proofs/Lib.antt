@@ -1,1 +1,5 @@
+pub mod Among
+pub mod Ceilings
+pub mod Lists
 pub mod Names
+pub mod OneAnswer

@@ -1,12 +1,20 @@
 -- What the rule says of the values of the program.
-use Rattle.std.specs.Prelude.{List, option_copied}
-use Rattle.config_search.specs.System.{IsOpen}
+use Rattle.std.specs.Prelude.{◌≡◌, ℕ, List, MatchBool, codes, map, option_copied}
+use Rattle.config_search.specs.System.{System, IsOpen}
+use Rattle.config_search.specs.Names.{opened}
 use Rattle.config_search.specs.declared.fact.Fact.{Fact}
 use Rattle.config_search.specs.declared.fact.Stop.{Stop}
 use Rattle.config_search.specs.declared.fact.Stop.TheVariants.{Ask, Memory}
 use Rattle.config_search.specs.declared.halt.Halt.{Halt}
 use Rattle.config_search.specs.declared.halt.Halt.TheVariants.{Stopped, Fault}
 use Rattle.config_search.specs.Rule as rule
+use Rattle.config_search.specs.Search as search
+use Rattle.config_search.specs.Files.{File}
+use Rattle.config_search.specs.declared.TheConstants.{DEVICE}
+use Rattle.config_search.specs.declared.answer.Named.{Named}
+use Rattle.config_search.specs.declared.seek.Found.{Found}
+use Rattle.config_search.specs.declared.seek.Found.TheVariants.{Nothing, In, Refused}
+use Rattle.config_search.specs.declared.seek.Limits.{Limits}
 use Rattle.config_search.specs.declared.git_dir.Common.{Common}
 use Rattle.config_search.specs.declared.seek.Form.{Form}
 use Rattle.config_search.specs.declared.seek.Form.TheVariants.{Given, Below, Bare}
@@ -33,6 +41,23 @@ form_of Bare = rule.IsBare
 -- the git directory that the program shows
 abbrev pub git_dir_of : GitDir → rule.GitDir
 git_dir_of it = record { name = it.name.items; named = it.named.items; form = form_of it.form }
+
+-- a file that the program names
+abbrev pub file_of : Named → File
+file_of named = record { scope = named.scope; name = named.name.items }
+
+-- what the program finds
+abbrev pub found_of : Found → search.Sought
+found_of Nothing = search.Nowhere
+found_of (In folder it) = search.Inside folder.name.now (git_dir_of it)
+found_of (Refused text) = search.Refused text.now
+
+-- where a search ends that began in a folder, as the program keeps it
+abbrev pub AreLimits : System → List ℕ → Limits → Type 0
+AreLimits system start limits = (map (λ c. c.now) limits.ceilings.items ≡ search.ceilings system)
+    × MatchBool limits.crosses (search.IsOn system (codes "GIT_DISCOVERY_ACROSS_FILESYSTEM"))
+    (¬ (search.IsOn system (codes "GIT_DISCOVERY_ACROSS_FILESYSTEM")))
+    × (option_copied limits.device ≡ system DEVICE (opened start))
 
 -- a question that stops the part of a search that reads settings is one that no fact answers
 abbrev pub IsNewHalt : List Fact → Halt → Type 0

@@ -1,5 +1,6 @@
 //! The format of a repository: its version, its extensions, and whether it is bare.
-ghost use Rattle.std.specs.Prelude.{IfOk, IfErr};
+ghost use Rattle.std.specs.Prelude.{IfOk, IfErr, IfSome};
+ghost use Rattle.config_search.specs.Answers.{IsOfOneThere};
 ghost use Rattle.config_search.specs.Shown.{IsNewHalt, AsksNothing};
 
 use crate::answer::{FaultKind, Refusal};
@@ -46,6 +47,29 @@ enum Extension {
     Hash,
     /// Its value says how references are stored.
     Store,
+}
+
+/// What a setting is about.
+#[derive(Clone, Copy)]
+enum Subject {
+    Bare,
+    WorkTree,
+    Version,
+    WorktreeFiles,
+    Store,
+    Other,
+}
+
+/// What a setting of this key is about.
+fn subject_of(key: &[u8]) -> Subject {
+    match str::from_utf8(key) {
+        Ok("core.bare") => Subject::Bare,
+        Ok("core.worktree") => Subject::WorkTree,
+        Ok("core.repositoryformatversion") => Subject::Version,
+        Ok("extensions.worktreeconfig") => Subject::WorktreeFiles,
+        Ok("extensions.refstorage") => Subject::Store,
+        _ => Subject::Other,
+    }
 }
 
 /// How references are stored, and in which folder, if they are in a place of their own.
@@ -225,39 +249,51 @@ impl Format {
         Ok(take_first(&mut self.unknown, alloc, name)?)
     }
 
-    /// Takes what a setting of this key says of the work tree.
+    /// Takes what a setting says of the work tree.
     fn take_work_tree(
         &mut self,
         alloc: Global,
         setting: &Setting<'_>,
-        key: &[u8],
+        subject: Subject,
     ) -> Result<(), Halt>
         ensures { IfErr result AsksNothing }
     {
-        match key {
-            b"core.bare" => self.is_bare = boolean(alloc, setting)?,
-            b"core.worktree" => {
-                self.work_tree = Some(text(alloc, setting)?.to_vec(alloc)?);
-            }
+        match subject {
+            Subject::Bare => self.is_bare = boolean(alloc, setting)?,
+            Subject::WorkTree => self.work_tree = Some(text(alloc, setting)?.to_vec(alloc)?),
             _ => {}
         }
         Ok(())
     }
 
-    /// Takes what a setting of this key says.
+    /// Takes what a setting says of the storage of references. A form that Git does not know is refused as an extension.
+    fn take_store(&mut self, alloc: Global, setting: &Setting<'_>) -> Result<(), Halt>
+        ensures { IfErr result AsksNothing }
+    {
+        if let Some(store) = store_in(alloc, text(alloc, setting)?)? {
+            self.store = store;
+        }
+        Ok(())
+    }
+
+    /// Takes what a setting says.
+    fn take(&mut self, alloc: Global, setting: &Setting<'_>, subject: Subject) -> Result<(), Halt>
+        ensures { IfErr result AsksNothing }
+    {
+        match subject {
+            Subject::Version => self.version = Some(version(alloc, setting)?),
+            Subject::WorktreeFiles => self.has_worktree_files = boolean(alloc, setting)?,
+            Subject::Store => self.take_store(alloc, setting)?,
+            _ => self.take_work_tree(alloc, setting, subject)?,
+        }
+        Ok(())
+    }
+
+    /// Takes what a setting of this key says, which may be an extension.
     fn take_named(&mut self, alloc: Global, setting: &Setting<'_>, key: &[u8]) -> Result<(), Halt>
         ensures { IfErr result AsksNothing }
     {
-        match key {
-            b"core.repositoryformatversion" => self.version = Some(version(alloc, setting)?),
-            b"extensions.worktreeconfig" => self.has_worktree_files = boolean(alloc, setting)?,
-            b"extensions.refstorage" => {
-                if let Some(store) = store_in(alloc, text(alloc, setting)?)? {
-                    self.store = store;
-                }
-            }
-            _ => self.take_work_tree(alloc, setting, key)?,
-        }
+        self.take(alloc, setting, subject_of(key))?;
         match key.strip_prefix(b"extensions.") {
             Some(name) => self.extend(alloc, setting, name),
             None => Ok(()),
@@ -281,7 +317,7 @@ impl Format {
         for setting in &settings_in(asked, &file, text)?.entries {
             let key = setting.entry.key_text(asked.alloc)?;
             if is_own {
-                if let Err(halt) = self.take_work_tree(asked.alloc, setting, &key) {
+                if let Err(halt) = self.take_work_tree(asked.alloc, setting, subject_of(&key)) {
                     return Err(halt);
                 }
             } else if let Err(halt) = self.take_named(asked.alloc, setting, &key) {
@@ -292,7 +328,9 @@ impl Format {
     }
 
     /// Why Git uses no repository of this format, if it does not.
-    pub fn refusal(&self, alloc: Global) -> Result<Option<Refusal>, AllocError> {
+    pub fn refusal(&self, alloc: Global) -> Result<Option<Refusal>, AllocError>
+        ensures { IfOk result (λ refusal. IfSome refusal IsOfOneThere) }
+    {
         if let Some(version @ 2..) = self.version {
             return Ok(Some(Refusal::Version(version)));
         }

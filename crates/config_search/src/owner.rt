@@ -1,5 +1,6 @@
 //! Which repositories Git trusts: those of the same owner, and those that settings name which no repository can change.
-ghost use Rattle.std.specs.Prelude.{IfErr};
+ghost use Rattle.std.specs.Prelude.{IfErr, IfSome, MatchResult};
+ghost use Rattle.config_search.specs.Answers.{IsOfOneThere};
 ghost use Rattle.config_search.specs.Shown.{IsNew, IsNewHalt};
 
 use crate::answer::{FaultKind, Refusal};
@@ -174,7 +175,7 @@ fn refuses_bare(
     start: &[u8],
     folder: Folder<'_>,
 ) -> Result<Option<Refusal>, Halt>
-    ensures { IfErr result (IsNewHalt asked.now.facts.now) }
+    ensures { MatchResult result (λ refusal. IfSome refusal IsOfOneThere) (IsNewHalt asked.now.facts.now) }
 {
     let may_be = allow_bare(asked, &protected_settings(asked, start)?)?;
     let real = told(asked, REAL, opened(folder.name))?.unwrap_or(folder.path);
@@ -190,7 +191,7 @@ fn refuses_owner(
     start: &[u8],
     folder: Folder<'_>,
 ) -> Result<Option<Refusal>, Halt>
-    ensures { IfErr result (IsNewHalt asked.now.facts.now) }
+    ensures { MatchResult result (λ refusal. IfSome refusal IsOfOneThere) (IsNewHalt asked.now.facts.now) }
 {
     let Some(real) = told(asked, REAL, opened(folder.name))? else {
         return Ok(Some(Refusal::Owner(folder.path.to_vec(asked.alloc)?)));
@@ -208,7 +209,7 @@ pub(crate) fn refuses(
     folder: Folder<'_>,
     git_dir: &GitDir,
 ) -> Result<Option<Refusal>, Halt>
-    ensures { IfErr result (IsNewHalt asked.now.facts.now) }
+    ensures { MatchResult result (λ refusal. IfSome refusal IsOfOneThere) (IsNewHalt asked.now.facts.now) }
 {
     if git_dir.form == Form::Given {
         return Ok(None);
@@ -221,5 +222,5 @@ pub(crate) fn refuses(
     if are_owned(asked, folder.name, git_dir)? {
         return Ok(None);
     }
-    refuses_owner(asked, start, folder)
+    Ok(refuses_owner(asked, start, folder)?)
 }

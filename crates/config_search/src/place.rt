@@ -1,6 +1,12 @@
 //! The search.
-ghost use Rattle.std.specs.Prelude.{IfErr};
-ghost use Rattle.config_search.specs.Shown.{IsNew, IsNewHalt};
+ghost use Rattle.std.specs.Prelude.{◌≡◌, ◌++◌, List, IfOk, IfErr, OnOk, MatchResult, map, option_map};
+ghost use Rattle.config_search.specs.System.{System, AreTrueIn};
+ghost use Rattle.config_search.specs.Shown.{IsNew, IsNewHalt, common_of as common_shown, file_of, found_of, git_dir_of};
+ghost use Rattle.config_search.specs.Rule as rule;
+ghost use Rattle.config_search.specs.Search as search;
+ghost use Rattle.config_search.specs.Files as files;
+ghost use Rattle.config_search.specs.Answers as answers;
+ghost use Rattle.config_search.specs.declared.TheConstants.{REAL};
 
 use crate::ahead::ask_ahead;
 use crate::answer::{Answer, Fault, FaultKind, Named, Outcome, Refusal, Repository};
@@ -63,7 +69,10 @@ fn is_below(folder: &[u8], top: &[u8]) -> bool {
 /// The name of a git directory in the folder in which Git starts: the same as in the folder in which it is found, if
 /// that is this one, and otherwise its path.
 fn name_here(asked: &Asked<'_, '_>, site: &Site<'_>) -> Result<Vec<u8>, Stop>
-    ensures { IfErr result (IsNew asked.now.facts.now) }
+    ensures { MatchResult result
+        (λ name. (system : System) → AreTrueIn system asked.now.facts.now
+        → answers.IsNamed system (git_dir_of site.now.git_dir) name.items)
+        (IsNew asked.now.facts.now) }
 {
     if site.folder.name == site.start.name {
         return Ok(site.git_dir.named.to_vec(asked.alloc)?);
@@ -81,11 +90,9 @@ struct WorkFolder {
 
 impl WorkFolder {
     /// This folder, with this name of the git directory.
-    fn new(
-        alloc: Global,
-        folder: Folder<'_>,
-        named_dir: Vec<u8>,
-    ) -> Result<WorkFolder, AllocError> {
+    fn new(alloc: Global, folder: Folder<'_>, named_dir: Vec<u8>) -> Result<WorkFolder, AllocError>
+        ensures { IfOk result (λ made. made.named_dir.items ≡ named_dir.items) }
+    {
         Ok(WorkFolder {
             name: folder.name.to_vec(alloc)?,
             path: folder.path.to_vec(alloc)?,
@@ -94,54 +101,104 @@ impl WorkFolder {
     }
 }
 
-/// The folder in which Git works: the top of the work tree if it starts below it, and otherwise where it starts.
-fn work_folder(asked: &Asked<'_, '_>, site: &Site<'_>, format: &Format) -> Result<WorkFolder, Stop>
-    ensures { IfErr result (IsNew asked.now.facts.now) }
+/// The folder in which Git works where a work tree is named: its top if Git starts below it, and otherwise where it
+/// starts.
+fn named_folder(asked: &Asked<'_, '_>, site: &Site<'_>, top: &[u8]) -> Result<WorkFolder, Stop>
+    ensures { MatchResult result
+        (λ place. (system : System) → AreTrueIn system asked.now.facts.now
+        → answers.IsNamed system (git_dir_of site.now.git_dir) place.named_dir.items)
+        (IsNew asked.now.facts.now) }
 {
-    let git_dir = &site.git_dir;
     let start = site.start;
+    let real = told(asked, REAL, opened(start.name))?.unwrap_or(start.path);
+    if !is_below(real, top) {
+        let named_dir = name_here(asked, site)?;
+        return Ok(WorkFolder::new(asked.alloc, start, named_dir)?);
+    }
+    let place = Folder {
+        name: top,
+        path: top,
+    };
+    let named_dir = resolved(asked, &site.git_dir.name)?;
+    Ok(WorkFolder::new(asked.alloc, place, named_dir)?)
+}
+
+/// The folder in which Git works where no work tree is named: that in which `.git` is found, and otherwise where it
+/// starts.
+fn plain_folder(asked: &Asked<'_, '_>, site: &Site<'_>, is_bare: bool) -> Result<WorkFolder, Stop>
+    ensures { MatchResult result
+        (λ place. (system : System) → AreTrueIn system asked.now.facts.now
+        → answers.IsNamed system (git_dir_of site.now.git_dir) place.named_dir.items)
+        (IsNew asked.now.facts.now) }
+{
+    if site.git_dir.form == Form::Below && !is_bare {
+        let named_dir = site.git_dir.named.to_vec(asked.alloc)?;
+        return Ok(WorkFolder::new(asked.alloc, site.folder, named_dir)?);
+    }
+    let named_dir = name_here(asked, site)?;
+    Ok(WorkFolder::new(asked.alloc, site.start, named_dir)?)
+}
+
+/// The folder in which Git works.
+fn work_folder(asked: &Asked<'_, '_>, site: &Site<'_>, format: &Format) -> Result<WorkFolder, Stop>
+    ensures { MatchResult result
+        (λ place. (system : System) → AreTrueIn system asked.now.facts.now
+        → answers.IsNamed system (git_dir_of site.now.git_dir) place.named_dir.items)
+        (IsNew asked.now.facts.now) }
+{
     match named_top(asked, site, format)? {
-        Some(top) => {
-            let real = told(asked, REAL, opened(start.name))?.unwrap_or(start.path);
-            if !is_below(real, &top) {
-                return Ok(WorkFolder::new(asked.alloc, start, name_here(asked, site)?)?);
-            }
-            let place = Folder {
-                name: &top,
-                path: &top,
-            };
-            Ok(WorkFolder::new(asked.alloc, place, resolved(asked, &git_dir.name)?)?)
-        }
-        None if git_dir.form == Form::Below && !format.is_bare => {
-            let named_dir = git_dir.named.to_vec(asked.alloc)?;
-            Ok(WorkFolder::new(asked.alloc, site.folder, named_dir)?)
-        }
-        None => Ok(WorkFolder::new(asked.alloc, start, name_here(asked, site)?)?),
+        Some(top) => Ok(named_folder(asked, site, &top)?),
+        None => Ok(plain_folder(asked, site, format.is_bare)?),
     }
 }
 
-/// The name of the folder that work trees share, as Git shows it.
-fn shown_common(asked: &Asked<'_, '_>, common: &Common, named_dir: &[u8]) -> Result<Vec<u8>, Stop>
-    ensures { IfErr result (IsNew asked.now.facts.now) }
+/// A name without links, or what GIT_COMMON_DIR gives in its place.
+fn given_or_resolved(asked: &Asked<'_, '_>, folder: &[u8]) -> Result<Vec<u8>, Stop>
+    ensures { MatchResult result
+        (λ name. (system : System) → AreTrueIn system asked.now.facts.now
+        → name.items ≡ answers.shown_linked system folder.now)
+        (IsNew asked.now.facts.now) }
 {
-    let Common::Linked(folder) = common else {
-        return Ok(named_dir.to_vec(asked.alloc)?);
-    };
     match told(asked, VARIABLE, b"GIT_COMMON_DIR")? {
         Some(given) => Ok(given.to_vec(asked.alloc)?),
         None => Ok(resolved(asked, folder)?),
     }
 }
 
+/// The name of the folder that work trees share, as Git shows it.
+fn shown_common(asked: &Asked<'_, '_>, common: &Common, named_dir: &[u8]) -> Result<Vec<u8>, Stop>
+    ensures { MatchResult result
+        (λ name. (system : System) → AreTrueIn system asked.now.facts.now
+        → name.items ≡ answers.shown_common system named_dir.now (common_shown common.now))
+        (IsNew asked.now.facts.now) }
+{
+    match common {
+        Common::Linked(folder) => Ok(given_or_resolved(asked, folder)?),
+        _ => Ok(named_dir.to_vec(asked.alloc)?),
+    }
+}
+
 /// A name from the root without links, or the other name if the system knows none.
 fn real_or(asked: &Asked<'_, '_>, name: &[u8], other: &[u8]) -> Result<Vec<u8>, Stop>
+    ensures { MatchResult result
+        (λ real. (system : System) → AreTrueIn system asked.now.facts.now
+        → real.items ≡ rule.or_itself other.now (system REAL name.now))
+        (IsNew asked.now.facts.now) }
+{
+    match told(asked, REAL, name)? {
+        Some(real) => Ok(real.to_vec(asked.alloc)?),
+        None => Ok(other.to_vec(asked.alloc)?),
+    }
+}
+
+/// The branch of a git directory.
+fn branch_in(asked: &Asked<'_, '_>, git_dir: &[u8], store: &Store) -> Result<Option<Vec<u8>>, Stop>
     ensures { IfErr result (IsNew asked.now.facts.now) }
 {
-    Ok(
-        told(asked, REAL, name)?
-            .unwrap_or(other)
-            .to_vec(asked.alloc)?,
-    )
+    match branch_of(asked, git_dir, store)? {
+        Some(branch) => Ok(Some(branch.to_vec(asked.alloc)?)),
+        None => Ok(None),
+    }
 }
 
 /// The repository of this git directory, in this folder.
@@ -151,26 +208,34 @@ fn repository_in(
     place: &WorkFolder,
     format: &Format,
 ) -> Result<Repository, Stop>
-    ensures { IfErr result (IsNew asked.now.facts.now) }
+    ensures { MatchResult result
+        (λ repository. (system : System) → AreTrueIn system asked.now.facts.now
+        → common_shown site.now.common ≡ rule.common_of system site.now.git_dir.name.items
+        → answers.IsNamed system (git_dir_of site.now.git_dir) place.now.named_dir.items
+        → answers.IsOf system (git_dir_of site.now.git_dir) repository)
+        (IsNew asked.now.facts.now) }
 {
     let path = inside(asked.alloc, &place.path, &place.named_dir)?;
-    let branch = match branch_of(asked, &site.git_dir.name, &format.store)? {
-        Some(branch) => Some(branch.to_vec(asked.alloc)?),
-        None => None,
-    };
+    let real = real_or(asked, &site.git_dir.name, &path)?;
+    let branch = branch_in(asked, &site.git_dir.name, &format.store)?;
+    let common_dir = shown_common(asked, &site.common, &place.named_dir)?;
     Ok(Repository {
-        real_git_dir: real_or(asked, &site.git_dir.name, &path)?,
         git_dir: path,
+        real_git_dir: real,
         branch,
         named_dir: place.named_dir.to_vec(asked.alloc)?,
-        common_dir: shown_common(asked, &site.common, &place.named_dir)?,
+        common_dir,
         has_worktree_files: format.has_worktree_files,
     })
 }
 
 /// Where Git works with this git directory, if it may have this format.
 fn located(asked: &Asked<'_, '_>, site: &Site<'_>, format: &Format) -> Result<Place, Stop>
-    ensures { IfErr result (IsNew asked.now.facts.now) }
+    ensures { MatchResult result
+        (λ place. (system : System) → AreTrueIn system asked.now.facts.now
+        → common_shown site.now.common ≡ rule.common_of system site.now.git_dir.name.items
+        → answers.Tells system (search.Inside site.now.folder.name.now (git_dir_of site.now.git_dir)) place.outcome)
+        (IsNew asked.now.facts.now) }
 {
     if let Some(refusal) = format.refusal(asked.alloc)? {
         return Ok(Place::new(asked.alloc, site.folder, Outcome::Refuses(refusal))?);
@@ -185,7 +250,9 @@ fn located(asked: &Asked<'_, '_>, site: &Site<'_>, format: &Format) -> Result<Pl
 
 impl Place {
     /// This folder, and what Git does there.
-    fn new(alloc: Global, folder: Folder<'_>, outcome: Outcome) -> Result<Place, AllocError> {
+    fn new(alloc: Global, folder: Folder<'_>, outcome: Outcome) -> Result<Place, AllocError>
+        ensures { IfOk result (λ place. place.outcome ≡ outcome) }
+    {
         Ok(Place {
             folder: folder.name.to_vec(alloc)?,
             outcome,
@@ -199,8 +266,11 @@ fn or_stops(
     folder: Folder<'_>,
     place: Result<Place, Halt>,
 ) -> Result<Place, Stop>
-    ensures { IfErr place (IsNewHalt asked.now.facts.now)
+    ensures asks { IfErr place (IsNewHalt asked.now.facts.now)
         → IfErr result (IsNew asked.now.facts.now) }
+    ensures tells { (system : System) (sought : search.Sought)
+        → IfOk place (λ p. answers.Tells system sought p.outcome)
+        → IfOk result (λ p. answers.Tells system sought p.outcome) }
 {
     match place {
         Ok(place) => Ok(place),
@@ -211,7 +281,11 @@ fn or_stops(
 
 /// Where Git works with this git directory, in which references are stored as it is given.
 fn used(asked: &Asked<'_, '_>, site: &Site<'_>, given: Option<Store>) -> Result<Place, Halt>
-    ensures { IfErr result (IsNewHalt asked.now.facts.now) }
+    ensures { MatchResult result
+        (λ place. (system : System) → AreTrueIn system asked.now.facts.now
+        → common_shown site.now.common ≡ rule.common_of system site.now.git_dir.name.items
+        → answers.Tells system (search.Inside site.now.folder.name.now (git_dir_of site.now.git_dir)) place.outcome)
+        (IsNewHalt asked.now.facts.now) }
 {
     let mut format = format_of(asked, &site.git_dir.name, &site.common)?;
     format.store = given.unwrap_or(format.store);
@@ -225,7 +299,11 @@ fn site_of<'t>(
     folder: Folder<'t>,
     git_dir: GitDir,
 ) -> Result<Site<'t>, Halt>
-    ensures { IfErr result (IsNewHalt asked.now.facts.now) }
+    ensures { MatchResult result
+        (λ site. (site.folder ≡ folder.entry) × (site.git_dir ≡ git_dir)
+        × ((system : System) → AreTrueIn system asked.now.facts.now
+        → common_shown site.common ≡ rule.common_of system site.git_dir.name.items))
+        (IsNewHalt asked.now.facts.now) }
 {
     let common = common_of(asked, &git_dir.name)?;
     if matches!(common, Common::Broken) {
@@ -243,7 +321,11 @@ fn site_of<'t>(
 
 /// What Git does with this git directory, if it trusts it.
 fn trusted(asked: &Asked<'_, '_>, site: &Site<'_>) -> Result<Place, Halt>
-    ensures { IfErr result (IsNewHalt asked.now.facts.now) }
+    ensures { MatchResult result
+        (λ place. (system : System) → AreTrueIn system asked.now.facts.now
+        → common_shown site.now.common ≡ rule.common_of system site.now.git_dir.name.items
+        → answers.Tells system (search.Inside site.now.folder.name.now (git_dir_of site.now.git_dir)) place.outcome)
+        (IsNewHalt asked.now.facts.now) }
 {
     let start = site.start;
     if let Some(refusal) = refuses(asked, start.name, site.folder, &site.git_dir)? {
@@ -254,13 +336,17 @@ fn trusted(asked: &Asked<'_, '_>, site: &Site<'_>) -> Result<Place, Halt>
     Ok(or_stops(asked, site.folder, used(asked, site, given))?)
 }
 
-/// What Git does where it starts in this folder.
-fn place_of<'t>(asked: &Asked<'_, 't>, start: Folder<'t>) -> Result<Place, Halt>
-    ensures { IfErr result (IsNewHalt asked.now.facts.now) }
+/// What Git does where it starts in this folder and finds this.
+fn place_of<'t>(asked: &Asked<'_, 't>, start: Folder<'t>, found: Found<'t>) -> Result<Place, Halt>
+    ensures { MatchResult result
+        (λ place. (system : System) → AreTrueIn system asked.now.facts.now
+        → answers.Tells system (found_of found.entry) place.outcome)
+        (IsNewHalt asked.now.facts.now) }
 {
-    let outcome = match seek(asked, start)? {
+    let outcome = match found {
         Found::In(folder, git_dir) => {
-            return trusted(asked, &site_of(asked, start, folder, git_dir)?);
+            let site = site_of(asked, start, folder, git_dir)?;
+            return trusted(asked, &site);
         }
         Found::Nothing => Outcome::FindsNone,
         Found::Refused(given) => Outcome::Refuses(Refusal::GitDir(given.to_vec(asked.alloc)?)),
@@ -269,24 +355,34 @@ fn place_of<'t>(asked: &Asked<'_, 't>, start: Folder<'t>) -> Result<Place, Halt>
     Ok(Place::new(asked.alloc, start, outcome)?)
 }
 
+/// Adds the files of the repository that Git uses, if it uses one.
+fn push_used(alloc: Global, names: &mut Vec<Named>, outcome: &Outcome) -> Result<(), AllocError>
+    ensures { OnOk result (map file_of names.new.items
+        ≡ map file_of names.old.items ++ answers.files_of outcome.now) }
+{
+    let Outcome::Uses(repository) = outcome else {
+        return Ok(());
+    };
+    let (shared, own) = (&repository.common_dir, &repository.named_dir);
+    push_repository(alloc, names, shared, own, repository.has_worktree_files)
+}
+
 /// The files that Git reads where it does this.
 fn files_of(asked: &Asked<'_, '_>, outcome: &Outcome) -> Result<Vec<Named>, Stop>
-    ensures { IfErr result (IsNew asked.now.facts.now) }
+    ensures { MatchResult result
+        (λ names. (system : System) → AreTrueIn system asked.now.facts.now
+        → files.AreFiles system (answers.files_of outcome.now) (map file_of names.items))
+        (IsNew asked.now.facts.now) }
 {
-    let mut files = protected_files(asked)?;
-    if let Outcome::Uses(repository) = outcome {
-        let own = if repository.has_worktree_files {
-            Some(repository.named_dir.as_slice())
-        } else {
-            None
-        };
-        push_repository(asked.alloc, &mut files, &repository.common_dir, own)?;
-    }
-    Ok(files)
+    let mut names = protected_files(asked)?;
+    push_used(asked.alloc, &mut names, outcome)?;
+    Ok(names)
 }
 
 /// What Git does in a folder that is not there.
-fn nowhere(alloc: Global, folder: &[u8]) -> Result<Place, AllocError> {
+fn nowhere(alloc: Global, folder: &[u8]) -> Result<Place, AllocError>
+    ensures { IfOk result (λ place. answers.IsNowhere place.outcome) }
+{
     Ok(Place {
         folder: folder.to_vec(alloc)?,
         outcome: Outcome::Stops(Fault {
@@ -298,18 +394,45 @@ fn nowhere(alloc: Global, folder: &[u8]) -> Result<Place, AllocError> {
     })
 }
 
+/// What Git does where it starts in this folder.
+fn place_from<'t>(asked: &Asked<'_, 't>, start: Folder<'t>) -> Result<Place, Stop>
+    ensures { MatchResult result
+        (λ place. (system : System) → AreTrueIn system asked.now.facts.now
+        → (sought : search.Sought) × search.OnlySeeks system start.entry.name.now sought
+        × answers.Tells system sought place.outcome)
+        (IsNew asked.now.facts.now) }
+{
+    let found = seek(asked, start)?;
+    Ok(or_stops(asked, start, place_of(asked, start, found))?)
+}
+
+/// What Git does in a folder.
+fn place_in<'t>(asked: &Asked<'_, 't>, folder: &'t [u8]) -> Result<Place, Stop>
+    ensures { MatchResult result
+        (λ place. (system : System) → AreTrueIn system asked.now.facts.now
+        → answers.Does system (search.start_of folder.now)
+        (search.path_of system (search.start_of folder.now)) place.outcome)
+        (IsNew asked.now.facts.now) }
+{
+    match folder_of_name(asked, folder)? {
+        Some(start) => Ok(place_from(asked, start)?),
+        None => Ok(nowhere(asked.alloc, folder)?),
+    }
+}
+
 /// What Git reads in a folder, or the question that no fact answers yet.
 fn answer_by<'t>(asked: &Asked<'_, 't>, folder: &'t [u8]) -> Result<Answer, Stop>
-    ensures { IfErr result (IsNew asked.now.facts.now) }
+    ensures { MatchResult result
+        (λ answer. (system : System) → AreTrueIn system asked.now.facts.now
+        → answers.Answers system folder.now answer)
+        (IsNew asked.now.facts.now) }
 {
-    let place = match folder_of_name(asked, folder)? {
-        Some(start) => or_stops(asked, start, place_of(asked, start))?,
-        None => nowhere(asked.alloc, folder)?,
-    };
+    let place = place_in(asked, folder)?;
+    let files = files_of(asked, &place.outcome)?;
     Ok(Answer {
-        files: files_of(asked, &place.outcome)?,
         folder: place.folder,
         outcome: place.outcome,
+        files,
     })
 }
 
@@ -326,9 +449,11 @@ fn answer_by<'t>(asked: &Asked<'_, 't>, folder: &'t [u8]) -> Result<Answer, Stop
 /// assert_eq!(rt; question.name.as_slice(), b"PWD".as_slice()); // tell it as a fact, and search again
 /// ```
 pub fn search<'t>(alloc: Global, folder: &'t [u8], facts: &[Fact<'t>]) -> Result<Answer, Stop>
-    ensures { IfErr result (IsNew facts.now) }
+    ensures { MatchResult result
+        (λ answer. (system : System) → AreTrueIn system facts.now → answers.Answers system folder.now answer)
+        (IsNew facts.now) }
 {
     let asked = Asked::new(alloc, facts);
     ask_ahead(&asked)?;
-    answer_by(&asked, folder)
+    Ok(answer_by(&asked, folder)?)
 }

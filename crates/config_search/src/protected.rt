@@ -352,10 +352,10 @@ impl Findings {
         place: FilePlace<'_>,
         entry: &Entry<'_>,
     ) -> Result<(), AllocError> {
-        match entry.key_text(alloc)?.as_slice() {
-            b"safe.directory" => self.take_said(alloc, place, entry, false)?,
-            b"safe.barerepository" => self.take_said(alloc, place, entry, true)?,
-            _ => {}
+        let key = entry.key_text(alloc)?;
+        let is_bare = key.as_slice() == b"safe.barerepository".as_slice();
+        if is_bare || key.as_slice() == b"safe.directory".as_slice() {
+            self.take_said(alloc, place, entry, is_bare)?;
         }
         self.asks_for_urls = self.asks_for_urls || asks_for_urls(alloc, entry)?;
         if is_remote_url(entry) && entry.value.is_some() {

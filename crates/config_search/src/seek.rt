@@ -1,15 +1,16 @@
 //! Seeks the git directory of a folder, as Git does: GIT_DIR, or the first one upwards.
 
-ghost use Rattle.std.specs.Prelude.{◌≡◌, MatchResult, option_copied, option_map, IfErr};
+ghost use Rattle.std.specs.Prelude.{◌≡◌, ℕ, List, [], true, None, Contains, codes, map, MatchBool, MatchResult, IfSome, option_copied, option_map};
 ghost use Rattle.config_search.specs.System.{System, AreTrueIn};
-ghost use Rattle.config_search.specs.Shown.{IsNew, form_of, git_dir_of};
+ghost use Rattle.config_search.specs.Shown.{IsNew, AreLimits, form_of, found_of, git_dir_of};
 ghost use Rattle.config_search.specs.Rule as rule;
+ghost use Rattle.config_search.specs.Search as search;
+ghost use Rattle.config_search.specs.declared.TheConstants.{VARIABLE};
 
-use crate::fact::{Asked, Stop, is_known, told, told_in};
+use crate::fact::{Asked, Stop, is_known, is_word, told, told_in};
 use crate::git_dir::{has_folder, is_git_dir, linked};
 use crate::name::{inside, opened, parent, push};
 use crate::{CURRENT, DEVICE, IDENTITY, KIND, REAL, VARIABLE};
-use bstr::ByteSlice;
 use config_text::readers::TryRead;
 use gix_config_value::Boolean;
 
@@ -53,17 +54,29 @@ pub(crate) enum Found<'t> {
     Refused(&'t [u8]),
 }
 
-/// Whether a variable has a boolean text that is true.
-pub(crate) fn is_on(asked: &Asked<'_, '_>, name: &[u8]) -> Result<bool, Stop>
-    ensures { IfErr result (IsNew asked.now.facts.now) }
+/// Whether a value is a boolean text that is true.
+fn is_true(value: Option<&[u8]>) -> bool
+    ensures { MatchBool result (search.IsOnText (option_copied value.entry))
+        (¬ (search.IsOnText (option_copied value.entry))) }
 {
-    let Some(value) = told(asked, VARIABLE, name)? else {
-        return Ok(false);
+    let Some(value) = value else {
+        return false;
     };
     match Boolean::try_read(value) {
-        Ok(boolean) => Ok(boolean.0),
-        Err(_) => Ok(false),
+        Ok(boolean) => boolean.0,
+        Err(_) => false,
     }
+}
+
+/// Whether a variable has a boolean text that is true.
+pub(crate) fn is_on(asked: &Asked<'_, '_>, name: &[u8]) -> Result<bool, Stop>
+    ensures { MatchResult result
+        (λ is. (system : System) → AreTrueIn system asked.now.facts.now
+        → MatchBool is (search.IsOn system name.now) (¬ (search.IsOn system name.now)))
+        (IsNew asked.now.facts.now) }
+{
+    let value = told(asked, VARIABLE, name)?;
+    Ok(is_true(value))
 }
 
 /// The path of a folder without links, or `None` if there is no such folder.
@@ -82,25 +95,66 @@ pub(crate) fn real_folder<'t>(asked: &Asked<'_, 't>, name: &[u8]) -> Result<Opti
     Ok(told(asked, REAL, name)?)
 }
 
+/// Whether there are answers to two questions, and they are the same.
+fn is_same(first: Option<&[u8]>, second: Option<&[u8]>) -> bool
+    ensures { result ≡ search.is_same (option_copied first.entry) (option_copied second.entry) }
+{
+    match first {
+        Some(first) => is_word(second, first),
+        None => false,
+    }
+}
+
 /// Whether this name begins at the root, and is one of the folder.
 fn is_path_of(asked: &Asked<'_, '_>, path: &[u8], folder: &[u8]) -> Result<bool, Stop>
-    ensures { IfErr result (IsNew asked.now.facts.now) }
+    ensures { MatchResult result
+        (λ is. (system : System) → AreTrueIn system asked.now.facts.now
+        → is ≡ search.is_path_of system path.now folder.now)
+        (IsNew asked.now.facts.now) }
 {
     if !path.starts_with(b"/") {
         return Ok(false);
     }
     let here = told(asked, IDENTITY, opened(folder))?;
-    Ok(here.is_some() && told(asked, IDENTITY, path)? == here)
+    Ok(is_same(here, told(asked, IDENTITY, path)?))
+}
+
+/// The path of a folder: this one from the root if it is one of the folder, and otherwise the one without links.
+fn path_by<'t>(
+    asked: &Asked<'_, 't>,
+    name: &[u8],
+    given: Option<&'t [u8]>,
+) -> Result<Option<&'t [u8]>, Stop>
+    ensures { MatchResult result
+        (λ path. (system : System) → AreTrueIn system asked.now.facts.now
+        → option_copied path ≡ search.path_by system name.now (option_copied given.entry))
+        (IsNew asked.now.facts.now) }
+{
+    let Some(path) = given else {
+        return Ok(real_folder(asked, name)?);
+    };
+    if is_path_of(asked, path, name)? {
+        return Ok(Some(path));
+    }
+    Ok(real_folder(asked, name)?)
 }
 
 /// The path of a folder: the text of PWD if that is the same folder, and otherwise its path without links.
 fn named_path<'t>(asked: &Asked<'_, 't>, name: &[u8]) -> Result<Option<&'t [u8]>, Stop>
-    ensures { IfErr result (IsNew asked.now.facts.now) }
+    ensures { MatchResult result
+        (λ path. (system : System) → AreTrueIn system asked.now.facts.now
+        → option_copied path ≡ search.path_of system name.now)
+        (IsNew asked.now.facts.now) }
 {
-    match told(asked, VARIABLE, b"PWD")? {
-        Some(path) if is_path_of(asked, path, name)? => Ok(Some(path)),
-        _ => Ok(real_folder(asked, name)?),
-    }
+    let path = told(asked, VARIABLE, b"PWD")?;
+    Ok(path_by(asked, name, path)?)
+}
+
+/// The name of a folder in which Git starts: `.` is the current one.
+fn start_of(name: &[u8]) -> &[u8]
+    ensures { result.now ≡ search.start_of name.now }
+{
+    if name == b".".as_slice() { b"" } else { name }
 }
 
 /// The folder of this name, or `None` if there is no such folder: an empty name, or `.`, is the current one.
@@ -108,9 +162,13 @@ pub(crate) fn folder_of_name<'t>(
     asked: &Asked<'_, 't>,
     name: &'t [u8],
 ) -> Result<Option<Folder<'t>>, Stop>
-    ensures { IfErr result (IsNew asked.now.facts.now) }
+    ensures { MatchResult result
+        (λ folder. (system : System) → AreTrueIn system asked.now.facts.now
+        → (option_map (λ f. f.path.now) folder ≡ search.path_of system (search.start_of name.now))
+        × IfSome folder (λ f. f.name.now ≡ search.start_of name.now))
+        (IsNew asked.now.facts.now) }
 {
-    let name = if name == b".".as_slice() { b"" } else { name };
+    let name = start_of(name);
     match named_path(asked, name)? {
         Some(path) => Ok(Some(Folder { name, path })),
         None => Ok(None),
@@ -189,35 +247,90 @@ fn find_in(asked: &Asked<'_, '_>, start: &[u8], folder: &[u8]) -> Result<Option<
     Ok(find_bare(asked, start, folder)?)
 }
 
+/// A name without one slash at its end, unless it is that of the root.
+fn without_slash(name: &[u8]) -> &[u8]
+    ensures { result.now ≡ search.without_slash name.now }
+{
+    if name.ends_with(b"/") && name.len() != 1 {
+        return &name[..name.len() - 1];
+    }
+    name
+}
+
 /// A folder of GIT_CEILING_DIRECTORIES without links if it is to be resolved, and otherwise without one slash at its
 /// end.
 fn ceiling<'t>(asked: &Asked<'_, 't>, folder: &'t [u8], is_resolved: bool) -> Result<&'t [u8], Stop>
-    ensures { IfErr result (IsNew asked.now.facts.now) }
+    ensures { MatchResult result
+        (λ at. (system : System) → AreTrueIn system asked.now.facts.now
+        → at.now ≡ search.ceiling system is_resolved folder.now)
+        (IsNew asked.now.facts.now) }
 {
-    if is_resolved {
-        return Ok(told(asked, REAL, folder)?.unwrap_or(folder));
+    if !is_resolved {
+        return Ok(without_slash(folder));
     }
-    match folder.strip_suffix(b"/") {
-        Some(trimmed) if !trimmed.is_empty() => Ok(trimmed),
-        _ => Ok(folder),
+    match told(asked, REAL, folder)? {
+        Some(real) => Ok(real),
+        None => Ok(folder),
     }
 }
 
-/// The folders of GIT_CEILING_DIRECTORIES, between which are colons, without links. Those after an empty one are taken
-/// as they are.
-fn ceilings<'t>(asked: &Asked<'_, 't>) -> Result<Vec<&'t [u8]>, Stop>
-    ensures { IfErr result (IsNew asked.now.facts.now) }
+/// Whether links count in a part of a list: they did before it, and it is not empty.
+fn counts(is_resolved: bool, part: &[u8]) -> bool
+    ensures { result ≡ search.counts is_resolved part.now }
 {
-    let mut ceilings = Vec::new(asked.alloc);
-    let Some(folders) = told(asked, VARIABLE, b"GIT_CEILING_DIRECTORIES")? else {
-        return Ok(ceilings);
-    };
+    is_resolved && !part.is_empty()
+}
+
+/// The folders that this text names, between which are colons, without links. Those after an empty one are taken as
+/// they are.
+fn ceilings_in<'t>(asked: &Asked<'_, 't>, text: &'t [u8]) -> Result<Vec<&'t [u8]>, Stop>
+    ensures { MatchResult result
+        (λ found. (system : System) → AreTrueIn system asked.now.facts.now
+        → map (λ c. c.now) found.items ≡ search.ceilings_in system true [] text.now)
+        (IsNew asked.now.facts.now) }
+{
+    let mut found = Vec::new(asked.alloc);
     let mut is_resolved = true;
-    for folder in folders.split_str(b":") {
-        is_resolved = is_resolved && !folder.is_empty();
-        push(&mut ceilings, ceiling(asked, folder, is_resolved)?)?;
+    let mut start = 0;
+    for (i, byte) in text.iter().enumerate() {
+        if *byte == b':' {
+            let folder = &text[start..i];
+            is_resolved = counts(is_resolved, folder);
+            let at = ceiling(asked, folder, is_resolved)?;
+            push(&mut found, at)?;
+            start = i + 1;
+        }
     }
-    Ok(ceilings)
+    let folder = &text[start..];
+    let at = ceiling(asked, folder, counts(is_resolved, folder))?;
+    push(&mut found, at)?;
+    Ok(found)
+}
+
+/// The folders of GIT_CEILING_DIRECTORIES.
+fn ceilings<'t>(asked: &Asked<'_, 't>) -> Result<Vec<&'t [u8]>, Stop>
+    ensures { MatchResult result
+        (λ found. (system : System) → AreTrueIn system asked.now.facts.now
+        → map (λ c. c.now) found.items ≡ search.ceilings system)
+        (IsNew asked.now.facts.now) }
+{
+    match told(asked, VARIABLE, b"GIT_CEILING_DIRECTORIES")? {
+        Some(text) => Ok(ceilings_in(asked, text)?),
+        None => Ok(Vec::new(asked.alloc)),
+    }
+}
+
+/// Whether a folder is among these.
+fn is_among(folders: &[&[u8]], folder: &[u8]) -> bool
+    ensures { MatchBool result (Contains (map (λ c. c.now) folders.now) folder.now)
+        (¬ (Contains (map (λ c. c.now) folders.now) folder.now)) }
+{
+    for other in folders {
+        if *other == folder {
+            return true;
+        }
+    }
+    false
 }
 
 /// Where a search upwards ends.
@@ -232,26 +345,30 @@ struct Limits<'t> {
 impl<'t> Limits<'t> {
     /// What the environment says of a search that begins in this folder.
     fn new(asked: &Asked<'_, 't>, folder: &[u8]) -> Result<Limits<'t>, Stop>
-        ensures { IfErr result (IsNew asked.now.facts.now) }
+        ensures { MatchResult result
+            (λ limits. (system : System) → AreTrueIn system asked.now.facts.now
+            → AreLimits system folder.now limits)
+            (IsNew asked.now.facts.now) }
     {
         let crosses = is_on(asked, b"GIT_DISCOVERY_ACROSS_FILESYSTEM")?;
-        let device = if crosses {
-            None
-        } else {
-            told(asked, DEVICE, opened(folder))?
-        };
+        let device = told(asked, DEVICE, opened(folder))?;
+        let ceilings = ceilings(asked)?;
         Ok(Limits {
             crosses,
             device,
-            ceilings: ceilings(asked)?,
+            ceilings,
         })
     }
 
     /// Whether the search ends before this folder.
     fn end_at(&self, asked: &Asked<'_, '_>, folder: &[u8]) -> Result<bool, Stop>
-        ensures { IfErr result (IsNew asked.now.facts.now) }
+        ensures { MatchResult result
+            (λ ends. (system : System) (start : List ℕ) → AreTrueIn system asked.now.facts.now
+            → AreLimits system start self.now
+            → MatchBool ends (search.Ends system start folder.now) (¬ (search.Ends system start folder.now)))
+            (IsNew asked.now.facts.now) }
     {
-        if self.ceilings.contains(&folder) {
+        if is_among(&self.ceilings, folder) {
             return Ok(true);
         }
         if self.crosses {
@@ -272,7 +389,10 @@ fn find_above<'t>(
     limits: &Limits<'t>,
     lowest: &'t [u8],
 ) -> Result<Found<'t>, Stop>
-    ensures { IfErr result (IsNew asked.now.facts.now) }
+    ensures { MatchResult result
+        (λ found. (system : System) → AreTrueIn system asked.now.facts.now
+        → AreLimits system start.now limits.now → search.Above system start.now lowest.now (found_of found))
+        (IsNew asked.now.facts.now) }
 {
     let mut folder = lowest;
     'up: loop {
@@ -299,7 +419,10 @@ fn find_given<'t>(
     start: Folder<'t>,
     given: &'t [u8],
 ) -> Result<Found<'t>, Stop>
-    ensures { IfErr result (IsNew asked.now.facts.now) }
+    ensures { MatchResult result
+        (λ found. (system : System) → AreTrueIn system asked.now.facts.now
+        → found_of found ≡ search.given_in system start.entry.name.now given.now)
+        (IsNew asked.now.facts.now) }
 {
     // an empty text would become the name of the folder
     if given.is_empty() {
@@ -315,7 +438,10 @@ fn find_given<'t>(
 
 /// The git directory of a folder: that of the folder itself, or of the first one above it.
 fn find_upwards<'t>(asked: &Asked<'_, 't>, start: Folder<'t>) -> Result<Found<'t>, Stop>
-    ensures { IfErr result (IsNew asked.now.facts.now) }
+    ensures { MatchResult result
+        (λ found. (system : System) → AreTrueIn system asked.now.facts.now
+        → system VARIABLE (codes "GIT_DIR") ≡ None → search.Seeks system start.entry.name.now (found_of found))
+        (IsNew asked.now.facts.now) }
 {
     if let Some(git_dir) = find_in(asked, start.name, start.name)? {
         return Ok(Found::In(start, git_dir));
@@ -329,10 +455,13 @@ fn find_upwards<'t>(asked: &Asked<'_, 't>, start: Folder<'t>) -> Result<Found<'t
 
 /// The git directory of a folder: GIT_DIR, or the first one upwards.
 pub(crate) fn seek<'t>(asked: &Asked<'_, 't>, start: Folder<'t>) -> Result<Found<'t>, Stop>
-    ensures { IfErr result (IsNew asked.now.facts.now) }
+    ensures { MatchResult result
+        (λ found. (system : System) → AreTrueIn system asked.now.facts.now
+        → search.Seeks system start.entry.name.now (found_of found))
+        (IsNew asked.now.facts.now) }
 {
     match told(asked, VARIABLE, b"GIT_DIR")? {
-        Some(given) => find_given(asked, start, given),
-        None => find_upwards(asked, start),
+        Some(given) => Ok(find_given(asked, start, given)?),
+        None => Ok(find_upwards(asked, start)?),
     }
 }

@@ -1,0 +1,101 @@
+-- What an answer tells of a system.
+--
+-- Look for: an answer that uses a repository uses the one that the rule finds. Which repositories Git trusts, which
+-- formats it knows, at which texts it stops and where the top of a work tree is are not stated here, but tested: such an
+-- answer says only that a git directory is there.
+use Rattle.std.specs.Prelude.{◌≡◌, ◌⊎◌, ℕ, List, [], Option, None, Some, codes, map}
+use Rattle.config_search.specs.System.{System}
+use Rattle.config_search.specs.Rule.{GitDir, Common, Own, Linked, Broken, or_itself, resolved, common_of}
+use Rattle.config_search.specs.Search.{Sought, Nowhere, Inside, Refused, OnlySeeks, path_of, start_of}
+use Rattle.config_search.specs.Files.{File, AreFiles, AreOnlyFiles, of_repository_in}
+use Rattle.config_search.specs.Shown.{file_of}
+use Rattle.config_search.specs.declared.answer.Answer.{Answer}
+use Rattle.config_search.specs.declared.answer.Outcome.{Outcome}
+use Rattle.config_search.specs.declared.answer.Outcome.TheVariants.{Uses, FindsNone, Refuses, Stops}
+use Rattle.config_search.specs.declared.answer.Repository.{Repository}
+use Rattle.config_search.specs.declared.answer.Refusal.{Refusal}
+use Rattle.config_search.specs.declared.answer.Refusal.TheVariants.{GitDir as OfVariable, Version, Extension, ExtensionOfLater, Owner, Bare}
+use Rattle.config_search.specs.declared.answer.Fault.{Fault}
+use Rattle.config_search.specs.declared.answer.FaultKind.{FaultKind}
+use Rattle.config_search.specs.declared.answer.FaultKind.TheVariants.{Folder}
+use Rattle.config_search.specs.declared.TheConstants.{VARIABLE, REAL}
+
+abbrev pub given_or : List ℕ → Option (List ℕ) → List ℕ
+given_or other None = other
+given_or other (Some given) = given
+
+-- how Git shows another folder that work trees share: as GIT_COMMON_DIR names it, or without links
+abbrev pub shown_linked : System → List ℕ → List ℕ
+shown_linked system folder = given_or (resolved system folder) (system VARIABLE (codes "GIT_COMMON_DIR"))
+
+-- how Git shows the folder that work trees share, where it shows the git directory by this name
+abbrev pub shown_common : System → List ℕ → Common → List ℕ
+shown_common system named Own = named
+shown_common system named (Linked folder) = shown_linked system folder
+shown_common system named Broken = named
+
+-- Git shows the git directory by this name: as it is found, or without links
+abbrev pub IsNamed : System → GitDir → List ℕ → Type 0
+IsNamed system it name = (name ≡ it.named) ⊎ (name ≡ resolved system it.name)
+
+-- the repository is that of this git directory: by its name without links, by a name that Git shows, and by the folder
+-- that it shares
+abbrev pub IsOf : System → GitDir → Repository → Type 0
+IsOf system it repository = (repository.real_git_dir.items ≡ or_itself repository.git_dir.items (system REAL it.name))
+    × IsNamed system it repository.named_dir.items
+    × (repository.common_dir.items ≡ shown_common system repository.named_dir.items (common_of system it.name))
+
+-- a git directory is there
+abbrev pub IsThere : Sought → Type 0
+IsThere Nowhere = ⊥
+IsThere (Inside folder it) = Unit {0}
+IsThere (Refused text) = ⊥
+
+abbrev pub UsesIt : System → Sought → Repository → Type 0
+UsesIt system Nowhere repository = ⊥
+UsesIt system (Inside folder it) repository = IsOf system it repository
+UsesIt system (Refused text) repository = ⊥
+
+abbrev pub RefusesIt : Sought → Refusal → Type 0
+RefusesIt sought (OfVariable text) = sought ≡ Refused text.items
+RefusesIt sought (Version version) = IsThere sought
+RefusesIt sought (Extension name) = IsThere sought
+RefusesIt sought (ExtensionOfLater name) = IsThere sought
+RefusesIt sought (Owner folder) = IsThere sought
+RefusesIt sought (Bare folder) = IsThere sought
+
+-- a git directory that is there is refused for this
+abbrev pub IsOfOneThere : Refusal → Type 0
+IsOfOneThere refusal = (sought : Sought) → IsThere sought → RefusesIt sought refusal
+
+-- what Git does with what it finds
+abbrev pub Tells : System → Sought → Outcome → Type 0
+Tells system sought (Uses repository) = UsesIt system sought repository
+Tells system sought FindsNone = sought ≡ Nowhere
+Tells system sought (Refuses refusal) = RefusesIt sought refusal
+Tells system sought (Stops fault) = Unit {0}
+
+-- the files of the repository that is used, if one is
+abbrev pub files_of : Outcome → List File
+files_of (Uses repository) = of_repository_in repository.common_dir.items repository.named_dir.items repository.has_worktree_files
+files_of FindsNone = []
+files_of (Refuses refusal) = []
+files_of (Stops fault) = []
+
+-- there is no folder in which to start
+abbrev pub IsNowhere : Outcome → Type 0
+IsNowhere (Uses repository) = ⊥
+IsNowhere FindsNone = ⊥
+IsNowhere (Refuses refusal) = ⊥
+IsNowhere (Stops fault) = fault.kind ≡ Folder
+
+-- what Git does where it starts in a folder of this path, if there is one
+abbrev pub Does : System → List ℕ → Option (List ℕ) → Outcome → Type 0
+Does system start None outcome = IsNowhere outcome
+Does system start (Some path) outcome = (sought : Sought) × OnlySeeks system start sought × Tells system sought outcome
+
+-- what the answer tells of a folder in this system
+abbrev pub Answers : System → List ℕ → Answer → Type 0
+Answers system folder answer =
+    Does system (start_of folder) (path_of system (start_of folder)) answer.outcome
+    × AreOnlyFiles system (files_of answer.outcome) (map file_of answer.files.items)
