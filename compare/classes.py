@@ -1,7 +1,7 @@
 """The classes of differences between Git and this library. docs/DIFFERENCES.md has a row for each, with its reason.
 
-Run as a program, it compares the page: each class has one row, with its versions, a text in which it is shown and the
-Gits in which it was seen. Its last line is 'N passed, M failed'.
+Run as a program, it compares the page: each class has one row, with its versions and a text in which it is shown. Its
+last line is 'N passed, M failed'.
 
 A class is expected in the versions that it names, and has to be seen there. A difference belongs to the first class
 that is expected and whose rule holds for the question and its two answers.
@@ -307,10 +307,8 @@ def faults_of_class(rows, when, texts):
     """What is wrong with the row of a class, if anything: it has to show one of the texts, if there are texts."""
     if len(rows) != 1:
         return [f"{len(rows)} rows"]
-    _, git, _, said, seen = rows[0]
-    wanted = ", ".join(name for name, running in RUN.items() if is_expected(when, running)) or "none of them"
+    _, git, _, said = rows[0]
     faults = [] if said == versions(when) else [f"versions {said!r}, not {versions(when)!r}"]
-    faults += [] if seen == wanted else [f"seen in {seen!r}, not {wanted!r}"]
     return faults + ["none of the texts in which it is shown"] * bool(texts and not any(text in git for text in texts))
 
 

@@ -1,4 +1,4 @@
-"""A second, plain reader of the files of config_check, from docs/CHECKING.md and docs/GRAMMAR.md alone.
+"""A second, plain reader of the files of config_check, by the rules of docs/CHECKING.md, docs/GRAMMAR.md and `specs/`.
 
 `findings` returns what the program has to write, and its counts. Nothing here is meant to be fast.
 """

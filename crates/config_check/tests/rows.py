@@ -1,4 +1,4 @@
-"""What config_check has to report about single entries, written by hand from docs/CHECKING.md.
+"""What config_check has to report about single entries, written by hand from its rules.
 
 In the tables a value is None if the entry is a key alone.
 """

@@ -76,7 +76,7 @@ archive=$prefix/lib/libgix_config_value.a
 
 holds "the header" python3 "$tests/header.py" "$prefix"
 
-# the library exports exactly the calls that the header declares, and needs only the symbols of docs/C.md
+# the library exports exactly the calls that the header declares, and needs only these symbols of the C library
 {
     sed -nE '/^typedef/d; s/^(GCV_CALL|GCV_NONNULL|gcv_depth|const char).*[ *](gcv_[a-z0-9_]+)\(.*/\2/p' \
         "$prefix/include/gix_config_value.h"
@@ -89,7 +89,7 @@ printf '%s\n' __errno_location __xpg_strerror_r access calloc close fchmod free 
     memchr memcmp memcpy memmove memset open read readlink realloc realpath rename snprintf sprintf strcat strcmp strcpy \
     strlen strncmp strrchr syscall unlink write > "$work/known"
 nm -u "$archive" | sed -n 's/^ *U //p' | grep -v '^gcv_\|^_GLOBAL_OFFSET_TABLE_$' | sort -u > "$work/needed"
-holds "the archive needs no more than docs/C.md says" test -z "$(comm -13 "$work/known" "$work/needed")"
+holds "the archive needs no more than is listed" test -z "$(comm -13 "$work/known" "$work/needed")"
 holds "the shared library is small" test "$(wc -c < "$prefix/lib/libgix_config_value.so")" -lt 400000
 # instructions that processors of x86-64 before 2008 do not have
 objdump -d --no-show-raw-insn "$archive" | cut -f 2 | cut -d ' ' -f 1 | sort -u | grep -E \
