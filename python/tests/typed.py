@@ -26,8 +26,8 @@ made: Configuration = Configuration([("f", 1, "a.b", None), Entry("f", 2, "a.c",
 remotes: List[str] = read_repository().in_scope("local", None).subsections("remote")
 branch: Optional[str] = read_repository().branch
 locals: List[str] = [name for scope, name in read_repository().files if scope == "local"]
-with edit_repository(scope="global") as changed:
-    changed.set("a.b", "c")
+with edit_repository(scope="global") as of_user:
+    of_user.set("a.b", "c")
 parts: Tuple[int, Optional[str]] = integer_parts(b"1k")
 whole: bytes = interpolate(b"~/x", home="/h")
 found: Optional[bool] = lookup("boolean", {"a": None}, "a")
