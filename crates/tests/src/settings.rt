@@ -20,10 +20,8 @@ const OWN: &[u8] =
 /// The settings of both files.
 fn both(alloc: Global) -> Result<Settings<'static>, Fail> {
     let mut settings = Settings::new(alloc);
-    settings.scope = Scope::Global;
-    settings.add_file(alloc, b"user", USER)?;
-    settings.scope = Scope::Local;
-    settings.add_file(alloc, b"own", OWN)?;
+    settings.add_file(alloc, Scope::Global, b"user", USER)?;
+    settings.add_file(alloc, Scope::Local, b"own", OWN)?;
     Ok(settings)
 }
 
@@ -62,7 +60,6 @@ const SCOPES: [(Scope, &str); 3] = [
 fn lists_settings_and_subsections(rt: HostRuntime) -> Result<(), Fail> {
     let alloc = rt.alloc();
     let settings = both(alloc)?;
-    assert!(rt; Settings::new(alloc).scope == Scope::Command);
     for (scope, wanted) in SCOPES {
         let given = in_scope(alloc, &settings, scope)?;
         equal(&rt, BStr::new(&given), BStr::from(wanted), wanted);
