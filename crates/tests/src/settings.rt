@@ -2,7 +2,7 @@
 
 use crate::support::equal;
 use bstr::BStr;
-use config_file::{Scope, Setting, Settings};
+use config_file::{Key, Scope, Setting, Settings};
 use gix_config_value::{Fault, Integer};
 use std::alloc::{AllocError, Global};
 use std::test::Fail;
@@ -55,6 +55,24 @@ const SCOPES: [(Scope, &str); 3] = [
     ),
     (Scope::Command, ""),
 ];
+
+#[test]
+fn shows_keys(rt: HostRuntime) -> Result<(), Fail> {
+    // what `git config --list` prints, read as UTF-8
+    for (text, wanted) in [
+        (b"Core.Bare" as &[u8], "core.bare"),
+        (b"Branch.Main.x.ReBase", "branch.Main.x.rebase"),
+        (b"A..B", "a..b"),
+        (
+            b"URL.https://X/\xff.insteadOf",
+            "url.https://X/\u{fffd}.insteadof",
+        ),
+    ] {
+        let key = Key::parse(text)?;
+        equal(&rt, key.to_string(rt.alloc())?.as_str(), wanted, wanted);
+    }
+    Ok(())
+}
 
 #[test]
 fn lists_settings_and_subsections(rt: HostRuntime) -> Result<(), Fail> {
