@@ -288,6 +288,16 @@ gcv_depth gcv_terminal_depth(int is_terminal, const char *no_color, const char *
     return status == GCV_OK ? depth : GCV_NO_COLORS;
 }
 
+gcv_depth gcv_depth_when(gcv_when when, int is_terminal, const char *no_color, const char *term, const char *colorterm)
+{
+    int is_always = when == GCV_ALWAYS;
+    gcv_depth depth = gcv_terminal_depth(is_always || is_terminal, is_always ? NULL : no_color, term, colorterm);
+    if (when == GCV_NEVER) {
+        return GCV_NO_COLORS;
+    }
+    return is_always && depth == GCV_NO_COLORS ? GCV_ANSI16 : depth;
+}
+
 /* Interpolates a path of a user: it means what `~` and the rest mean with the home directory of that user. */
 static gcv_status interpolate_user(const char *text, size_t length, gcv_find_home *find, void *state, char *buffer,
                                    size_t capacity, size_t *size, gcv_fault *fault)
