@@ -1003,20 +1003,20 @@ static PyObject *edited(PyObject *module, PyObject *args)
 
 /* The module */
 
-/* How many colors to write with, from a flag and three variables, each of them `bytes` or None. */
+/* How many colors to write with, from a gcv_when, a flag and three variables, each of them `bytes` or None. */
 static PyObject *terminal_depth(PyObject *Py_UNUSED(module), PyObject *args)
 {
-    int is_terminal;
+    int when, is_terminal;
     PyObject *given[3];
     const char *variables[3];
     size_t length;
-    if (!PyArg_ParseTuple(args, "pOOO:terminal_depth", &is_terminal, &given[0], &given[1], &given[2]))
+    if (!PyArg_ParseTuple(args, "ipOOO:terminal_depth", &when, &is_terminal, &given[0], &given[1], &given[2]))
         return NULL;
     for (int at = 0; at < 3; at++)
         variables[at] = part_of(given[at], &length);
     if (PyErr_Occurred())
         return NULL;
-    gcv_depth depth = gcv_terminal_depth(is_terminal, variables[0], variables[1], variables[2]);
+    gcv_depth depth = gcv_depth_when((gcv_when)when, is_terminal, variables[0], variables[1], variables[2]);
     return depth == GCV_NO_COLORS ? counted(Py_None) : PyLong_FromUnsignedLong(depth);
 }
 

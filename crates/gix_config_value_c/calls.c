@@ -288,6 +288,16 @@ gcv_depth gcv_terminal_depth(int is_terminal, const char *no_color, const char *
     return status == GCV_OK ? depth : GCV_NO_COLORS;
 }
 
+gcv_depth gcv_depth_when(gcv_when when, int is_terminal, const char *no_color, const char *term, const char *colorterm)
+{
+    int is_always = when == GCV_ALWAYS;
+    gcv_depth depth = gcv_terminal_depth(is_always || is_terminal, is_always ? NULL : no_color, term, colorterm);
+    if (when == GCV_NEVER) {
+        return GCV_NO_COLORS;
+    }
+    return is_always && depth == GCV_NO_COLORS ? GCV_ANSI16 : depth;
+}
+
 /* Interpolates a path of a user: it means what `~` and the rest mean with the home directory of that user. */
 static gcv_status interpolate_user(const char *text, size_t length, gcv_find_home *find, void *state, char *buffer,
                                    size_t capacity, size_t *size, gcv_fault *fault)
@@ -434,31 +444,36 @@ gcv_status gcv_command_text(gcv_get_variable *get, void *state, char *GCV_TO buf
 }
 
 /* Edits, whose line may be null. */
-#define EDIT_BY_TWO(call, first, second)                                                                               \
+static gcv_status edit_text(gcv_edit edit, const char *text, size_t length, const char *first, size_t first_length,
+                            const char *second, size_t second_length, char *buffer, size_t capacity, size_t *size,
+                            size_t *line)
+{
+    size_t unused = 0;
+    return gcv_raw_edit(edit, bytes_of(text, length), length, bytes_of(first, first_length), first_length,
+                        bytes_of(second, second_length), second_length, room_of(buffer, capacity), capacity, size,
+                        line ? line : &unused);
+}
+#define EDIT_BY_TWO(call, edit, first, second)                                                                         \
     gcv_status gcv_##call(const char *text, size_t length, const char *first, size_t first##_length,                   \
                           const char *second, size_t second##_length, char *GCV_TO buffer, size_t capacity,            \
                           size_t *size, size_t *line)                                                                  \
     {                                                                                                                  \
-        size_t unused = 0;                                                                                             \
-        return gcv_raw_##call(bytes_of(text, length), length, bytes_of(first, first##_length), first##_length,         \
-                              bytes_of(second, second##_length), second##_length, room_of(buffer, capacity), capacity, \
-                              size, line ? line : &unused);                                                            \
+        return edit_text(edit, text, length, first, first##_length, second, second##_length, buffer, capacity, size,   \
+                         line);                                                                                        \
     }
-#define EDIT_BY_ONE(call, first)                                                                                       \
+#define EDIT_BY_ONE(call, edit, first)                                                                                 \
     gcv_status gcv_##call(const char *text, size_t length, const char *first, size_t first##_length,                   \
                           char *GCV_TO buffer, size_t capacity, size_t *size, size_t *line)                            \
     {                                                                                                                  \
-        size_t unused = 0;                                                                                             \
-        return gcv_raw_##call(bytes_of(text, length), length, bytes_of(first, first##_length), first##_length,         \
-                              room_of(buffer, capacity), capacity, size, line ? line : &unused);                       \
+        return edit_text(edit, text, length, first, first##_length, "", 0, buffer, capacity, size, line);              \
     }
-EDIT_BY_TWO(set, key, value)
-EDIT_BY_TWO(replace_all, key, value)
-EDIT_BY_TWO(add, key, value)
-EDIT_BY_ONE(unset, key)
-EDIT_BY_ONE(unset_all, key)
-EDIT_BY_TWO(rename_section, old_name, new_name)
-EDIT_BY_ONE(remove_section, name)
+EDIT_BY_TWO(set, GCV_EDIT_SET, key, value)
+EDIT_BY_TWO(replace_all, GCV_EDIT_REPLACE_ALL, key, value)
+EDIT_BY_TWO(add, GCV_EDIT_ADD, key, value)
+EDIT_BY_ONE(unset, GCV_EDIT_UNSET, key)
+EDIT_BY_ONE(unset_all, GCV_EDIT_UNSET_ALL, key)
+EDIT_BY_TWO(rename_section, GCV_EDIT_RENAME_SECTION, old_name, new_name)
+EDIT_BY_ONE(remove_section, GCV_EDIT_REMOVE_SECTION, name)
 
 gcv_status gcv_list_key(const char *key, size_t length, char *GCV_TO buffer, size_t capacity, size_t *size)
 {

@@ -5,6 +5,12 @@
 
 #include "gix_config_value.h"
 
+/* The edits of gcv_raw_edit, of which those that take one text leave the second alone. */
+typedef GCV_ENUM(gcv_edit) {
+    GCV_EDIT_SET = 0, GCV_EDIT_REPLACE_ALL = 1, GCV_EDIT_ADD = 2, GCV_EDIT_UNSET = 3, GCV_EDIT_UNSET_ALL = 4,
+    GCV_EDIT_RENAME_SECTION = 5, GCV_EDIT_REMOVE_SECTION = 6
+} gcv_edit;
+
 /* What gcv_raw_next takes for a gcv_known. */
 typedef struct gcv_raw_known {
     const char *install_dir;
@@ -189,21 +195,9 @@ gcv_status gcv_raw_command_setting(const char *key, size_t key_length, const cha
 gcv_status gcv_raw_command_parameters(const char *parameters, size_t parameters_length, char *buffer, size_t capacity,
                                       size_t *size);
 gcv_status gcv_raw_command_count(const char *text, size_t length, size_t *count);
-gcv_status gcv_raw_set(const char *text, size_t length, const char *key, size_t key_length, const char *value,
-                       size_t value_length, char *buffer, size_t capacity, size_t *size, size_t *line);
-gcv_status gcv_raw_replace_all(const char *text, size_t length, const char *key, size_t key_length, const char *value,
-                               size_t value_length, char *buffer, size_t capacity, size_t *size, size_t *line);
-gcv_status gcv_raw_add(const char *text, size_t length, const char *key, size_t key_length, const char *value,
-                       size_t value_length, char *buffer, size_t capacity, size_t *size, size_t *line);
-gcv_status gcv_raw_unset(const char *text, size_t length, const char *key, size_t key_length, char *buffer,
-                         size_t capacity, size_t *size, size_t *line);
-gcv_status gcv_raw_unset_all(const char *text, size_t length, const char *key, size_t key_length, char *buffer,
-                             size_t capacity, size_t *size, size_t *line);
-gcv_status gcv_raw_rename_section(const char *text, size_t length, const char *old_name, size_t old_name_length,
-                                  const char *new_name, size_t new_name_length, char *buffer, size_t capacity,
-                                  size_t *size, size_t *line);
-gcv_status gcv_raw_remove_section(const char *text, size_t length, const char *name, size_t name_length, char *buffer,
-                                  size_t capacity, size_t *size, size_t *line);
+gcv_status gcv_raw_edit(gcv_edit edit, const char *text, size_t length, const char *first, size_t first_length,
+                        const char *second, size_t second_length, char *buffer, size_t capacity, size_t *size,
+                        size_t *line);
 void gcv_raw_cut_mark(const char *text, size_t length, uint32_t *optional, size_t *start);
 gcv_status gcv_raw_interpolate(const char *text, size_t length, uint32_t has_install_dir, const char *install_dir,
                                size_t install_dir_length, uint32_t has_home, const char *home, size_t home_length,

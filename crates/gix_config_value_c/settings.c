@@ -55,6 +55,35 @@ const gcv_setting *gcv_find_setting(const gcv_settings *settings, const char *ke
     return found == 0 ? NULL : &settings->list[found - 1];
 }
 
+/* Whether a text is a word, which is in lower case, in any case. */
+static int is_word(const char *text, const char *word)
+{
+    while (*text && (*text >= 'A' && *text <= 'Z' ? *text - 'A' + 'a' : *text) == *word) {
+        text++;
+        word++;
+    }
+    return *text == *word;
+}
+
+gcv_status gcv_uses_color(const gcv_settings *settings, const char *key, gcv_when *GCV_TO out)
+{
+    static const char *const words[] = {"never", "auto", "always"};
+    const gcv_setting *setting = gcv_find_setting(settings, key);
+    int is_true = 1;
+    setting = setting ? setting : gcv_find_setting(settings, "color.ui");
+    for (int when = GCV_NEVER; setting && setting->value && when <= GCV_ALWAYS; when++) {
+        if (is_word(setting->value, words[when])) {
+            *out = (gcv_when)when;
+            return GCV_OK;
+        }
+    }
+    gcv_status status = setting ? gcv_parse_bool(setting->value, &is_true, NULL) : GCV_OK;
+    if (status == GCV_OK) {
+        *out = is_true ? GCV_AUTO : GCV_NEVER;
+    }
+    return status;
+}
+
 /* Lets the keys of the first settings, and no others, lead to their last ones. */
 static void index_first(gcv_memory *memory, size_t count)
 {

@@ -29,8 +29,12 @@ static void print_line(const gcv_here *here, const char *key, const char *usual,
 int main(int count, char **arguments)
 {
     gcv_here here;
+    gcv_when when = count > 2 ? GCV_ALWAYS : GCV_AUTO;
     gcv_status status = gcv_read_here(count > 1 ? arguments[1] : NULL, &here);
-    gcv_depth depth = gcv_terminal_depth(count > 2 || isatty(1), getenv("NO_COLOR"), getenv("TERM"), getenv("COLORTERM"));
+    if (status == GCV_OK && count < 3 && gcv_uses_color(&here.settings, "color.table", &when) != GCV_OK) {
+        fprintf(stderr, "color.table or color.ui says not when there are colors\n");
+    }
+    gcv_depth depth = gcv_depth_when(when, isatty(1), getenv("NO_COLOR"), getenv("TERM"), getenv("COLORTERM"));
     if (status != GCV_OK) {
         fprintf(stderr, "%s: %s\n", here.settings.file ? here.settings.file : "", here.why);
     } else {

@@ -5,6 +5,7 @@ from collections.abc import Mapping, Sequence
 from . import _core, _repository, _walk
 from ._core import Entries, boolean
 from ._errors import Refused
+from ._values import WHEN, terminal_depth
 
 Sequence.register(Entries)
 _ABSENT = object()
@@ -17,6 +18,12 @@ def _value(read, text):
     if read is boolean:
         return True
     raise Refused("no_value", "no value", b"")
+
+
+def _when(text):
+    """When a program writes colors, by the text of a setting such as `color.ui`."""
+    word = text.lower()
+    return word if word in WHEN else WHEN[boolean(text)]
 
 
 def _refuse(error, entry):
@@ -99,6 +106,20 @@ class Configuration(_core.Texts, Mapping):
             except ValueError as error:
                 _refuse(error, entry)
         return values
+
+    def uses_color(self, key, is_terminal=None, environ=None):
+        """How many colors the output of a key such as `color.table` has: 16, 256 or 2**24, or `None` without colors.
+
+        The last entry of the key decides, or else that of `color.ui`: `never`, `auto`, `always`, or a boolean, of which
+        true is `auto`. Without both it is `auto`. `terminal_depth` says what the words mean, and takes the rest.
+
+        >>> config = Configuration([Entry("config", 2, "color.ui", "always")])
+        >>> config.uses_color("color.table", environ={"TERM": "xterm"}), Configuration().uses_color("color.table", False)
+        (16, None)
+        """
+        name = key if key in self else "color.ui"
+        when = "auto" if self.get(name) is None else self.value(name, _when)
+        return terminal_depth(is_terminal, environ, when)
 
     def entries_of(self, key):
         """The entries with a key, in order: the last one decides."""

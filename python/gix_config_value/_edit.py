@@ -2,7 +2,7 @@
 import errno
 import os
 import stat
-from _thread import RLock
+from _thread import RLock  # type: ignore[attr-defined]
 from contextlib import contextmanager
 
 from . import _core, _repository, _walk

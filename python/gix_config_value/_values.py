@@ -9,6 +9,10 @@ from ._core import Attribute, Color, Name, boolean, integer, suffix
 KINDS = ("suffix", "integer", "amount", "boolean", "name", "attribute", "color")
 
 
+#: When a program writes colors, in the order of the numbers in C.
+WHEN = ("never", "auto", "always")
+
+
 class Readers(dict):
     """Readers by kinds."""
 
@@ -92,12 +96,13 @@ def home_of_user(name):
         return None
 
 
-def terminal_depth(is_terminal=None, environ=None):
+def terminal_depth(is_terminal=None, environ=None, when="auto"):
     """How many colors a program writes with: 16, 256 or 2**24, or `None` if it writes none.
 
     By default it writes to standard output, and has the environment `os.environ`. No terminal, `NO_COLOR` that is not
     empty, and `TERM` that is absent or `dumb` mean no colors. Otherwise `COLORTERM` or the name in `TERM` tells the
-    depth, which `Color.escape` takes.
+    depth, which `Color.escape` takes. For `when="always"` the output and `NO_COLOR` do not count, and there are 16
+    colors if `TERM` is absent or `dumb`; for `when="never"` there are none.
 
     >>> terminal_depth(True, {"TERM": "xterm-256color"})
     256
@@ -105,4 +110,5 @@ def terminal_depth(is_terminal=None, environ=None):
     if is_terminal is None:
         is_terminal = sys.stdout.isatty()
     variables = map((os.environ if environ is None else environ).get, ("NO_COLOR", "TERM", "COLORTERM"))
-    return _core.terminal_depth(is_terminal, *(None if it is None else _core.encode(it) for it in variables))
+    return _core.terminal_depth(WHEN.index(when), is_terminal,
+                                *(None if it is None else _core.encode(it) for it in variables))

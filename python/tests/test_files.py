@@ -7,6 +7,7 @@ import copy
 import errno
 import getpass
 import inspect
+import itertools
 import json
 import os
 import pathlib
@@ -228,6 +229,24 @@ class AsGit(Files):
             given = [(os.path.realpath(file), *more) for file, *more in given]
         self.assertEqual(given, wanted)
         return {file for file, *_ in given}
+
+    def test_colors(self):
+        texts = (None, "", " = always", " = AUTO", " = Never", " = true", " = 2k", " = no", " =", " = 0")
+        rows = [(own, general) for own in texts for general in texts]
+        rows += [(own, None) for own in (" = sometimes", " = 08", ' = "always "')] + [(None, " = neverr")]
+        for own, general in rows:
+            self.write({"c": "".join(f"[color]\n\t{name}{text}\n" for name, text in (("table", own), ("ui", general))
+                                     if text is not None)})
+            for is_terminal, term in itertools.product((True, False), ("xterm", "dumb")):
+                words = ("git", "config", "-f", "c", "--get-colorbool", "color.table", str(is_terminal).lower())
+                git = subprocess.run(words, stdout=subprocess.PIPE, stderr=subprocess.DEVNULL, check=False,
+                                     env={**os.environ, "TERM": term})
+                if git.returncode != 0:
+                    refused = self.refused(read("c").uses_color, "color.table", is_terminal)
+                    self.assertEqual((refused.code, refused.file, refused.line), ("boolean", "c", 2), (own, general))
+                    continue
+                depth = read("c").uses_color("Color.Table", is_terminal, {"TERM": term})
+                self.assertEqual(depth, 16 if git.stdout == b"true\n" else None, (own, general, is_terminal, term))
 
     def test_repositories(self):
         hits = "".join(f"[includeIf \"{condition}\"]path=hit\n[c]d={condition}\n" for condition in (

@@ -259,6 +259,10 @@ class Values(unittest.TestCase):
         rows += [((False, variables), None) for variables, _ in TERMINALS]
         for given, wanted in rows:
             self.assertEqual(terminal_depth(*given), wanted, given)
+            self.assertIsNone(terminal_depth(*given, when="never"), given)
+        for given, wanted in [({"TERM": "xterm-256color", "NO_COLOR": "1"}, 256), ({}, 16), ({"TERM": "dumb"}, 16)]:
+            self.assertEqual(terminal_depth(False, given, when="always"), wanted, given)
+        self.assertRaises(ValueError, terminal_depth, True, {}, "yes")
         for text, depth in itertools.product(("normal", "default", "black", "brightwhite", ""), (16, 256, 2 ** 24)):
             color = Color.parse(text)
             self.assertEqual(color.reduced(depth), color, text)

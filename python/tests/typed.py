@@ -4,7 +4,8 @@ import pathlib
 from typing import List, Mapping, Optional, Tuple
 
 from gix_config_value import (Attribute, Color, Configuration, EditedFile, Entry, Name, Refused, boolean, edit,
-                              edit_repository, integer, integer_parts, interpolate, lookup, normalize, path, read, read_repository)
+                              edit_repository, integer, integer_parts, interpolate, lookup, normalize, path, read, read_repository,
+                              terminal_depth)
 
 config: Configuration = read(pathlib.Path("x"), b"y", includes=True, repository=".")
 mapping: Mapping[str, Optional[str]] = config
@@ -23,11 +24,14 @@ first: Entry = config.entries[0]
 some: Tuple[Entry, ...] = config.entries[:2]
 names: List[str] = [entry.file for entry in reversed(config.entries)]
 made: Configuration = Configuration([("f", 1, "a.b", None), Entry("f", 2, "a.c", "x", "local")], None)
+depth: Optional[int] = config.uses_color("color.table", True, {"TERM": "xterm"})
+always: Optional[int] = terminal_depth(when="always")
+terminal_depth(when="yes")  # type: ignore[arg-type]
 remotes: List[str] = read_repository().in_scope("local", None).subsections("remote")
 branch: Optional[str] = read_repository().branch
 locals: List[str] = [name for scope, name in read_repository().files if scope == "local"]
-with edit_repository(scope="global") as changed:
-    changed.set("a.b", "c")
+with edit_repository(scope="global") as of_user:
+    of_user.set("a.b", "c")
 parts: Tuple[int, Optional[str]] = integer_parts(b"1k")
 whole: bytes = interpolate(b"~/x", home="/h")
 found: Optional[bool] = lookup("boolean", {"a": None}, "a")

@@ -4,9 +4,10 @@
 -- section comes first, then a missing name, then bytes from left to right. `HasKey`: Git lists the section
 -- of the entry as the `stem` and a dot, so `[a.b]` has the keys of `[a "b"]`.
 use Rattle.std.specs.Prelude.{◌≡◌, ◌≢◌, ℕ, Bool, true, false, not, ◌==◌, ◌&&◌, ◌||◌, List, [], ◌∷◌, ◌++◌}
-use Rattle.std.specs.Prelude.{Option, Some, None, length, map, is_some, codes}
+use Rattle.std.specs.Prelude.{Option, Some, None, length, map, is_some, codes, encode_utf8_all}
 use Rattle.std.specs.Char.{to_ascii_lowercase, is_ascii_alphabetic}
 use Rattle.std.specs.List.{list_all, list_any}
+use Rattle.bstr.specs.Utf8.{lossy_chars}
 use Rattle.config_file.specs.declared.key.KeyError.{KeyError}
 use Rattle.config_file.specs.declared.key.KeyError.TheVariants.{NoSection, NoName, BadByte, LineFeed}
 use Rattle.config_file.specs.Bytes.{dot, line_feed, is_key_byte}
@@ -49,6 +50,19 @@ stem k = map to_ascii_lowercase k.section ++ dotted k.subsection
 -- a key as Git lists it
 abbrev pub listed : Key → List ℕ
 listed k = stem k ++ dot ∷ map to_ascii_lowercase k.name
+
+-- a text in lower case, and a text as it is, with U+FFFD for bytes that are not UTF-8
+abbrev pub lower_shown : List ℕ → List ℕ
+lower_shown text = encode_utf8_all (map to_ascii_lowercase (lossy_chars text))
+
+-- a dot and the subsection, if there is one
+abbrev pub subsection_shown : Option (List ℕ) → List ℕ
+subsection_shown None = []
+subsection_shown (Some subsection) = codes "." ++ encode_utf8_all (lossy_chars subsection)
+
+-- how a key is shown: as Git lists it
+abbrev pub key_shown : Key → List ℕ
+key_shown k = lower_shown k.section ++ subsection_shown k.subsection ++ codes "." ++ lower_shown k.name
 
 -- the entry has this key: their names are equal, ignoring ASCII case, and Git lists the section of the entry
 -- as the stem of the key and a dot

@@ -36,8 +36,8 @@ use Rattle.config_file.specs.Walk.{TooDeep, ForbiddenUrl, Item, Found, Stops, Wa
 use Rattle.config_file.specs.declared.errors.FileError.{FileError}
 use Rattle.config_file.specs.declared.files.Content.{Content as Given}
 use Rattle.config_file.specs.declared.files.Content.TheVariants as given
+use Rattle.config_file.specs.declared.scope.Scope.{Scope}
 use Rattle.config_file.specs.declared.settings.Setting.{Setting}
-use Rattle.config_file.specs.declared.settings.Settings.{Settings}
 use Rattle.config_file.specs.declared.settings.RefusedSetting.{RefusedSetting}
 use Rattle.config_file.specs.declared.settings.AddError.{AddError}
 use Rattle.config_file.specs.declared.settings.AddError.TheVariants as error
@@ -126,11 +126,10 @@ pub record IsSettingOf (found : List ℕ × Entry) (setting : Setting) : Type 0 
 abbrev pub AddsEach : List (List ℕ × Entry) → List Setting → List Setting → Type 0
 AddsEach found old new = (added : List Setting) × (new ≡ old ++ added) × AllZip IsSettingOf found added
 
--- the new settings are the old ones, followed by some that have the scope of the old ones, which stays
-abbrev pub AddsInScope : Settings → Settings → Type 0
-AddsInScope old new = (new.scope ≡ old.scope)
-    × ((added : List Setting) × (new.entries.items ≡ old.entries.items ++ added)
-    × All (λ setting. setting.scope ≡ old.scope) added)
+-- the new settings are the old ones, followed by some that have this scope
+abbrev pub AddsInScope : Scope → List Setting → List Setting → Type 0
+AddsInScope scope old new = (added : List Setting) × (new ≡ old ++ added)
+    × All (λ setting. setting.scope ≡ scope) added
 
 -- the entries of the text begin with these
 abbrev pub HasFirstEntries : List ℕ → List Entry → Type 0

@@ -28,7 +28,7 @@ pub enum Content<'t> {
 /// Files by their names: those of the system, or of a test, or texts in memory.
 ///
 /// ```rust
-/// use config_file::{Content, Directories, FilePlace, Files, Includes, Known, Settings};
+/// use config_file::{Content, Directories, FilePlace, Files, Includes, Known, Scope, Settings};
 /// use std::alloc::{AllocError, Global};
 ///
 /// #[derive(Drop)]
@@ -50,7 +50,7 @@ pub enum Content<'t> {
 /// let place = FilePlace { name: b"config", real_dir: b"" };
 /// let mut settings = Settings::new(alloc);
 /// let text = b"[include]\n\tpath = more";
-/// assert!(rt; settings.add_with_includes(alloc, &OneFile, &known, place, text).is_ok());
+/// assert!(rt; settings.add_with_includes(alloc, Scope::Local, &OneFile, &known, place, text).is_ok());
 /// assert_eq!(rt; settings.entries.len(), 2);
 /// ```
 pub trait Files<'t> {

@@ -25,6 +25,7 @@ use std::{error, fmt};
 /// let mut entries = Entries::new(b"[branch \"Main\"]\n\tReBase");
 /// let entry = entries.next().expect(&rt, "an entry").expect(&rt, "no error");
 /// assert!(rt; key.is_of(&entry));
+/// assert_eq!(rt; key.to_string(alloc)?.as_str(), "branch.Main.rebase"); // as Git lists it
 /// assert!(rt; Key::parse(b"rebase").err() == Some(KeyError::NoSection));
 /// ```
 #[derive(Clone, Copy, Debug)]

@@ -38,10 +38,10 @@ use std::{error, fmt};
 /// value that is quoted, escaped or continued.
 ///
 /// ```rust
-/// use config_file::{Key, Settings};
+/// use config_file::{Key, Scope, Settings};
 ///
 /// let mut settings = Settings::new(alloc);
-/// assert!(rt; settings.add_file(alloc, b".git/config", b"[core]\n\tabbrev = \"1\"2 # digits").is_ok());
+/// assert!(rt; settings.add_file(alloc, Scope::Local, b".git/config", b"[core]\n\tabbrev = \"1\"2 # digits").is_ok());
 /// let key = Key::parse(b"core.abbrev")?;
 /// let setting = settings.last(&key).expect(&rt, "a setting");
 /// assert_eq!(rt; setting.text(), b"12".as_slice());
@@ -63,11 +63,11 @@ pub struct Setting<'t> {
 /// The refusal of a setting: its text has no value of the wanted type.
 ///
 /// ```rust
-/// use config_file::{Key, Settings};
+/// use config_file::{Key, Scope, Settings};
 /// use gix_config_value::{Fault, Integer};
 ///
 /// let mut settings = Settings::new(alloc);
-/// assert!(rt; settings.add_file(alloc, b"config", b"[pack]\n\tthreads = many").is_ok());
+/// assert!(rt; settings.add_file(alloc, Scope::Local, b"config", b"[pack]\n\tthreads = many").is_ok());
 /// let key = Key::parse(b"pack.threads")?;
 /// let refused = settings.last(&key).expect(&rt, "a setting").read::<Integer>().unwrap_err();
 /// assert!(rt; refused.fault == Fault::Integer);
@@ -84,10 +84,10 @@ pub struct RefusedSetting<'s, 't, F> {
 /// The place of a setting, which displays as `FILE:LINE`: [`Setting::place`].
 ///
 /// ```rust
-/// use config_file::Settings;
+/// use config_file::{Scope, Settings};
 ///
 /// let mut settings = Settings::new(alloc);
-/// assert!(rt; settings.add_file(alloc, b".git/config", b"[core]\n\tbare").is_ok());
+/// assert!(rt; settings.add_file(alloc, Scope::Local, b".git/config", b"[core]\n\tbare").is_ok());
 /// assert_eq!(rt; settings.entries[0].place().to_string(alloc)?.as_str(), ".git/config:2");
 /// ```
 #[derive(Clone, Copy)]
@@ -207,10 +207,10 @@ impl fmt::Display for IncludeFault<'_> {
 /// Why not all entries of a file, or of the files that it includes, are added.
 ///
 /// ```rust
-/// use config_file::Settings;
+/// use config_file::{Scope, Settings};
 ///
 /// let mut settings = Settings::new(alloc);
-/// let error = settings.add_file(alloc, b"config", b"[core]\n\tbare\n[us er]").unwrap_err();
+/// let error = settings.add_file(alloc, Scope::Local, b"config", b"[core]\n\tbare\n[us er]").unwrap_err();
 /// assert_eq!(rt; error.to_string(alloc)?.as_str(), "config:3: bad config line");
 /// assert_eq!(rt; settings.entries.len(), 1); // the entry before that line
 /// ```
@@ -252,11 +252,11 @@ impl error::Error for AddError<'_> {}
 /// Why a key has no value of the wanted type.
 ///
 /// ```rust
-/// use config_file::{GetError, KeyError, Settings};
+/// use config_file::{GetError, KeyError, Scope, Settings};
 /// use gix_config_value::{Boolean, Fault};
 ///
 /// let mut settings = Settings::new(alloc);
-/// assert!(rt; settings.add_file(alloc, b"config", b"[core]\n\tbare = x").is_ok());
+/// assert!(rt; settings.add_file(alloc, Scope::Local, b"config", b"[core]\n\tbare = x").is_ok());
 /// let error = settings.get::<Boolean>("core.bare").unwrap_err();
 /// assert!(rt; matches!(error, GetError::Refused(refused) if refused.fault == Fault::Boolean));
 /// let error = settings.get::<Boolean>("bare").unwrap_err();
@@ -460,12 +460,12 @@ fn last_of<'s, 't>(settings: &'s [Setting<'t>], key: &Key<'_>) -> Option<&'s Set
 /// The settings of several files, in the order in which the files were added.
 ///
 /// ```rust
-/// use config_file::{GetError, Settings};
+/// use config_file::{GetError, Scope, Settings};
 /// use gix_config_value::Boolean;
 ///
 /// let mut settings = Settings::new(alloc);
-/// assert!(rt; settings.add_file(alloc, b"/etc/gitconfig", b"[core]\n\tbare = no").is_ok());
-/// assert!(rt; settings.add_file(alloc, b".git/config", b"[core]\n\tbare\n\tautoCRLF = x").is_ok());
+/// assert!(rt; settings.add_file(alloc, Scope::System, b"/etc/gitconfig", b"[core]\n\tbare = no").is_ok());
+/// assert!(rt; settings.add_file(alloc, Scope::Local, b".git/config", b"[core]\n\tbare\n\tautoCRLF = x").is_ok());
 /// let is_bare = settings.get::<Boolean>("core.bare").expect(&rt, "no refusal");
 /// assert!(rt; is_bare == Some(Boolean(true)));
 /// let GetError::Refused(refused) = settings.get::<Boolean>("core.autocrlf").unwrap_err() else {
@@ -477,8 +477,6 @@ fn last_of<'s, 't>(settings: &'s [Setting<'t>], key: &Key<'_>) -> Option<&'s Set
 pub struct Settings<'t> {
     /// The settings, in order.
     pub entries: Vec<Setting<'t>>,
-    /// The scope of the settings that are added from now on.
-    pub scope: Scope,
 }
 
 /// How a walk goes on after an entry.
@@ -536,48 +534,52 @@ pub fn next_of<'t, S: Files<'t>>(
 }
 
 impl<'t> Settings<'t> {
-    /// Settings without any entry. Those that are added get the scope `Command`, as those of a file that Git
-    /// is given by `--file`, until the field `scope` is set to another one.
+    /// Settings without any entry.
     pub fn new(alloc: Global) -> Settings<'t>
-        ensures entries { result.entries.items ≡ [] }
-        ensures scope { result.scope ≡ Command }
+        ensures { result.entries.items ≡ [] }
     {
         Settings {
             entries: Vec::new(alloc),
-            scope: Scope::Command,
         }
     }
 
     /// Adds the setting of an entry.
-    fn add(&mut self, alloc: Global, file: &'t [u8], entry: Entry<'t>) -> Result<(), AllocError>
+    fn add(
+        &mut self,
+        alloc: Global,
+        scope: Scope,
+        file: &'t [u8],
+        entry: Entry<'t>,
+    ) -> Result<(), AllocError>
         ensures adds { AddsEntry (file.now, entry_of entry.entry) self.old.entries.items self.new.entries.items
             result }
-        ensures scope { AddsInScope self.old self.new }
+        ensures scope { AddsInScope scope self.old.entries.items self.new.entries.items }
     {
-        let setting = Setting::with_scope(alloc, self.scope, file, entry)?;
+        let setting = Setting::with_scope(alloc, scope, file, entry)?;
         match self.entries.push(setting) {
             Ok(()) => Ok(()),
             Err(_) => Err(AllocError),
         }
     }
 
-    /// Adds the entries of a file, which decide over earlier ones, with the scope that the field `scope` has.
-    /// Its includes are entries as others are.
+    /// Adds the entries of a file of this scope, which decide over earlier ones. Its includes are entries as
+    /// others are.
     pub fn add_file(
         &mut self,
         alloc: Global,
+        scope: Scope,
         file: &'t [u8],
         text: &'t [u8],
     ) -> Result<(), AddError<'t>>
         ensures adds { AddsFile file.now text.now self.old.entries.items self.new.entries.items result }
-        ensures scope { AddsInScope self.old self.new }
+        ensures scope { AddsInScope scope self.old.entries.items self.new.entries.items }
     {
         for entry in Entries::new(text) {
             let entry = match entry {
                 Ok(entry) => entry,
                 Err(error) => return Err(AddError::Line { file, error }),
             };
-            match self.add(alloc, file, entry) {
+            match self.add(alloc, scope, file, entry) {
                 Ok(()) => {}
                 Err(error) => return Err(AddError::Memory(error)),
             }
@@ -585,11 +587,12 @@ impl<'t> Settings<'t> {
         Ok(())
     }
 
-    /// Adds the entries of a file, and those of the files that it includes, in Git's order. They decide over
-    /// earlier ones, and have the scope that the field `scope` has. It stops where Git does.
+    /// Adds the entries of a file of this scope, and those of the files that it includes, in Git's order. All
+    /// have this scope, and decide over earlier ones. It stops where Git does.
     pub fn add_with_includes<S: Files<'t>>(
         &mut self,
         alloc: Global,
+        scope: Scope,
         files: &S,
         known: &Known<'_>,
         place: FilePlace<'t>,
@@ -597,11 +600,11 @@ impl<'t> Settings<'t> {
     ) -> Result<(), AddError<'t>>
         ensures adds { AddsWalk (S.contents files.now) known.now place.entry text.now
             self.old.entries.items self.new.entries.items result }
-        ensures scope { AddsInScope self.old self.new }
+        ensures scope { AddsInScope scope self.old.entries.items self.new.entries.items }
     {
         let mut walk = Walk::new(place, text);
         'steps: for _ in 0..u64::MAX {
-            let goes_on = match self.add_next(alloc, files, known, &mut walk) {
+            let goes_on = match self.add_next(alloc, scope, files, known, &mut walk) {
                 Ok(goes_on) => goes_on,
                 Err(error) => return Err(error),
             };
@@ -616,13 +619,14 @@ impl<'t> Settings<'t> {
     fn add_next<S: Files<'t>>(
         &mut self,
         alloc: Global,
+        scope: Scope,
         files: &S,
         known: &Known<'_>,
         walk: &mut Walk<'t>,
     ) -> Result<bool, AddError<'t>>
         ensures adds { AddsNext (S.contents files.now) known.now walk.old.frames.items walk.new.frames.items
             self.old.entries.items self.new.entries.items result }
-        ensures scope { AddsInScope self.old self.new }
+        ensures scope { AddsInScope scope self.old.entries.items self.new.entries.items }
     {
         let step = match walk.next(alloc, known) {
             Ok(step) => step,
@@ -641,7 +645,7 @@ impl<'t> Settings<'t> {
             Ok(next) => next,
             Err(error) => return Err(AddError::Memory(error)),
         };
-        match self.add(alloc, file, entry) {
+        match self.add(alloc, scope, file, entry) {
             Ok(()) => {}
             Err(error) => return Err(AddError::Memory(error)),
         }
@@ -684,11 +688,11 @@ impl<'t> Settings<'t> {
     /// subsection does. A setting without a subsection has none to give. It fails only if memory is refused.
     ///
     /// ```rust
-    /// use config_file::Settings;
+    /// use config_file::{Scope, Settings};
     ///
     /// let mut settings = Settings::new(alloc);
     /// let text = b"[remote \"b\"]\n\turl = x\n[Remote \"a\"]\n\turl = y\n[remote \"b\"]\n\tprune";
-    /// assert!(rt; settings.add_file(alloc, b".git/config", text).is_ok());
+    /// assert!(rt; settings.add_file(alloc, Scope::Local, b".git/config", text).is_ok());
     /// let remotes = settings.subsections(alloc, b"remote")?;
     /// assert_eq!(rt; remotes.len(), 2);
     /// assert_eq!(rt; remotes[0].as_slice(), b"b".as_slice());
@@ -716,11 +720,11 @@ impl<'t> Settings<'t> {
     /// The value of the last entry of a key, such as `branch.main.rebase`, or `None` if no entry has it.
     ///
     /// ```rust
-    /// use config_file::{GetError, Settings};
+    /// use config_file::{GetError, Scope, Settings};
     /// use gix_config_value::Color;
     ///
     /// let mut settings = Settings::new(alloc);
-    /// assert!(rt; settings.add_file(alloc, b"config", b"[color \"diff\"]\n\told\n\tnew = rde").is_ok());
+    /// assert!(rt; settings.add_file(alloc, Scope::Local, b"config", b"[color \"diff\"]\n\told\n\tnew = rde").is_ok());
     /// let error = settings.get::<Color>("color.diff.old").unwrap_err();
     /// assert!(rt; matches!(error, GetError::NoValue(_)));
     /// assert_eq!(rt; error.to_string(alloc)?.as_str(), "config:2: color.diff.old: no value");
@@ -745,10 +749,10 @@ impl<'t> Settings<'t> {
     /// [`Setting::own_text`].
     ///
     /// ```rust
-    /// use config_file::{GetError, Settings};
+    /// use config_file::{GetError, Scope, Settings};
     ///
     /// let mut settings = Settings::new(alloc);
-    /// assert!(rt; settings.add_file(alloc, b"config", b"[user]\n\tname = A\n\temail").is_ok());
+    /// assert!(rt; settings.add_file(alloc, Scope::Local, b"config", b"[user]\n\tname = A\n\temail").is_ok());
     /// let name = settings.text("user.name").expect(&rt, "no refusal").expect(&rt, "a text");
     /// assert_eq!(rt; name, b"A".as_slice());
     /// assert!(rt; matches!(settings.text("user.email"), Err(GetError::NoValue(_))));
@@ -767,10 +771,10 @@ impl<'t> Settings<'t> {
     /// no entry has the key. Any other text is refused as `NoWord`, and a key alone as `NoValue`.
     ///
     /// ```rust
-    /// use config_file::Settings;
+    /// use config_file::{Scope, Settings};
     ///
     /// let mut settings = Settings::new(alloc);
-    /// assert!(rt; settings.add_file(alloc, b"config", b"[push]\n\tdefault = Simple").is_ok());
+    /// assert!(rt; settings.add_file(alloc, Scope::Local, b"config", b"[push]\n\tdefault = Simple").is_ok());
     /// let error = settings.one_of("push.default", &["current", "simple"]).unwrap_err();
     /// let shown = "config:2: push.default: not one of the allowed words: \"Simple\"";
     /// assert_eq!(rt; error.to_string(alloc)?.as_str(), shown);

@@ -2,10 +2,13 @@
 ghost use Rattle.std.specs.Prelude.{◌≡◌, ◌<◌, ◌++◌, [], length, flat_map, Some, MatchOption, IfSome};
 ghost use Rattle.std.specs.Char.{digit_char};
 ghost use Rattle.std.specs.Fmt.{WritesOnOk};
+ghost use Rattle.config_file.specs.Key.{key_shown, lower_shown};
+ghost use Rattle.config_file.specs.KeyView.{key_of};
 ghost use Rattle.config_file.specs.Shown.{hex, is_control, piece_shown, shown, quoted};
 
 use crate::bytes::split;
-use bstr::decode_utf8;
+use crate::key::Key;
+use bstr::{BStr, ByteSlice, decode_utf8};
 use std::fmt;
 
 /// A text that displays in double quotes, with its control characters and invalid UTF-8 escaped.
@@ -104,4 +107,30 @@ fn digit(number: u8) -> char
     } else {
         char::from(b'a' + (number - 10))
     }
+}
+
+impl fmt::Display for Key<'_> {
+    ghost output = { λ key. Some (key_shown (key_of key)) };
+
+    /// Writes the key as `git config --list` shows it: section and name in lower case, and the subsection
+    /// unchanged.
+    fn fmt<W: fmt::Write>(&self, f: &mut fmt::Formatter<W>) -> fmt::Result {
+        write_lower(f, self.section())?;
+        if let Some(subsection) = self.subsection() {
+            write!(f, ".{}", BStr::new(subsection))?;
+        }
+        f.write_char('.')?;
+        write_lower(f, self.name())
+    }
+}
+
+/// Writes a text in lower case, with U+FFFD for bytes that are not UTF-8.
+fn write_lower<W: fmt::Write>(f: &mut fmt::Formatter<W>, text: &[u8]) -> fmt::Result
+    ensures { WritesOnOk W.write_str_gives f.old result (lower_shown text.now) f.new }
+{
+    let mut rest = text.chars();
+    while let Some(character) = rest.next() {
+        f.write_char(character.to_ascii_lowercase())?;
+    }
+    Ok(())
 }

@@ -253,7 +253,7 @@ fn name_from_root(host: &HostRuntime, name: &[u8]) -> io::Result<Vec<u8>> {
 ///
 /// ```rust
 /// use bumpalo::Bump;
-/// use config_file::Settings;
+/// use config_file::{Scope, Settings};
 /// use config_host::surroundings::Followed;
 /// use config_host::{Disk, Surroundings};
 /// use std::fs;
@@ -265,7 +265,8 @@ fn name_from_root(host: &HostRuntime, name: &[u8]) -> io::Result<Vec<u8>> {
 /// let (place, text) = disk.first(b"disk-top").expect(&rt, "a text");
 /// let surroundings = Surroundings::new(&disk, Followed::AsGit)?;
 /// let mut settings = Settings::new(alloc);
-/// let added = settings.add_with_includes(alloc, &disk, &surroundings.known(), place, text);
+/// let known = surroundings.known();
+/// let added = settings.add_with_includes(alloc, Scope::Local, &disk, &known, place, text);
 /// assert!(rt; added.is_ok());
 /// assert_eq!(rt; settings.entries.len(), 2);
 /// ```

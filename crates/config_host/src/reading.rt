@@ -263,9 +263,9 @@ fn add<'t>(
     source: &Source<'t>,
 ) -> Result<(), HereError<'t>> {
     let files = files_of(disk, source)?;
-    settings.scope = source.scope;
+    let (scope, place) = (source.scope, source.place);
     let alloc = disk.host.alloc();
-    match settings.add_with_includes(alloc, &files, known, source.place, source.text) {
+    match settings.add_with_includes(alloc, scope, &files, known, place, source.text) {
         Ok(()) => Ok(()),
         Err(AddError::Memory(error)) => Err(HereError::from(error)),
         Err(error) => Err(HereError::Stops(error)),

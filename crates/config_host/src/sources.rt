@@ -49,8 +49,8 @@ pub struct Named<'t> {
 /// let texts = Bump::new(rt.alloc());
 /// let mut settings = Settings::new(alloc);
 /// for source in &sources(&Disk::new(&rt, &texts), &names).expect(&rt, "a file that can be read") {
-///     settings.scope = source.scope;
-///     assert!(rt; settings.add_file(alloc, source.place.name, source.text).is_ok());
+///     let added = settings.add_file(alloc, source.scope, source.place.name, source.text);
+///     assert!(rt; added.is_ok());
 /// }
 /// assert_eq!(rt; settings.entries.len(), 1);
 /// ```

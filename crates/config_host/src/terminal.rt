@@ -55,11 +55,11 @@ impl When {
 /// `color.ui` says, and otherwise `Auto`. A text that says nothing of this is refused as no boolean.
 ///
 /// ```rust
-/// use config_file::Settings;
+/// use config_file::{Scope, Settings};
 /// use config_host::terminal::{When, uses_color};
 ///
 /// let mut settings = Settings::new(alloc);
-/// assert!(rt; settings.add_file(alloc, b"config", b"[color]\n\tui = always\n\ttable = no").is_ok());
+/// assert!(rt; settings.add_file(alloc, Scope::Local, b"config", b"[color]\n\tui = always\n\ttable = no").is_ok());
 /// assert!(rt; matches!(uses_color(&settings, "color.table"), Ok(When::Never)));
 /// assert!(rt; matches!(uses_color(&settings, "color.graph"), Ok(When::Always)));
 /// ```

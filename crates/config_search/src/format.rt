@@ -11,7 +11,7 @@ use crate::name::{inside, joined};
 use crate::protected::at_line;
 use crate::{SETTINGS, VARIABLE};
 use bstr::ByteSlice;
-use config_file::{AddError, Setting, Settings};
+use config_file::{AddError, Scope, Setting, Settings};
 use gix_config_value::{Boolean, Integer};
 use std::alloc::{AllocError, Global};
 use std::fmt;
@@ -351,7 +351,7 @@ fn settings_in<'s>(
     ensures { IfErr result (IsNewHalt asked.now.facts.now) }
 {
     let mut settings = Settings::new(asked.alloc);
-    match settings.add_file(asked.alloc, file, text) {
+    match settings.add_file(asked.alloc, Scope::Local, file, text) {
         Ok(()) => Ok(settings),
         Err(AddError::Line { file, error }) => Err(at_line(asked.alloc, file, error)?),
         Err(_) => Err(Halt::from(AllocError)),

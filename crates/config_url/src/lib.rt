@@ -38,12 +38,12 @@ use std::alloc::{AllocError, Global};
 /// URLs of settings.
 ///
 /// ```rust
-/// use config_file::{Key, Settings};
+/// use config_file::{Key, Scope, Settings};
 /// use config_url::{Url, last_for_url};
 ///
 /// let mut settings = Settings::new(alloc);
 /// let text = b"[http]\n\tproxy = a\n[http \"https://*.example.com\"]\n\tproxy = b";
-/// assert!(rt; settings.add_file(alloc, b".git/config", text).is_ok());
+/// assert!(rt; settings.add_file(alloc, Scope::Local, b".git/config", text).is_ok());
 /// let key = Key::parse(b"http.proxy").expect(&rt, "a key");
 /// let url = Url::parse(alloc, b"https://git.example.com:443/x.git")?.expect(&rt, "a URL");
 /// let setting = last_for_url(alloc, &settings, &key, &url)?.expect(&rt, "a setting");
@@ -355,12 +355,12 @@ fn fit_of(
 /// one with a user, and of equals the last. It fails only if memory is refused.
 ///
 /// ```rust
-/// use config_file::{Key, Settings};
+/// use config_file::{Key, Scope, Settings};
 /// use config_url::{Url, last_for_url};
 ///
 /// let mut settings = Settings::new(alloc);
 /// let text = b"[http \"http://h/a\"]\n\tproxy = b\n[http \"http://h\"]\n\tproxy = c";
-/// assert!(rt; settings.add_file(alloc, b".git/config", text).is_ok());
+/// assert!(rt; settings.add_file(alloc, Scope::Local, b".git/config", text).is_ok());
 /// let key = Key::parse(b"http.proxy").expect(&rt, "a key");
 /// let below = Url::parse(alloc, b"http://h/a/x")?.expect(&rt, "a URL");
 /// let beside = Url::parse(alloc, b"http://h/ab")?.expect(&rt, "a URL");

@@ -112,6 +112,9 @@ typedef GCV_ENUM(gcv_depth) {
     GCV_NO_COLORS = 0, GCV_ANSI16 = 16, GCV_ANSI256 = 256, GCV_TRUE_COLOR = 16777216
 } gcv_depth;
 
+/* When a program writes colors: never, on a terminal that has colors, or always. */
+typedef GCV_ENUM(gcv_when) { GCV_NEVER = 0, GCV_AUTO = 1, GCV_ALWAYS = 2 } gcv_when;
+
 /* The tag of a name: GCV_NO_NAME in a color without this name, GCV_ANSI for the number `palette` of the terminal's
  * palette, GCV_RGB for `red`, `green` and `blue`. */
 typedef GCV_ENUM(gcv_tag) {
@@ -214,8 +217,11 @@ GCV_CALL((1, 3)) gcv_reduce_color(const gcv_color *value, gcv_depth depth, gcv_c
 /* Returns how many colors a program writes with, by whether its output is a terminal and by the variables NO_COLOR,
  * TERM and COLORTERM, each null if it is not set. It is GCV_NO_COLORS without a terminal, if NO_COLOR is not empty, or
  * if TERM is not set or `dumb`. Otherwise it is GCV_TRUE_COLOR if COLORTERM is `truecolor` or `24bit`, or TERM ends in
- * `-direct`; then GCV_ANSI256 if TERM has `256color` in it, and else GCV_ANSI16. */
+ * `-direct`; then GCV_ANSI256 if TERM has `256color` in it, and else GCV_ANSI16. gcv_depth_when returns this for
+ * GCV_AUTO, and GCV_NO_COLORS for GCV_NEVER. For GCV_ALWAYS the output and NO_COLOR do not count, and it is GCV_ANSI16
+ * if TERM is not set or `dumb`. */
 gcv_depth gcv_terminal_depth(int is_terminal, const char *no_color, const char *term, const char *colorterm);
+gcv_depth gcv_depth_when(gcv_when when, int is_terminal, const char *no_color, const char *term, const char *colorterm);
 
 /* What a path may refer to, as any bytes. A null pointer means that it is not given, whatever its length. */
 typedef struct gcv_context {
@@ -303,6 +309,11 @@ GCV_NONNULL((1, 2)) const gcv_setting *gcv_find_setting(const gcv_settings *sett
 GCV_CALL((5)) gcv_list_key(const char *key, size_t length, char *GCV_TO buffer, size_t capacity,
                            size_t *size);
 GCV_NONNULL((1)) void gcv_free_settings(gcv_settings *settings);
+
+/* Writes to `*out` when the output of a key such as "color.table" has colors, for gcv_depth_when: as the setting that
+ * gcv_find_setting finds says, or else as that of color.ui says, and GCV_AUTO without both. Its text is `never`, `auto`
+ * or `always` in any case, or a boolean, of which true is GCV_AUTO. Returns GCV_REFUSED for any other text. */
+GCV_CALL((1, 2, 3)) gcv_uses_color(const gcv_settings *settings, const char *key, gcv_when *GCV_TO out);
 
 /* A walk over files, one entry at a time: what gcv_read_files does, but nothing is kept. gcv_enter begins it, and
  * gcv_next returns one entry after the other, in Git's order. If an entry includes a file, open it and call gcv_enter:

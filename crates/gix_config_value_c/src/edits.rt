@@ -1,11 +1,9 @@
 //! Edits of the text of a configuration file.
-ghost use Rattle.std.specs.Prelude.{◌≡◌, None, Some, MatchResult};
-ghost use Rattle.config_edit.specs.Edit.{AddsOne, HasNone, HasSeveral, Never, RefusesEdit, ReplacesAll, Sets};
-ghost use Rattle.config_edit.specs.Sections.{RefusesRemoval, RefusesRenaming, RemovesSection, RenamesSection};
-ghost use Rattle.config_edit.specs.Unset.{Unsets, UnsetsAll};
+ghost use Rattle.std.specs.Prelude.{◌≡◌, MatchResult};
 ghost use Rattle.gix_config_value_c.specs.Buffers.{PutsText};
-ghost use Rattle.gix_config_value_c.specs.Edits.{EditsInto, told_line, edit_status as status_of};
-ghost use Rattle.gix_config_value_c.specs.Numbers.{status_number};
+ghost use Rattle.gix_config_value_c.specs.Edits.{EditsBy, Makes, Refuses, edit_number, told_line};
+ghost use Rattle.gix_config_value_c.specs.Edits.{edit_status as status_of};
+ghost use Rattle.gix_config_value_c.specs.Numbers.{StandsFor, status_number};
 
 use crate::buffer::put;
 use crate::commands::key_status;
@@ -15,6 +13,63 @@ use config_edit::{
     EditError, add, remove_section, rename_section, replace_all, set, unset, unset_all,
 };
 use std::alloc::Global;
+
+/// An edit, and the texts that it takes. `raw.h` has its number.
+#[derive(Clone, Copy)]
+pub enum Edit {
+    /// Of a key and a value: the one entry of the key gets the value, or there is a new one.
+    Set = 0,
+    /// Of a key and a value: the last entry of the key gets the value, and the others go.
+    ReplaceAll = 1,
+    /// Of a key and a value: there is one more entry.
+    Add = 2,
+    /// Of a key: its one entry goes.
+    Unset = 3,
+    /// Of a key: its entries go.
+    UnsetAll = 4,
+    /// Of two names: the sections of the first one get the second one.
+    RenameSection = 5,
+    /// Of a name: its sections go.
+    RemoveSection = 6,
+}
+
+/// Returns the edit with this number, or `None` if no edit has it.
+fn edit_of(number: u32) -> Option<Edit>
+    ensures { StandsFor edit_number number result }
+{
+    match number {
+        0 => Some(Edit::Set),
+        1 => Some(Edit::ReplaceAll),
+        2 => Some(Edit::Add),
+        3 => Some(Edit::Unset),
+        4 => Some(Edit::UnsetAll),
+        5 => Some(Edit::RenameSection),
+        6 => Some(Edit::RemoveSection),
+        _ => None,
+    }
+}
+
+/// Makes an edit of a text. One that takes a single text leaves the second one alone.
+fn edited(
+    alloc: Global,
+    edit: Edit,
+    text: &[u8],
+    first: &[u8],
+    second: &[u8],
+) -> Result<Vec<u8>, EditError>
+    ensures { MatchResult result (λ new. Makes edit first.now second.now text.now new.items)
+        (Refuses edit first.now second.now text.now) }
+{
+    match edit {
+        Edit::Set => set(alloc, text, first, second),
+        Edit::ReplaceAll => replace_all(alloc, text, first, second),
+        Edit::Add => add(alloc, text, first, second),
+        Edit::Unset => unset(alloc, text, first),
+        Edit::UnsetAll => unset_all(alloc, text, first),
+        Edit::RenameSection => rename_section(alloc, text, first, second),
+        Edit::RemoveSection => remove_section(alloc, text, first),
+    }
+}
 
 /// Returns the number of the status that says why a text is not edited.
 fn edit_status(error: &EditError) -> u32
@@ -54,134 +109,30 @@ fn answer(
     }
 }
 
-/// Puts the text in which the key has the value into the buffer, and its length into `size`. At most one
-/// entry may have the key.
+/// Puts the text that the edit with this number makes into the buffer, and its length into `size`.
 ///
-/// Returns `NoSection`, `NoKeyName`, `BadKey` or `KeyLineFeed` for a key that Git refuses, `BadSection` if no
-/// header can have its section, `BadValue` if the value has a NUL, and `Several` if several entries have the
-/// key. Returns `BadLine` or `Nul` if the text is no configuration file, and puts the line of the fault into
-/// `line`. Returns `NoMemory` if memory is refused, and `ShortBuffer` if the buffer is shorter than the text.
+/// Returns `UnknownKind` if no edit has the number. Returns `NoSection`, `NoKeyName`, `BadKey` or `KeyLineFeed`
+/// for a key that Git refuses, `BadSection` if no header can have its section or the new name, and `BadValue`
+/// if the value has a NUL. Returns `Several` if several entries have the key of `Set` or `Unset`, and `Absent`
+/// if there is no entry or section to change. Returns `BadLine` or `Nul` if the text is no configuration
+/// file, and puts the line of the fault into `line`. Returns `NoMemory` if memory is refused, and
+/// `ShortBuffer` if the buffer is shorter than the text.
 #[unsafe(no_mangle)]
-pub extern "C" fn gcv_raw_set(
+pub extern "C" fn gcv_raw_edit(
     alloc: Global,
+    number: u32,
     text: &[u8],
-    key: &[u8],
-    value: &[u8],
+    first: &[u8],
+    second: &[u8],
     buffer: &mut [u8],
     size: &mut usize,
     line: &mut usize,
 ) -> u32
-    ensures { EditsInto (Sets key.now value.now text.now)
-        (RefusesEdit HasSeveral Never key.now (Some value.now) text.now)
+    ensures { EditsBy number first.now second.now text.now
         buffer.old buffer.new size.old size.new line.old line.new result }
 {
-    answer(set(alloc, text, key, value), buffer, size, line)
-}
-
-/// Does what `gcv_raw_set` does, also if several entries have the key: the last one gets the value, and the
-/// others go.
-#[unsafe(no_mangle)]
-pub extern "C" fn gcv_raw_replace_all(
-    alloc: Global,
-    text: &[u8],
-    key: &[u8],
-    value: &[u8],
-    buffer: &mut [u8],
-    size: &mut usize,
-    line: &mut usize,
-) -> u32
-    ensures { EditsInto (ReplacesAll key.now value.now text.now)
-        (RefusesEdit Never Never key.now (Some value.now) text.now)
-        buffer.old buffer.new size.old size.new line.old line.new result }
-{
-    answer(replace_all(alloc, text, key, value), buffer, size, line)
-}
-
-/// Puts the text with one more entry, which has the key and the value. It returns what `gcv_raw_set` returns,
-/// but never `Several`.
-#[unsafe(no_mangle)]
-pub extern "C" fn gcv_raw_add(
-    alloc: Global,
-    text: &[u8],
-    key: &[u8],
-    value: &[u8],
-    buffer: &mut [u8],
-    size: &mut usize,
-    line: &mut usize,
-) -> u32
-    ensures { EditsInto (AddsOne key.now value.now text.now)
-        (RefusesEdit Never Never key.now (Some value.now) text.now)
-        buffer.old buffer.new size.old size.new line.old line.new result }
-{
-    answer(add(alloc, text, key, value), buffer, size, line)
-}
-
-/// Puts the text without the one entry of the key. It returns what `gcv_raw_set` returns, and `Absent` if no
-/// entry has the key.
-#[unsafe(no_mangle)]
-pub extern "C" fn gcv_raw_unset(
-    alloc: Global,
-    text: &[u8],
-    key: &[u8],
-    buffer: &mut [u8],
-    size: &mut usize,
-    line: &mut usize,
-) -> u32
-    ensures { EditsInto (Unsets key.now text.now) (RefusesEdit HasSeveral HasNone key.now None text.now)
-        buffer.old buffer.new size.old size.new line.old line.new result }
-{
-    answer(unset(alloc, text, key), buffer, size, line)
-}
-
-/// Puts the text without the entries of the key. It returns what `gcv_raw_unset` returns, but never `Several`.
-#[unsafe(no_mangle)]
-pub extern "C" fn gcv_raw_unset_all(
-    alloc: Global,
-    text: &[u8],
-    key: &[u8],
-    buffer: &mut [u8],
-    size: &mut usize,
-    line: &mut usize,
-) -> u32
-    ensures { EditsInto (UnsetsAll key.now text.now) (RefusesEdit Never HasNone key.now None text.now)
-        buffer.old buffer.new size.old size.new line.old line.new result }
-{
-    answer(unset_all(alloc, text, key), buffer, size, line)
-}
-
-/// Puts the text in which the sections of the old name have the new one.
-///
-/// Returns `BadSection` if no header can have the new name, and `Absent` if no section has the old one.
-/// Returns `BadLine`, `Nul`, `NoMemory` and `ShortBuffer` as `gcv_raw_set` does.
-#[unsafe(no_mangle)]
-pub extern "C" fn gcv_raw_rename_section(
-    alloc: Global,
-    text: &[u8],
-    old: &[u8],
-    new: &[u8],
-    buffer: &mut [u8],
-    size: &mut usize,
-    line: &mut usize,
-) -> u32
-    ensures { EditsInto (RenamesSection old.now new.now text.now) (RefusesRenaming old.now new.now text.now)
-        buffer.old buffer.new size.old size.new line.old line.new result }
-{
-    answer(rename_section(alloc, text, old, new), buffer, size, line)
-}
-
-/// Puts the text without the sections of this name. It returns what `gcv_raw_rename_section` returns, but
-/// never `BadSection`.
-#[unsafe(no_mangle)]
-pub extern "C" fn gcv_raw_remove_section(
-    alloc: Global,
-    text: &[u8],
-    name: &[u8],
-    buffer: &mut [u8],
-    size: &mut usize,
-    line: &mut usize,
-) -> u32
-    ensures { EditsInto (RemovesSection name.now text.now) (RefusesRemoval name.now text.now)
-        buffer.old buffer.new size.old size.new line.old line.new result }
-{
-    answer(remove_section(alloc, text, name), buffer, size, line)
+    let Some(edit) = edit_of(number) else {
+        return Status::UnknownKind as u32;
+    };
+    answer(edited(alloc, edit, text, first, second), buffer, size, line)
 }

@@ -322,6 +322,13 @@ static void depths(void)
     count(gcv_terminal_depth(0, NULL, "xterm", "24bit") == GCV_NO_COLORS, "no terminal");
     count(gcv_terminal_depth(1, "0", "xterm", "24bit") == GCV_NO_COLORS, "NO_COLOR");
     count(gcv_terminal_depth(1, NULL, NULL, "24bit") == GCV_NO_COLORS, "no TERM");
+    count(gcv_depth_when(GCV_NEVER, 1, NULL, "xterm", "24bit") == GCV_NO_COLORS, "never");
+    count(gcv_depth_when(GCV_AUTO, 1, NULL, "xterm", "24bit") == GCV_TRUE_COLOR, "auto");
+    count(gcv_depth_when(GCV_AUTO, 0, NULL, "xterm", "24bit") == GCV_NO_COLORS, "auto, no terminal");
+    count(gcv_depth_when(GCV_AUTO, 1, "1", "xterm", NULL) == GCV_NO_COLORS, "auto, NO_COLOR");
+    count(gcv_depth_when(GCV_ALWAYS, 0, "1", "xterm-256color", NULL) == GCV_ANSI256, "always");
+    count(gcv_depth_when(GCV_ALWAYS, 0, NULL, NULL, "24bit") == GCV_ANSI16, "always, no TERM");
+    count(gcv_depth_when(GCV_ALWAYS, 0, NULL, "dumb", NULL) == GCV_ANSI16, "always, dumb");
 }
 
 /* Texts that end with NUL, and null for a key without `=`, which Git takes for true; the rest is in docs/GRAMMAR.md. */

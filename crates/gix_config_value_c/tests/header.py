@@ -47,6 +47,11 @@ ENUMS = {
         ("GCV_", CRATE / "src/roles.rt", r"^    (\w+) = (\d+),$", int),
         ("GCV_", NUMBERS, r"^role_number roles\.(\w+) = (\d+)$", int),
     ],
+    "GCV_EDIT_SET": [
+        ("GCV_EDIT_", CRATE / "src/edits.rt", r"^    (\w+) = (\d+),$", int),
+        ("GCV_EDIT_", CRATE / "src/edits.rt", r"^        (?P<number>\d+) => Some\(Edit::(?P<name>\w+)\),$", int),
+        ("GCV_EDIT_", CRATE / "specs/Edits.antt", r"^edit_number edits\.(\w+) = (\d+)$", int),
+    ],
     "GCV_VARIABLE": [("GCV_", ROOT / "crates/config_search/src/lib.rt", r"^pub const (\w+): u32 = (\d+);$", int)],
     "GCV_FINDS_NONE": [("GCV_", CRATE / "src/search.rt", r"^const (\w+): u32 = (\d+);$", int)],
     "GCV_SYSTEM": [("GCV_", CRATE / "src/search.rt", r"^        Scope::(\w+) => (\d+),$", int)],
@@ -88,7 +93,7 @@ TYPES = {"i64": "int64_t", "u32": "uint32_t", "u8": "uint8_t", "usize": "size_t"
 TYPES |= {f"Gcv{it.title()}": f"gcv_{it}" for it in ("integer", "name", "color", "frame")}
 TYPES |= {"Fact": "gcv_fact"} | {f"Gcv{it.title()}": f"gcv_raw_{it}" for it in ("known", "step", "found")}
 # the enums of C are numbers of 32 bits, and a text is of chars
-NUMBERED = re.compile(r"\bgcv_(status|kind|fault|suffix|depth|tag|role|subject|outcome)\b")
+NUMBERED = re.compile(r"\bgcv_(status|kind|fault|suffix|depth|tag|role|subject|outcome|edit)\b")
 # the pointers to what is in slices: bytes, and texts
 SLICES = {"&[u8]": "const uint8_t *", "&[&[u8]]": "const gcv_text *", "&[Fact]": "const gcv_fact *"}
 SIZES = {"int64_t": (8, 8), "uint32_t": (4, 4), "uint8_t": (1, 1), "size_t": (8, 8)}
@@ -114,7 +119,7 @@ def constant(beginning, name):
 
 def enum_of(first):
     """The constants of the header's enum whose first one has this name, and their numbers."""
-    body = re.search(rf"^typedef GCV_ENUM\(\w+\) \{{\s+({first} = .*?)\}}", text_of(HEADER), re.MULTILINE | re.DOTALL)
+    body = re.search(rf"^typedef GCV_ENUM\(\w+\) \{{\s+({first} = .*?)\}}", text_of(HEADER) + text_of(RAW), re.MULTILINE | re.DOTALL)
     return {name: int(number, 0) for name, number in re.findall(r"\b(GCV_\w+) = (\w+)", body[1] if body else "")}
 
 

@@ -265,6 +265,13 @@ if [ -x "$work/six_settings" ] && command -v git > /dev/null; then
     counted "six settings, by Git" python3 "$tests/six.py" "$work/six_settings"
 fi
 
+if command -v git > /dev/null; then
+    # shellcheck disable=SC2086
+    holds "whether there are colors" "${CC:-cc}" -std=c99 $warnings -I"$prefix/include" -o "$work/colored" \
+        "$tests/colored.c" "$archive"
+    counted "colors, by Git" python3 "$tests/colored.py" "$work/colored"
+fi
+
 # shellcheck disable=SC2086
 holds "a reader of includes" "${CC:-cc}" -std=c99 $warnings -I"$prefix/include" -o "$work/listed" "$tests/listed.c" \
     "$archive"

@@ -1,9 +1,9 @@
 //! Refusals of what no variable can have, and what `get` hands back.
 
 use crate::support::equal;
-use config_file::Settings;
 use config_file::command::{CommandError, push_setting};
 use config_file::settings::GetError;
+use config_file::{Scope, Settings};
 use gix_config_value::Integer;
 use std::test::Fail;
 
@@ -25,7 +25,12 @@ fn refuses_a_nul_and_an_empty_key(rt: HostRuntime) {
 #[test]
 fn refuses_the_value_of_a_key(rt: HostRuntime) -> Result<(), Fail> {
     let mut settings = Settings::new(rt.alloc());
-    settings.add_file(rt.alloc(), b"f", b"[core]\n\tbare\n\tempty =\n")?;
+    settings.add_file(
+        rt.alloc(),
+        Scope::Local,
+        b"f",
+        b"[core]\n\tbare\n\tempty =\n",
+    )?;
     let Some(GetError::Refused(refused)) = settings.get::<Integer>("core.empty").err() else {
         return Err(Fail::new("an empty text is no integer"));
     };

@@ -2,7 +2,7 @@
 
 use crate::support::equal;
 use bstr::BStr;
-use config_file::{Scope, Setting, Settings};
+use config_file::{Key, Scope, Setting, Settings};
 use gix_config_value::{Fault, Integer};
 use std::alloc::{AllocError, Global};
 use std::test::Fail;
@@ -20,10 +20,8 @@ const OWN: &[u8] =
 /// The settings of both files.
 fn both(alloc: Global) -> Result<Settings<'static>, Fail> {
     let mut settings = Settings::new(alloc);
-    settings.scope = Scope::Global;
-    settings.add_file(alloc, b"user", USER)?;
-    settings.scope = Scope::Local;
-    settings.add_file(alloc, b"own", OWN)?;
+    settings.add_file(alloc, Scope::Global, b"user", USER)?;
+    settings.add_file(alloc, Scope::Local, b"own", OWN)?;
     Ok(settings)
 }
 
@@ -59,10 +57,27 @@ const SCOPES: [(Scope, &str); 3] = [
 ];
 
 #[test]
+fn shows_keys(rt: HostRuntime) -> Result<(), Fail> {
+    // what `git config --list` prints, read as UTF-8
+    for (text, wanted) in [
+        (b"Core.Bare" as &[u8], "core.bare"),
+        (b"Branch.Main.x.ReBase", "branch.Main.x.rebase"),
+        (b"A..B", "a..b"),
+        (
+            b"URL.https://X/\xff.insteadOf",
+            "url.https://X/\u{fffd}.insteadof",
+        ),
+    ] {
+        let key = Key::parse(text)?;
+        equal(&rt, key.to_string(rt.alloc())?.as_str(), wanted, wanted);
+    }
+    Ok(())
+}
+
+#[test]
 fn lists_settings_and_subsections(rt: HostRuntime) -> Result<(), Fail> {
     let alloc = rt.alloc();
     let settings = both(alloc)?;
-    assert!(rt; Settings::new(alloc).scope == Scope::Command);
     for (scope, wanted) in SCOPES {
         let given = in_scope(alloc, &settings, scope)?;
         equal(&rt, BStr::new(&given), BStr::from(wanted), wanted);

@@ -6,7 +6,7 @@ ghost use Rattle.uses.specs.Repository.{or_false, GetsBare};
 
 use config_file::laws::settings::added_are_listed;
 use config_file::settings::GetError;
-use config_file::{AddError, Settings};
+use config_file::{AddError, Scope, Settings};
 use gix_config_value::Boolean;
 use std::alloc::Global;
 
@@ -68,7 +68,7 @@ pub fn read<'a>(alloc: Global, files: &[File<'a>]) -> Result<Settings<'a>, AddEr
     added_are_listed();
     let mut settings = Settings::new(alloc);
     for file in files {
-        settings.add_file(alloc, file.name.as_bytes(), file.bytes)?;
+        settings.add_file(alloc, Scope::Local, file.name.as_bytes(), file.bytes)?;
     }
     Ok(settings)
 }

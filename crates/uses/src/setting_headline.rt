@@ -5,7 +5,7 @@ ghost use Rattle.uses.specs.Reading.{AreRead};
 ghost use Rattle.uses.specs.SettingHeadline.{SettingHeadline, StopsWith};
 
 use config_file::laws::each_is_listed;
-use config_file::{AddError, FilePlace, Files, Key, KeyError, Known, Settings};
+use config_file::{AddError, FilePlace, Files, Key, KeyError, Known, Scope, Settings};
 use gix_config_value::Fault;
 use gix_config_value::canonical::TryRead;
 use std::alloc::Global;
@@ -72,7 +72,14 @@ fn read_all<'t, F: Files<'t>>(
 {
     let mut settings = Settings::new(alloc);
     for file in first {
-        match settings.add_with_includes(alloc, files, known, file.place, file.text) {
+        match settings.add_with_includes(
+            alloc,
+            Scope::Command,
+            files,
+            known,
+            file.place,
+            file.text,
+        ) {
             Ok(()) => {}
             Err(error) => return Err(error),
         }

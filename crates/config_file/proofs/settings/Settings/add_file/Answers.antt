@@ -15,7 +15,8 @@ loop-entry-preserved c =
         file_adds_more c.args.file.now entries (entry_of c.in-Ok.entry) c.args.self.now.entries.items
             c.loop-entry.self.entries.items c.add.new.self.entries.items adds c.in-Ok-add.ensures.adds,
       ),
-      scope_both c.args.self.now c.loop-entry.self c.add.new.self c.loop-entry.invariant.1 c.add.ensures.scope,
+      scope_both c.args.scope c.args.self.now.entries.items c.loop-entry.self.entries.items c.add.new.self.entries.items
+          c.loop-entry.invariant.1 c.add.ensures.scope,
     )
 
 pub returns-in-Err-add-clause-adds : goal.returns-in-Err-add-clause-adds

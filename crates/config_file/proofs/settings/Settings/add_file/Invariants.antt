@@ -11,4 +11,4 @@ invariant-loop-entry l =
     × ((left : List Entry) (error : Option FileError) → HasLeft l.entry-iterator left error
     → IsFile l.text (entries ++ left) error)
     × AddsEach (map (λ entry. (l.file, entry)) entries) l.fn.self.entries.items l.self.entries.items)
-    × AddsInScope l.fn.self l.self
+    × AddsInScope l.scope l.fn.self.entries.items l.self.entries.items

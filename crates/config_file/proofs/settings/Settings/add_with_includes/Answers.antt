@@ -7,13 +7,14 @@ pub steps-init : goal.steps-init
 steps-init g c = (
   keeps_first (g.S.Files.contents c.args.files.now) c.args.known.now c.args.place c.args.text.now
       c.args.self.now.entries.items _ c.new-walk.ensures,
-  scope_none c.args.self.now c.args.self.now refl refl,
+  scope_none c.args.scope c.args.self.now.entries.items,
 )
 
 pub steps-preserved : goal.steps-preserved
 steps-preserved g c = (
   keeps_more c.steps.invariant.0 _ _ c.in-Ok.goes_on (search rules) (rw c.in-Ok.is at c.add_next.ensures.adds),
-  scope_both c.args.self.now c.steps.self c.add_next.new.self c.steps.invariant.1 c.add_next.ensures.scope,
+  scope_both c.args.scope c.args.self.now.entries.items c.steps.self.entries.items c.add_next.new.self.entries.items
+      c.steps.invariant.1 c.add_next.ensures.scope,
 )
 
 pub returns-then-not-goes_on-clause-adds : goal.returns-then-not-goes_on-clause-adds
@@ -32,4 +33,5 @@ returns-clause-adds g c =
 
 pub returns-in-Err-clause-scope : goal.returns-in-Err-clause-scope
 returns-in-Err-clause-scope g c =
-    scope_both c.args.self.now c.steps.self c.add_next.new.self c.steps.invariant.1 c.add_next.ensures.scope
+    scope_both c.args.scope c.args.self.now.entries.items c.steps.self.entries.items c.add_next.new.self.entries.items
+    c.steps.invariant.1 c.add_next.ensures.scope
