@@ -16,7 +16,7 @@ use std::alloc::Global;
 
 /// An edit, and the texts that it takes. `raw.h` has its number.
 #[derive(Clone, Copy)]
-pub enum Edit {
+pub(crate) enum Edit {
     /// Of a key and a value: the one entry of the key gets the value, or there is a new one.
     Set = 0,
     /// Of a key and a value: the last entry of the key gets the value, and the others go.
