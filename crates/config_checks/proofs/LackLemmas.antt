@@ -1,5 +1,5 @@
 -- A text that lacks bytes of another one is at least as many edits away.
-use Rattle.std.proofs.Common.{◌≡◌, ◌+◌, ◌≤◌, ℕ, zero, suc, List, [], ◌∷◌, ◌++◌, length, nat_eq, refl, sym, ap}
+use Rattle.std.proofs.Common.{◌≡◌, ◌+◌, ◌<◌, ◌≤◌, get_or, ℕ, zero, suc, List, [], ◌∷◌, ◌++◌, length, nat_eq, refl, sym, ap}
 use Rattle.std.proofs.Common.{◌∙◌, arith, append_assoc, Bool, true, inl, inr, ◌==◌}
 use Rattle.std.proofs.lemmas.Int.{clamps}
 use Rattle.std.proofs.lemmas.List.Folds.{list_any-append}
@@ -10,6 +10,8 @@ use Rattle.std.specs.List.{filter, list_any, prefix_len, zip}
 use Rattle.std.specs.Prelude.{not, ◌||◌, ◌-◌, drop, take}
 use Rattle.std.proofs.lemmas.List.{length-append, length-map, drop-map, take-append-drop, map-append}
 use Rattle.std.proofs.Math.Seq.{drop-append_seam}
+use Rattle.std.proofs.lemmas.List.Elements.{filter-append}
+use Rattle.std.proofs.lemmas.List.Filters.{length-filter_more}
 use Rattle.config_text.specs.SameWord.{SameWord}
 use Rattle.config_checks.proofs.NearestLemmas.{common}
 use Rattle.strsim.specs.Edits.{next_row, rows, cost_at}
@@ -101,6 +103,22 @@ lacking_edits a b n (swapped swap is) =
 lacking_edits a b n (counted not is) =
     let more = rows_lacking (lower a) (lower b) 0 0 (λ j. j) (λ j. omega arith) (omega arith) (length (lower b)) in
     omega (arith, is, more, lacking_lower a b)
+
+-- ---- the bytes so far
+
+-- a filter keeps no more of a front than of the whole
+filtered_front : (p : ℕ → Bool) (xs : List ℕ) (i : ℕ) → length (filter p (take i xs)) ≤ length (filter p xs)
+filtered_front p xs i =
+    let whole : length (filter p xs) ≡ length (filter p (take i xs)) + length (filter p (drop i xs)) =
+    ap (λ l. length (filter p l)) (sym (take-append-drop i xs)) ∙ ap length (filter-append p (take i xs) (drop i xs))
+    ∙ length-append (filter p (take i xs)) (filter p (drop i xs)) in
+    omega (arith, whole)
+
+-- and fewer bytes before one that it keeps
+pub filtered_further : (p : ℕ → Bool) (xs : List ℕ) (i d : ℕ) → i < length xs → p (get_or xs i d) ≡ true
+    → length (filter p (take i xs)) < length (filter p xs)
+filtered_further p xs i d below passes =
+    let more = rw passes at (length-filter_more p xs i d below) in omega (arith, more, filtered_front p xs (i + 1))
 
 -- ---- what both texts begin with
 

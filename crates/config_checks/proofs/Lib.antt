@@ -8,6 +8,7 @@ mod WordLemmas
 mod ShownLemmas
 mod ShapeLemmas
 mod SuggestionLemmas
+mod MarkLemmas
 mod CheckLemmas
 mod TableLemmas
 mod OneFinding

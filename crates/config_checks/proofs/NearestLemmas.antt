@@ -74,6 +74,16 @@ rests_of (x ∷ a) (y ∷ b) = elim (cases_Bool (x == y)) [
 ]
 rests_of a b = record { front = []; first = refl; second = refl; apart = tt }
 
+apart_swapped : (x y : List ℕ) → AreApart x y → AreApart y x
+apart_swapped [] [] apart = tt
+apart_swapped [] (y ∷ ys) apart = tt
+apart_swapped (x ∷ xs) [] apart = tt
+apart_swapped (x ∷ xs) (y ∷ ys) apart = λ same. apart (sym same)
+
+pub swapped_rests : {a b x y : List ℕ} → AreRests a b x y → AreRests b a y x
+swapped_rests {x = x} {y = y} r =
+    record { front = r.front; first = r.second; second = r.first; apart = apart_swapped x y r.apart }
+
 -- ---- a relation that holds of two texts exactly if it holds of what follows a byte that both begin with
 
 module _ (R : List ℕ → List ℕ → Type 0) (more : (x : ℕ) (a b : List ℕ) → R (x ∷ a) (x ∷ b) ↔ R a b) where

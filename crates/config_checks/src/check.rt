@@ -7,7 +7,7 @@ ghost use Rattle.config_checks.specs.Findings.{Finding, finding_of};
 ghost use Rattle.config_checks.specs.Report.{counted, counts_shown, reason_finding, IsAbout, Receives};
 ghost use Rattle.config_checks.specs.Report.{Completes, Fails};
 ghost use Rattle.config_checks.specs.Rows.{rows_of, IsUnknown};
-ghost use Rattle.config_checks.specs.Reading.Steps.{HasRoom, HasRoomForFinding, Reports, IsKept, IsSection};
+ghost use Rattle.config_checks.specs.Reading.Steps.{HasRoom, HasRoomForFinding, Reports, IsKept, IsSection, AreMarked};
 ghost use Rattle.config_checks.specs.Reading.Steps.{said_findings, is_reported, ReportsError, ReportsEntries};
 
 use crate::code::Code;
@@ -15,7 +15,8 @@ use crate::finding::{
     Finding, bytes_of, fault_of, file_fault_shown, instead_of, key_meant, push_reason, value_meant,
     value_of,
 };
-use crate::lookup::{row_for, runs_of};
+use crate::lookup::runs_of;
+use crate::marks::{marked_row_for, marks_of};
 use crate::options::Options;
 use crate::reason::{Reason, Severity, find};
 use crate::row::{Row, Run};
@@ -209,10 +210,12 @@ struct Said {
 fn said_of_parts(
     alloc: Global,
     runs: &[Run<'_, '_>],
+    marks: &[bool],
     key: &[u8],
     parts: &Key<'_>,
     section: SectionFacts,
 ) -> Result<Said, AllocError>
+    requires marked { AreMarked (rows_of runs.now) marks.now }
     requires unknown { IsUnknown (rows_of runs.now) key.now }
     requires parts { IsCut key.now (key_of parts.now) }
     requires section { IsSection runs.now section }
@@ -220,7 +223,7 @@ fn said_of_parts(
     ensures { IfOk result (λ said. (said.key.items ≡ key.now) × IsKept runs.now said) }
 {
     let copy = key.to_vec(alloc)?;
-    match unknown_in(alloc, runs, &section, parts)? {
+    match unknown_in(alloc, runs, marks, &section, parts)? {
         Some(unknown) => {
             let mut text = Vec::new(alloc);
             push_unknown(&mut text, &unknown)?;
@@ -245,9 +248,11 @@ fn said_of_parts(
 fn said_of(
     alloc: Global,
     runs: &[Run<'_, '_>],
+    marks: &[bool],
     key: &[u8],
     last: Option<SectionFacts>,
 ) -> Result<Said, AllocError>
+    requires marked { AreMarked (rows_of runs.now) marks.now }
     requires unknown { IsUnknown (rows_of runs.now) key.now }
     requires last { IfSome last (IsSection runs.now) }
     ensures { IfOk result (λ said. (said.key.items ≡ key.now) × IsKept runs.now said) }
@@ -261,24 +266,26 @@ fn said_of(
         });
     };
     let section = recalled_section(alloc, runs, parts.section(), last)?;
-    said_of_parts(alloc, runs, key, &parts, section)
+    said_of_parts(alloc, runs, marks, key, &parts, section)
 }
 
 /// What is said of a key that no row covers. It is what was said last, if that was of this key.
 fn recalled(
     alloc: Global,
     runs: &[Run<'_, '_>],
+    marks: &[bool],
     key: &[u8],
     last: Option<Said>,
 ) -> Result<Said, AllocError>
+    requires marked { AreMarked (rows_of runs.now) marks.now }
     requires unknown { IsUnknown (rows_of runs.now) key.now }
     requires last { IfSome last (IsKept runs.now) }
     ensures { IfOk result (λ said. (said.key.items ≡ key.now) × IsKept runs.now said) }
 {
     match last {
         Some(said) if said.key.as_slice() == key => Ok(said),
-        Some(said) => said_of(alloc, runs, key, said.section),
-        None => said_of(alloc, runs, key, None),
+        Some(said) => said_of(alloc, runs, marks, key, said.section),
+        None => said_of(alloc, runs, marks, key, None),
     }
 }
 
@@ -328,11 +335,13 @@ struct Progress {
 fn report<R: Receiver>(
     alloc: Global,
     runs: &[Run<'_, '_>],
+    marks: &[bool],
     options: &Options<'_>,
     setting: &Setting<'_>,
     progress: Progress,
     receiver: &mut R,
 ) -> Result<Progress, CheckError>
+    requires marked { AreMarked (rows_of runs.now) marks.now }
     requires room { HasRoom progress.counts }
     requires last { IfSome progress.last (IsKept runs.now) }
     ensures ok { IfOk result (λ after. Reports (rows_of runs.now) options.now setting.now
@@ -346,9 +355,9 @@ fn report<R: Receiver>(
         entries: counts.entries + 1,
         ..counts
     };
-    let Some(row) = row_for(runs, &setting.key) else {
+    let Some(row) = marked_row_for(runs, marks, &setting.key) else {
         counts.unknown += 1;
-        let said = match recalled(alloc, runs, &setting.key, last) {
+        let said = match recalled(alloc, runs, marks, &setting.key, last) {
             Ok(said) => said,
             Err(error) => return Err(CheckError::Memory(error)),
         };
@@ -378,11 +387,13 @@ fn report<R: Receiver>(
 fn report_entries<R: Receiver>(
     alloc: Global,
     runs: &[Run<'_, '_>],
+    marks: &[bool],
     options: &Options<'_>,
     file: &str,
     text: &[u8],
     receiver: &mut R,
 ) -> Result<(Counts, Option<FileError>), CheckError>
+    requires { AreMarked (rows_of runs.now) marks.now }
     ensures ok { IfOk result (λ reported. ReportsEntries (rows_of runs.now) options.now file.now text.now
         (R.received receiver.old) (R.received receiver.new) reported.0 reported.1) }
     ensures err { OnErr result (Fails (rows_of runs.now) options.now file.now text.now
@@ -402,7 +413,7 @@ fn report_entries<R: Receiver>(
             Ok(setting) => setting,
             Err(error) => return Err(CheckError::Memory(error)),
         };
-        progress = report(alloc, runs, options, &setting, progress, receiver)?;
+        progress = report(alloc, runs, marks, options, &setting, progress, receiver)?;
     }
     Ok((progress.counts, None))
 }
@@ -498,6 +509,10 @@ pub fn check_file<R: Receiver>(
         Ok(runs) => runs,
         Err(error) => return Err(CheckError::Memory(error)),
     };
-    let (counts, refused) = report_entries(alloc, &runs, options, file, text, receiver)?;
+    let marks = match marks_of(alloc, rows) {
+        Ok(marks) => marks,
+        Err(error) => return Err(CheckError::Memory(error)),
+    };
+    let (counts, refused) = report_entries(alloc, &runs, &marks, options, file, text, receiver)?;
     tell(file, refused, counts, receiver)
 }

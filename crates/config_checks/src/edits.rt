@@ -1,5 +1,5 @@
 //! The edits that lead from one text to another.
-ghost use Rattle.std.specs.Prelude.{◌≡◌, ◌≤◌, ◌+◌, ◌↔◌, ◌==◌, ◌++◌, ℕ, List, length, not, IsTrue, IfOk};
+ghost use Rattle.std.specs.Prelude.{◌≡◌, ◌⊎◌, ◌<◌, ◌≤◌, ◌+◌, ◌↔◌, ◌==◌, ◌++◌, ℕ, List, length, not, IsTrue, IfOk};
 ghost use Rattle.std.specs.List.{prefix_len, zip, filter};
 ghost use Rattle.config_checks.specs.Nearest.{Edits, IsSwap, FewEdits, HasOtherEnd, most_edits, LacksRun, lower};
 ghost use Rattle.config_checks.specs.Reading.Steps.{AreApart, AreRests, IsFew, has_byte, is_same_byte};
@@ -81,11 +81,22 @@ fn has_byte(text: &[u8], byte: u8) -> bool
     text.iter().any(|other| byte.eq_ignore_ascii_case(other))
 }
 
-/// How many bytes of one text the other lacks, ignoring ASCII case. No fewer edits lead from one to the other.
-fn count_lacked(from: &[u8], to: &[u8]) -> usize
-    ensures { result ≡ length (filter (λ byte. not (has_byte to.now byte)) from.now) }
+/// Whether one text has more bytes than so many that the other lacks, ignoring ASCII case. Then more edits than that lead
+/// from one to the other.
+// It ends at the first byte that is one too many.
+fn lacks_more(from: &[u8], to: &[u8], most: usize) -> bool
+    ensures { IsTrue result → most < length (filter (λ byte. not (has_byte to.now byte)) from.now) }
 {
-    from.iter().filter(|byte| !has_byte(to, **byte)).count()
+    let mut left = most;
+    for byte in from {
+        if !has_byte(to, *byte) {
+            if left == 0 {
+                return true;
+            }
+            left -= 1;
+        }
+    }
+    false
 }
 
 /// How many edits lead from one text to the other, or `None` if the texts are not near.
@@ -99,7 +110,7 @@ pub(crate) fn few_edits(
     ensures { IfOk result (λ r. IsFew (FewEdits long from.now to.now) r) }
 {
     let most = most_edits(long, from, to);
-    if from.len().abs_diff(to.len()) > most || count_lacked(from, to) > most {
+    if from.len().abs_diff(to.len()) > most || lacks_more(from, to, most) {
         return Ok(None);
     }
     let edits = edits_between(alloc, from, to)?;
@@ -138,15 +149,16 @@ fn ends_with_word(text: &[u8], end: &[u8]) -> bool
     is_same_word(&text[text.len() - end.len()..], end)
 }
 
-/// Whether the first text is long, and is the second one without one run of bytes, ignoring ASCII case.
-pub(crate) fn lacks_run(short: &[u8], long: &[u8]) -> bool
+/// Whether the first text is long, and is the second one without one run of bytes, ignoring ASCII case. `rest` and
+/// `other` are what follows the longest text that both begin with.
+fn lacks_run(short: &[u8], long: &[u8], rest: &[u8], other: &[u8]) -> bool
+    requires { AreRests (lower short.now) (lower long.now) (lower rest.now) (lower other.now) }
     ensures { IsTrue result ↔ (LacksRun short.now long.now) }
 {
     if short.len() < LONG {
         return false;
     }
-    let (short, long) = word_rests(short, long);
-    ends_with_word(long, short)
+    ends_with_word(other, rest)
 }
 
 /// The least front of two texts that differ in how they end.
@@ -162,10 +174,20 @@ fn are_ends(text: &[u8], x: &[u8], y: &[u8]) -> bool
     x.len() <= END && y.len() <= END && x.len() + FRONT <= text.len()
 }
 
-/// Whether two texts begin alike, ignoring ASCII case, and differ only in how they end.
-pub(crate) fn has_other_end(a: &[u8], b: &[u8]) -> bool
+/// Whether two texts begin alike, ignoring ASCII case, and differ only in how they end: in `x` and `y`, which follow the
+/// longest text that both begin with.
+fn has_other_end(a: &[u8], b: &[u8], x: &[u8], y: &[u8]) -> bool
+    requires { AreRests (lower a.now) (lower b.now) (lower x.now) (lower y.now) }
     ensures { IsTrue result ↔ (HasOtherEnd a.now b.now) }
 {
-    let (x, y) = word_rests(a, b);
     are_ends(a, x, y)
+}
+
+/// Whether one text is long and only lacks a run of bytes of the other, or both differ only in how they end.
+#[tactic(auto, using(crate::proofs::NearestLemmas::swapped_rests))]
+pub(crate) fn are_alike(a: &[u8], b: &[u8]) -> bool
+    ensures { IsTrue result ↔ (LacksRun a.now b.now ⊎ (LacksRun b.now a.now ⊎ HasOtherEnd a.now b.now)) }
+{
+    let (x, y) = word_rests(a, b);
+    lacks_run(a, b, x, y) || lacks_run(b, a, y, x) || has_other_end(a, b, x, y)
 }

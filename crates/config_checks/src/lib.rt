@@ -13,6 +13,7 @@ pub mod key;
 pub mod kind;
 pub mod laws;
 pub mod lookup;
+mod marks;
 pub mod options;
 pub mod outcome;
 pub mod paths;

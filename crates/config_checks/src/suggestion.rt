@@ -1,11 +1,11 @@
 //! Keys that no row covers, and the nearest keys of the rows.
-ghost use Rattle.std.specs.Prelude.{◌≡◌, ◌⊎◌, ◌++◌, ◌↔◌, IsTrue, MatchOption, IfOk, IfSome, OnOk, Some};
+ghost use Rattle.std.specs.Prelude.{◌≡◌, ◌++◌, ◌↔◌, IsTrue, MatchOption, IfOk, IfSome, OnOk, Some};
 ghost use Rattle.std.specs.Prelude.{option_copied};
 ghost use Rattle.std.specs.List.{Any};
 ghost use Rattle.config_text.specs.SameWord.{SameWord};
 ghost use Rattle.config_file.specs.KeyView.{key_of};
 ghost use Rattle.config_checks.specs.Keys.{CoversSubsection, CoversName};
-ghost use Rattle.config_checks.specs.Nearest.{LacksRun, HasOtherEnd, AreFar, IsNearest};
+ghost use Rattle.config_checks.specs.Nearest.{AreFar, IsNearest};
 ghost use Rattle.config_checks.specs.Suggestions.{AreAlike, SubsectionEdits, NameEdits, EditsAfter, OnePartEdits};
 ghost use Rattle.config_checks.specs.Suggestions.{RowEdits, Fills, FillsSubsection, FillsKey, IsShared};
 ghost use Rattle.config_checks.specs.Suggestions.{IsOwn, IsTopic, IsMoved, IsMovedRow, HasNone, IsFirstSuch};
@@ -14,11 +14,12 @@ ghost use Rattle.config_checks.specs.Suggestions.{nearest_of, HasSection, IsPass
 ghost use Rattle.config_checks.specs.Suggestions.{subsection_shown, after_shown, key_shown, asked};
 ghost use Rattle.config_checks.specs.Suggestions.{unknown_severity, unknown_text};
 ghost use Rattle.config_checks.specs.Rows.{IsUnknown, rows_of};
-ghost use Rattle.config_checks.specs.Reading.Steps.{IsFew, IsRelation, AreRelations, IsSection};
+ghost use Rattle.config_checks.specs.Reading.Steps.{IsFew, IsRelation, AreRelations, IsSection, AreMarked};
 
-use crate::edits::{LONG, MOST_EDITS, few_edits, has_other_end, lacks_run};
+use crate::edits::{LONG, MOST_EDITS, are_alike, few_edits};
 use crate::finding::push_shown;
 use crate::key::{ANY, covers_name, covers_subsection, is_same_word};
+use crate::marks::has_mark;
 use crate::reason::Severity;
 use crate::row::{Row, Run};
 use config_file::key::Key;
@@ -54,13 +55,6 @@ fn subsection_edits(
         (None, None) => Ok(None),
         _ => Ok(shape_edits(row, key)),
     }
-}
-
-/// Whether one name is long and only lacks a run of bytes of the other, or both differ only in how they end.
-fn are_alike(row: &[u8], name: &[u8]) -> bool
-    ensures { IsTrue result ↔ (LacksRun row.now name.now ⊎ (LacksRun name.now row.now ⊎ HasOtherEnd row.now name.now)) }
-{
-    lacks_run(row, name) || lacks_run(name, row) || has_other_end(row, name)
 }
 
 /// Three edits if one name is long and only lacks a run of bytes of the other, or both differ only in how they end,
@@ -286,14 +280,42 @@ fn moved<'r, 't>(runs: &[Run<'r, 't>], key: &Key<'_>) -> Option<&'r Row<'t>>
     None
 }
 
+/// Does the same as [`moved`]. `marks` are those of the rows.
+// Most names have no mark, so no row is looked at.
+fn moved_if_marked<'r, 't>(
+    runs: &[Run<'r, 't>],
+    marks: &[bool],
+    key: &Key<'_>,
+) -> Option<&'r Row<'t>>
+    requires { AreMarked (rows_of runs.now) marks.now }
+    ensures { MatchOption result (HasNone (IsMovedRow (key_of key.now)) (rows_of runs.now))
+        (λ row. IsFirstSuch (IsMovedRow (key_of key.now)) (rows_of runs.now) row.now) }
+{
+    if has_mark(marks, key.name()) {
+        moved(runs, key)
+    } else {
+        None
+    }
+}
+
 /// The first row that has the name of the key in another section. `None` unless a row has the key's section,
-/// which `is_known` says.
-fn elsewhere<'r, 't>(runs: &[Run<'r, 't>], is_known: bool, key: &Key<'_>) -> Option<&'r Row<'t>>
-    requires { IsTrue is_known ↔ HasSection (rows_of runs.now) (key_of key.now).section }
+/// which `is_known` says. `marks` are those of the rows.
+fn elsewhere<'r, 't>(
+    runs: &[Run<'r, 't>],
+    marks: &[bool],
+    is_known: bool,
+    key: &Key<'_>,
+) -> Option<&'r Row<'t>>
+    requires known { IsTrue is_known ↔ HasSection (rows_of runs.now) (key_of key.now).section }
+    requires marked { AreMarked (rows_of runs.now) marks.now }
     ensures { MatchOption result (IsNowhere (rows_of runs.now) (key_of key.now))
         (λ row. IsElsewhere (rows_of runs.now) (key_of key.now) row.now) }
 {
-    if is_known { moved(runs, key) } else { None }
+    if is_known {
+        moved_if_marked(runs, marks, key)
+    } else {
+        None
+    }
 }
 
 /// The part of the key if the part of the row's key is `*`, and otherwise the row's part.
@@ -432,13 +454,16 @@ pub struct UnknownKey<'k> {
 /// or a row has its name in another section, or only rows have settings where it is: in its section if it has
 /// no subsection, and in its subsection of `color`. Two keys are near if they differ in exactly one part: by one
 /// edit, by two if the part is long in both or, in the name of a key without a subsection, by a missing
-/// run of bytes or another end. Returns an error if there is no memory. `section` is that of the key.
+/// run of bytes or another end. Returns an error if there is no memory. `marks` are those of the rows, and `section` is
+/// that of the key.
 pub(crate) fn unknown_in<'k>(
     alloc: Global,
     runs: &[Run<'_, 'k>],
+    marks: &[bool],
     section: &SectionFacts,
     key: &Key<'k>,
 ) -> Result<Option<UnknownKey<'k>>, AllocError>
+    requires marked { AreMarked (rows_of runs.now) marks.now }
     requires known { IsSection runs.now section.now }
     requires same { section.now.name.items ≡ (key_of key.now).section }
     ensures { IfOk result (λ r. MatchOption r (IsForeign (rows_of runs.now) (key_of key.now))
@@ -449,7 +474,7 @@ pub(crate) fn unknown_in<'k>(
             nearest: Some(filled_key(&row.key, key)),
         }));
     }
-    match elsewhere(runs, section.is_known, key) {
+    match elsewhere(runs, marks, section.is_known, key) {
         Some(row) => Ok(Some(UnknownKey {
             nearest: Some(filled_key(&row.key, key)),
         })),
@@ -472,7 +497,7 @@ pub(crate) fn unknown_key<'k>(
         return Ok(None);
     };
     let section = section_of(alloc, runs, key.section())?;
-    unknown_in(alloc, runs, &section, &key)
+    unknown_in(alloc, runs, &[], &section, &key)
 }
 
 /// Appends a part of a key and a dot.

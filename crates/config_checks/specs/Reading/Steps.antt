@@ -1,9 +1,11 @@
 -- What the steps of a check count, and what is received.
 use Rattle.std.specs.Prelude.{◌≡◌, ◌≢◌, ⊤, ℕ, ◌+◌, ◌^◌, ◌<◌, ◌≤◌, List, [], ◌∷◌, ◌++◌, Option, None, Some, option_map}
-use Rattle.std.specs.Prelude.{Bool, true, false, not, IsTrue, ◌↔◌, IfSome, ◌==◌}
-use Rattle.std.specs.List.{AllZip, list_any}
+use Rattle.std.specs.Prelude.{Bool, true, false, not, IsTrue, ◌↔◌, IfSome, ◌==◌, ◌*◌, ◌%◌, slice_index_or, All, codes}
+use Rattle.std.specs.List.{AllZip, list_any, fold}
 use Rattle.std.specs.Char.{to_ascii_lowercase}
 use Rattle.config_text.specs.SameWord.{SameWord}
+use Rattle.config_file.specs.Key.{Key, IsCut}
+use Rattle.config_file.specs.KeyView.{key_of}
 use Rattle.config_file.specs.declared.errors.FileError as errors
 use Rattle.config_checks.specs.declared.options.Options.{Options}
 use Rattle.config_checks.specs.declared.code.Code.TheVariants as kind
@@ -126,6 +128,34 @@ pub data Turn : (color : Bool) → List (List ℕ) → Type 0 where
 abbrev pub IsFew : (ℕ → Type 0) → Option ℕ → Type 0
 IsFew AreEdits None = (n : ℕ) → AreEdits n → 3 < n
 IsFew AreEdits (Some n) = AreEdits n × (n ≤ 3)
+
+-- ---- marks of names
+
+-- the number of a name with one more byte, ignoring ASCII case
+abbrev pub next_number : ℕ → ℕ → ℕ
+next_number n b = ((n % 32768) * 31 + to_ascii_lowercase b) % 32768
+
+abbrev pub number_of : List ℕ → ℕ
+number_of name = fold next_number 0 name
+
+-- the number of the name is marked, or there is no mark for it
+abbrev pub HasMark : List Bool → List ℕ → Type 0
+HasMark marks name = slice_index_or marks (number_of name) true ≡ true
+
+-- the name of the row is marked, and its section too if the row is for all names
+pub record IsMarked (marks : List Bool) (row : Row) : Type 0 where
+  pub name : HasMark marks (key_of row.key).name
+  pub section : (key_of row.key).name ≡ codes "*" → HasMark marks (key_of row.key).section
+
+abbrev pub AreMarked : List Row → List Bool → Type 0
+AreMarked rows marks = All (IsMarked marks) rows
+
+-- neither the name nor the section of the key is marked
+pub record LacksMarks (marks : List Bool) (t : List ℕ) : Type 0 where
+  pub key : Key
+  pub cut : IsCut t key
+  pub name : ¬ (HasMark marks key.name)
+  pub section : ¬ (HasMark marks key.section)
 
 -- ---- what is known of a section
 

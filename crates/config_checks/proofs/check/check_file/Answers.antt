@@ -7,6 +7,9 @@ use Rattle.config_checks.proofs.check.check_file.Goals as goal
 pub returns-in-Err-clause-fails : goal.returns-in-Err-clause-fails
 returns-in-Err-clause-fails g c = fails_starting _ _ _ _ _
 
+pub returns-in-Err-marks_of-clause-fails : goal.returns-in-Err-marks_of-clause-fails
+returns-in-Err-marks_of-clause-fails g c = fails_starting _ _ _ _ _
+
 pub returns-clause-completes : goal.returns-clause-completes
 returns-clause-completes g c =
     let all = rw (ap rows_of c.deref.ensures.value ∙ c.in-Ok.ensures) at c.in_ok-counts.ensures.ok in

@@ -26,6 +26,7 @@ returns-in-Err-of_entry-clause-err g c = fails_reading _ _ _ _ _ _ _ _ c.loop-en
 pub report-requires : goal.report-requires
 report-requires g c =
     let so_far = c.loop-entry.invariant.1 in record {
+      marked = c.requires;
       room = record { entries = omega (arith, so_far.fits); others = so_far.within };
       last = c.loop-entry.invariant.0;
     }

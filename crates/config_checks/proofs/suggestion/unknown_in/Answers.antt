@@ -7,7 +7,8 @@ nearest-requires c =
     rw c.deref.ensures.value (rw c.requires.same at c.requires.known.relations)
 
 pub elsewhere-requires : goal.elsewhere-requires
-elsewhere-requires c = rw c.requires.same at c.requires.known.known
+elsewhere-requires c =
+    record { known = rw c.requires.same at c.requires.known.known; marked = c.requires.marked }
 
 pub is_own-requires : goal.is_own-requires
 is_own-requires c = rw c.requires.same at c.requires.known.known
