@@ -11,6 +11,7 @@ import os
 import pathlib
 import random
 import re
+import shutil
 import subprocess
 import tempfile
 
@@ -177,6 +178,9 @@ def main():
     parser.add_argument("--seed", type=int, default=1)
     parser.add_argument("--git", default="git")
     options = parser.parse_args()
+    if shutil.which(options.git) is None:
+        print(f"skipped: the edits, since there is no {options.git}\n0 passed, 0 failed")
+        return 0
     rng, counts, failed = random.Random(options.seed), collections.Counter(), 0
     program = str(options.program.resolve())
     with tempfile.TemporaryDirectory() as folder:

