@@ -11,7 +11,7 @@
  *
  * A call returns GCV_OK, or another gcv_status that says why it failed. Unless its comment says otherwise, a call that
  * failed has written nothing. A number or a struct that no value has is refused, each sort by a status of its own. A
- * call that allocates says so, and returns GCV_NO_MEMORY if malloc fails; only settings keep memory.
+ * call that allocates says so, and returns GCV_NO_MEMORY if malloc fails; what keeps memory says who frees it.
  *
  * A call that writes a text takes a buffer, its capacity, and `size`. After GCV_OK the text is at the front of the
  * buffer, the bytes after it are unchanged, no NUL is added, and `*size` is its length. After GCV_SHORT_BUFFER the
