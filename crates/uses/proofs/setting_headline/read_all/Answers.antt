@@ -3,7 +3,7 @@ use Rattle.uses.proofs.SettingLemmas.{read_none, loop_more, loop_stops}
 use Rattle.uses.proofs.setting_headline.read_all.Goals as goal
 
 pub loop-file-init : goal.loop-file-init
-loop-file-init g c = read_none _ _ _ c.new-settings.ensures.entries
+loop-file-init g c = read_none _ _ _ c.new-settings.ensures
 
 pub loop-file-preserved : goal.loop-file-preserved
 loop-file-preserved g c = loop_more (g.F.Files.contents c.args.files.now) c.args.known.now c.args.first.now
