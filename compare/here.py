@@ -257,12 +257,14 @@ class Place:
         """Variables that say where files are, and which repository is meant."""
         folder = self.folder
         choices = {
-            "GIT_CONFIG_NOSYSTEM": ("1", "0", "yes"),
+            "GIT_CONFIG_NOSYSTEM": ("1", "0", "yes", "maybe"),
             "GIT_CONFIG_SYSTEM": ("", "g", f"{folder}/missing"),
             "GIT_CONFIG_GLOBAL": ("g", "./g", f"{folder}/top/g", "", f"{folder}/missing", "../top/g"),
-            "XDG_CONFIG_HOME": (f"{folder}/xdg", "rel", "", f"{folder}/xdg/"),
-            "HOME": ("", f"{folder}/home/", "rel", f"{folder}/missing"),
-            "GIT_CEILING_DIRECTORIES": (f"{folder}/top", f"{folder}/top/deep", str(folder), f":{folder}/top", "top"),
+            "XDG_CONFIG_HOME": (f"{folder}/xdg", "rel", "", f"{folder}/xdg/", "./rel", ".//rel"),
+            "HOME": ("", f"{folder}/home/", "rel", f"{folder}/missing", "./rel"),
+            "GIT_CEILING_DIRECTORIES": (f"{folder}/top", f"{folder}/top/deep", str(folder), f":{folder}/top", "top", "..",
+                                        f"..:{folder}/top/", f"x::{folder}/top/"),
+            "GIT_DISCOVERY_ACROSS_FILESYSTEM": ("1", "0", "maybe", ""),
             "GIT_TEST_ASSUME_DIFFERENT_OWNER": ("1", "1", "0"),
         }
         for name, values in choices.items():
@@ -273,7 +275,9 @@ class Place:
                                              f"{folder}/top", ".", "missing")
             self.words.add("GIT_DIR")
         if self.rarely(0.07):
-            self.known["GIT_WORK_TREE"] = self.one(f"{folder}/top", ".", "..", f"{folder}/other")
+            self.known["GIT_WORK_TREE"] = self.one(f"{folder}/top", ".", "..", f"{folder}/other", "")
+        if self.rarely(0.05):
+            self.known["GIT_COMMON_DIR"] = self.one(f"{folder}/top/.git", ".git", "../.git", "", "missing")
         if self.rarely(0.03):
             self.known["GIT_OBJECT_DIRECTORY"] = self.one(f"{folder}/top/deep", "deep", "missing", "")
         if self.rarely(0.05):
@@ -405,6 +409,17 @@ PLACES = [
     *(Shown(None, set(), {}, "top", {f"top/.git/commondir{more}": text})
       for more, text in (("", ""), ("/x", ""), ("", "../missing/x"), ("", "../missing"), ("", "\n"))),
     Shown(None, set(), {}, "other", {"other/.git": "gitdir: ../top/.git\0x", "top/.git/config": "[a]b=1\n"}),
+    *(Shown(None, set(), {"GIT_CEILING_DIRECTORIES": text}, "top/deep", {"top/.git/config": "[a]b=1\n"})
+      for text in ("..", "..:F/top/", "x::F/top/", "F/top//", ":F/top//", "/", "F/../top")),
+    *(Shown(None, set(), {name: "maybe", **more}, "top/deep", {"top/.git/config": "[a]b=1\n"})
+      for name in ("GIT_CONFIG_NOSYSTEM", "GIT_DISCOVERY_ACROSS_FILESYSTEM")
+      for more in ({}, {"GIT_DIR": "../.git"}, {"GIT_DIR": "x"})),
+    *(Shown(None, set(), {"GIT_COMMON_DIR": name}, "top/deep", {"top/.git/config": "[a]b=1\n"})
+      for name in ("../.git", ".git", "", "F/top/.git")),
+    *(Shown(None, set(), {name: f".{slashes}x"}, "top", {"top/x/.config/git/config": "[a]b=1\n", "top/x/git/config": "[a]b=2\n"})
+      for name in ("HOME", "XDG_CONFIG_HOME") for slashes in ("/", "//")),
+    *(Shown(None, set(), {"GIT_WORK_TREE": "", **more}, "top", {"top/.git/config": "[a]b=1\n"})
+      for more in ({}, {"GIT_DIR": ".git"}, {"GIT_DIR": "x"})),
 ]
 MADE = r"""
 git init -q -b main work; git -C work commit -q --allow-empty -m x; mkdir -p work/deep

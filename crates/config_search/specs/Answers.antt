@@ -1,13 +1,14 @@
 -- What an answer tells of a system.
 --
--- Look for: an answer that uses a repository uses the one that the rule finds. Which repositories Git trusts, which
--- formats it knows, at which texts it stops and where the top of a work tree is are not stated here, but tested: such an
--- answer says only that a git directory is there.
+-- Look for: an answer that uses a repository uses the one that the rule finds, and one is refused for its owner only if
+-- it is not the user's own. Which folders of others Git trusts, which formats it knows, at which texts it stops and where
+-- the top of a work tree is are not stated here, but tested: such an answer says only that a git directory is there.
 use Rattle.std.specs.Prelude.{◌≡◌, ◌⊎◌, ℕ, List, [], Option, None, Some, codes, map}
 use Rattle.config_search.specs.System.{System}
-use Rattle.config_search.specs.Rule.{GitDir, Common, Own, Linked, Broken, or_itself, resolved, common_of}
+use Rattle.config_search.specs.Rule.{GitDir, IsBare, Common, Own, Linked, Broken, or_itself, resolved, common_of}
 use Rattle.config_search.specs.Search.{Sought, Nowhere, Inside, Refused, OnlySeeks, path_of, start_of}
 use Rattle.config_search.specs.Files.{File, AreFiles, AreOnlyFiles, of_repository_in}
+use Rattle.config_search.specs.Owner.{IsOwn}
 use Rattle.config_search.specs.Shown.{file_of}
 use Rattle.config_search.specs.declared.answer.Answer.{Answer}
 use Rattle.config_search.specs.declared.answer.Outcome.{Outcome}
@@ -39,11 +40,11 @@ abbrev pub IsNamed : System → GitDir → List ℕ → Type 0
 IsNamed system it name = (name ≡ it.named) ⊎ (name ≡ resolved system it.name)
 
 -- the repository is that of this git directory: by its name without links, by a name that Git shows, and by the folder
--- that it shares
-abbrev pub IsOf : System → GitDir → Repository → Type 0
-IsOf system it repository = (repository.real_git_dir.items ≡ or_itself repository.git_dir.items (system REAL it.name))
+-- that it shares where Git starts in this folder
+abbrev pub IsOf : System → List ℕ → GitDir → Repository → Type 0
+IsOf system start it repository = (repository.real_git_dir.items ≡ or_itself repository.git_dir.items (system REAL it.name))
     × IsNamed system it repository.named_dir.items
-    × (repository.common_dir.items ≡ shown_common system repository.named_dir.items (common_of system it.name))
+    × (repository.common_dir.items ≡ shown_common system repository.named_dir.items (common_of system start it.name))
 
 -- a git directory is there
 abbrev pub IsThere : Sought → Type 0
@@ -51,29 +52,49 @@ IsThere Nowhere = ⊥
 IsThere (Inside folder it) = Unit {0}
 IsThere (Refused text) = ⊥
 
-abbrev pub UsesIt : System → Sought → Repository → Type 0
-UsesIt system Nowhere repository = ⊥
-UsesIt system (Inside folder it) repository = IsOf system it repository
-UsesIt system (Refused text) repository = ⊥
+abbrev pub UsesIt : System → List ℕ → Sought → Repository → Type 0
+UsesIt system start Nowhere repository = ⊥
+UsesIt system start (Inside folder it) repository = IsOf system start it repository
+UsesIt system start (Refused text) repository = ⊥
 
-abbrev pub RefusesIt : Sought → Refusal → Type 0
-RefusesIt sought (OfVariable text) = sought ≡ Refused text.items
-RefusesIt sought (Version version) = IsThere sought
-RefusesIt sought (Extension name) = IsThere sought
-RefusesIt sought (ExtensionOfLater name) = IsThere sought
-RefusesIt sought (Owner folder) = IsThere sought
-RefusesIt sought (Bare folder) = IsThere sought
+-- a git directory is there that is a folder itself
+abbrev pub IsBareThere : Sought → Type 0
+IsBareThere Nowhere = ⊥
+IsBareThere (Inside folder it) = it.form ≡ IsBare
+IsBareThere (Refused text) = ⊥
+
+-- a git directory is there that is not the user's own
+abbrev pub IsOfOther : System → Sought → Type 0
+IsOfOther system Nowhere = ⊥
+IsOfOther system (Inside folder it) = ¬ (IsOwn system folder it)
+IsOfOther system (Refused text) = ⊥
+
+abbrev pub RefusesIt : System → Sought → Refusal → Type 0
+RefusesIt system sought (OfVariable text) = sought ≡ Refused text.items
+RefusesIt system sought (Version version) = IsThere sought
+RefusesIt system sought (Extension name) = IsThere sought
+RefusesIt system sought (ExtensionOfLater name) = IsThere sought
+RefusesIt system sought (Owner folder) = IsOfOther system sought
+RefusesIt system sought (Bare folder) = IsBareThere sought
 
 -- a git directory that is there is refused for this
 abbrev pub IsOfOneThere : Refusal → Type 0
-IsOfOneThere refusal = (sought : Sought) → IsThere sought → RefusesIt sought refusal
+IsOfOneThere refusal = (system : System) (sought : Sought) → IsThere sought → RefusesIt system sought refusal
 
--- what Git does with what it finds
-abbrev pub Tells : System → Sought → Outcome → Type 0
-Tells system sought (Uses repository) = UsesIt system sought repository
-Tells system sought FindsNone = sought ≡ Nowhere
-Tells system sought (Refuses refusal) = RefusesIt sought refusal
-Tells system sought (Stops fault) = Unit {0}
+-- one that is a folder itself is refused for that
+abbrev pub IsOfBareOne : Refusal → Type 0
+IsOfBareOne refusal = (system : System) (sought : Sought) → IsBareThere sought → RefusesIt system sought refusal
+
+-- one that is not the user's own is refused for that
+abbrev pub IsOfOtherOne : Refusal → Type 0
+IsOfOtherOne refusal = (system : System) (sought : Sought) → IsOfOther system sought → RefusesIt system sought refusal
+
+-- what Git does with what it finds where it starts in this folder
+abbrev pub Tells : System → List ℕ → Sought → Outcome → Type 0
+Tells system start sought (Uses repository) = UsesIt system start sought repository
+Tells system start sought FindsNone = sought ≡ Nowhere
+Tells system start sought (Refuses refusal) = RefusesIt system sought refusal
+Tells system start sought (Stops fault) = Unit {0}
 
 -- the files of the repository that is used, if one is
 abbrev pub files_of : Outcome → List File
@@ -92,7 +113,7 @@ IsNowhere (Stops fault) = fault.kind ≡ Folder
 -- what Git does where it starts in a folder of this path, if there is one
 abbrev pub Does : System → List ℕ → Option (List ℕ) → Outcome → Type 0
 Does system start None outcome = IsNowhere outcome
-Does system start (Some path) outcome = (sought : Sought) × OnlySeeks system start sought × Tells system sought outcome
+Does system start (Some path) outcome = (sought : Sought) × OnlySeeks system start sought × Tells system start sought outcome
 
 -- what the answer tells of a folder in this system
 abbrev pub Answers : System → List ℕ → Answer → Type 0

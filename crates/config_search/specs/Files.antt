@@ -29,25 +29,6 @@ IsOfSystem system files = (IsOn system (codes "GIT_CONFIG_NOSYSTEM") × (files �
     ⊎ ((¬ (IsOn system (codes "GIT_CONFIG_NOSYSTEM")))
     × (files ≡ file of_system (or_default (codes "/etc/gitconfig") (system VARIABLE (codes "GIT_CONFIG_SYSTEM")))))
 
-abbrev pub in_home : Option (List ℕ) → List ℕ → List File
-in_home None name = []
-in_home (Some home) name = file of_user (home ++ codes "/" ++ name)
-
--- the first file of the user: in XDG_CONFIG_HOME, if that is not empty, or in `.config` of the home folder
-abbrev pub in_xdg : Option (List ℕ) → Option (List ℕ) → List File
-in_xdg home None = in_home home (codes ".config/git/config")
-in_xdg home (Some folder) = if length folder == 0 then in_home home (codes ".config/git/config")
-    else file of_user (folder ++ codes "/" ++ codes "git/config")
-
-abbrev pub of_user_by : System → Option (List ℕ) → List File
-of_user_by system None = in_xdg (system VARIABLE (codes "HOME")) (system VARIABLE (codes "XDG_CONFIG_HOME"))
-    ++ in_home (system VARIABLE (codes "HOME")) (codes ".gitconfig")
-of_user_by system (Some name) = file of_user name
-
--- the files of the user: the one that GIT_CONFIG_GLOBAL names, or two
-abbrev pub files_of_user : System → List File
-files_of_user system = of_user_by system (system VARIABLE (codes "GIT_CONFIG_GLOBAL"))
-
 abbrev pub is_slash : ℕ → Bool
 is_slash b = b == 47
 
@@ -57,9 +38,32 @@ without_slashes name = drop (prefix_len is_slash name) name
 abbrev pub without_dot : List ℕ → List ℕ
 without_dot name = if begins (codes "./") name then without_slashes (drop 2 name) else name
 
--- the name of a file in a git directory, as Git shows it: without `./` at its start
+-- the name of a file in a folder, as Git shows it: without `./` at its start
 abbrev pub shown_in : List ℕ → List ℕ → List ℕ
 shown_in folder name = without_dot (folder ++ codes "/" ++ name)
+
+abbrev pub in_home : Option (List ℕ) → List ℕ → List File
+in_home None name = []
+in_home (Some home) name = file of_user (home ++ codes "/" ++ name)
+
+abbrev pub in_config_home : Option (List ℕ) → List File
+in_config_home None = []
+in_config_home (Some home) = file of_user (shown_in home (codes ".config/git/config"))
+
+-- the first file of the user: in XDG_CONFIG_HOME, if that is not empty, or in `.config` of the home folder
+abbrev pub in_xdg : Option (List ℕ) → Option (List ℕ) → List File
+in_xdg home None = in_config_home home
+in_xdg home (Some folder) = if length folder == 0 then in_config_home home
+    else file of_user (shown_in folder (codes "git/config"))
+
+abbrev pub of_user_by : System → Option (List ℕ) → List File
+of_user_by system None = in_xdg (system VARIABLE (codes "HOME")) (system VARIABLE (codes "XDG_CONFIG_HOME"))
+    ++ in_home (system VARIABLE (codes "HOME")) (codes ".gitconfig")
+of_user_by system (Some name) = file of_user name
+
+-- the files of the user: the one that GIT_CONFIG_GLOBAL names, or two
+abbrev pub files_of_user : System → List File
+files_of_user system = of_user_by system (system VARIABLE (codes "GIT_CONFIG_GLOBAL"))
 
 -- the files of a repository: that of the folder that work trees share, and that of a work tree of its own
 abbrev pub of_repository_in : List ℕ → List ℕ → Bool → List File

@@ -3,5 +3,7 @@ pub mod Names
 pub mod Rule
 pub mod Search
 pub mod Files
+pub mod Owner
 pub mod Shown
 pub mod Answers
+pub mod Layouts

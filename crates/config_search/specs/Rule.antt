@@ -84,13 +84,17 @@ unfoldable pub linked_folder : System → List ℕ → Common
 linked_folder system folder = if is_some (system KIND (inside folder (codes "commondir")))
     then linked_by system folder (system TEXT (inside folder (codes "commondir"))) else Own
 
-abbrev pub given_or : Common → Option (List ℕ) → Common
-given_or other None = other
-given_or other (Some folder) = Linked folder
+-- the folder that GIT_COMMON_DIR names where Git starts in this one: an empty name is that of the root
+abbrev pub given_in : List ℕ → List ℕ → List ℕ
+given_in start name = if length name == 0 then codes "/" else inside start name
+
+abbrev pub given_or : List ℕ → Common → Option (List ℕ) → Common
+given_or start other None = other
+given_or start other (Some name) = Linked (given_in start name)
 
 -- the folder that a git directory shares: that of GIT_COMMON_DIR, or of its file commondir
-abbrev pub common_of : System → List ℕ → Common
-common_of system folder = given_or (linked_folder system folder) (system VARIABLE (codes "GIT_COMMON_DIR"))
+abbrev pub common_of : System → List ℕ → List ℕ → Common
+common_of system start folder = given_or start (linked_folder system folder) (system VARIABLE (codes "GIT_COMMON_DIR"))
 
 -- whether a folder has objects, or GIT_OBJECT_DIRECTORY names one in the folder in which Git starts
 abbrev pub has_objects_by : System → List ℕ → List ℕ → Option (List ℕ) → Bool
@@ -111,7 +115,7 @@ shares system start folder Broken = true
 -- whether this folder is a git directory: HEAD is Git's, there are objects, and what it shares has refs. Where its
 -- file commondir names no folder, Git stops at it.
 unfoldable pub is_git_dir : System → List ℕ → List ℕ → Bool
-is_git_dir system start folder = has_head system folder && shares system start folder (common_of system folder)
+is_git_dir system start folder = has_head system folder && shares system start folder (common_of system start folder)
 
 -- Git directories of folders
 

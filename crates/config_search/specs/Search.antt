@@ -1,7 +1,8 @@
 -- Which git directory Git finds from a folder: that of GIT_DIR, or the first one upwards.
 --
--- Look for: `Ends` counts a ceiling without links, but after an empty part of the list as it stands. A search goes
--- upwards in the path without links, from the folder above the one in which it starts. `Seeks` has one result.
+-- Look for: `Ends` counts a ceiling without links, but after an empty part of the list as it stands. A part that does
+-- not begin at the root ends no search, since a search goes upwards in the path without links, from the folder above the
+-- one in which it starts. `Seeks` has one result.
 use Rattle.std.specs.Prelude.{◌≡◌, ◌≢◌, ◌⊎◌, ℕ, Bool, true, false, not, List, [], ◌∷◌, ◌++◌, Option, None, Some, if◌then◌else◌, ◌==◌, ◌&&◌, ◌-◌, codes, length, take, Contains}
 use Rattle.std.specs.Str.{bytes_eq}
 use Rattle.config_boolean.specs.Boolean.{BooleanText}
@@ -47,10 +48,10 @@ path_of system folder = path_by system folder (system VARIABLE (codes "PWD"))
 abbrev pub without_slash : List ℕ → List ℕ
 without_slash name = if ends_with_slash name && not (length name == 1) then take (length name - 1) name else name
 
--- the folder that a part of GIT_CEILING_DIRECTORIES names: without links, if those count
+-- the folder that a part of GIT_CEILING_DIRECTORIES names: without links, if those count and it begins at the root
 abbrev pub ceiling : System → Bool → List ℕ → List ℕ
-ceiling system true part = or_itself part (system REAL part)
-ceiling system false part = without_slash part
+ceiling system resolves part =
+    if resolves && begins (codes "/") part then or_itself part (system REAL part) else without_slash part
 
 -- whether links count in a part: they did before it, and it is not empty
 abbrev pub counts : Bool → List ℕ → Bool

@@ -1,5 +1,5 @@
 -- What the rule says of the values of the program.
-use Rattle.std.specs.Prelude.{◌≡◌, ℕ, List, MatchBool, codes, map, option_copied}
+use Rattle.std.specs.Prelude.{◌≡◌, ℕ, false, List, MatchBool, codes, map, option_copied}
 use Rattle.config_search.specs.System.{System, IsOpen}
 use Rattle.config_search.specs.Names.{opened}
 use Rattle.config_search.specs.declared.fact.Fact.{Fact}
@@ -57,7 +57,7 @@ abbrev pub AreLimits : System → List ℕ → Limits → Type 0
 AreLimits system start limits = (map (λ c. c.now) limits.ceilings.items ≡ search.ceilings system)
     × MatchBool limits.crosses (search.IsOn system (codes "GIT_DISCOVERY_ACROSS_FILESYSTEM"))
     (¬ (search.IsOn system (codes "GIT_DISCOVERY_ACROSS_FILESYSTEM")))
-    × (option_copied limits.device ≡ system DEVICE (opened start))
+    × (limits.crosses ≡ false → option_copied limits.device ≡ system DEVICE (opened start))
 
 -- a question that stops the part of a search that reads settings is one that no fact answers
 abbrev pub IsNewHalt : List Fact → Halt → Type 0

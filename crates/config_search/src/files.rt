@@ -5,6 +5,7 @@ ghost use Rattle.std.specs.List.{prefix_len};
 ghost use Rattle.config_search.specs.System.{System, AreTrueIn};
 ghost use Rattle.config_search.specs.Shown.{IsNew, file_of};
 ghost use Rattle.config_search.specs.Files as files;
+ghost use Rattle.config_file.specs.declared.scope.Scope.TheVariants.{Global as of_user};
 
 use crate::VARIABLE;
 use crate::answer::Named;
@@ -54,6 +55,39 @@ fn push_system(asked: &Asked<'_, '_>, names: &mut Vec<Named>) -> Result<(), Stop
     Ok(())
 }
 
+/// A name without the slashes at its start.
+fn without_slashes(name: &[u8]) -> &[u8]
+    ensures { result.now ≡ files.without_slashes name.now }
+{
+    &name[count_slashes(name)..]
+}
+
+/// How many slashes are at the start of a name.
+fn count_slashes(name: &[u8]) -> usize
+    ensures count { result ≡ prefix_len files.is_slash name.now }
+    ensures within { result ≤ length name.now }
+{
+    name.iter().take_while(|byte| **byte == b'/').count()
+}
+
+/// A name without `./` at its start.
+fn without_dot(name: &[u8]) -> &[u8]
+    ensures { result.now ≡ files.without_dot name.now }
+{
+    if name.starts_with(b"./") {
+        return without_slashes(&name[2..]);
+    }
+    name
+}
+
+/// The name of a file in a folder, as Git shows it: without `./` at its start.
+fn shown_in(alloc: Global, folder: &[u8], name: &[u8]) -> Result<Vec<u8>, AllocError>
+    ensures { IfOk result (λ whole. whole.items ≡ files.shown_in folder.now name.now) }
+{
+    let whole = joined(alloc, folder, b"/", name)?;
+    without_dot(&whole).to_vec(alloc)
+}
+
 /// Adds the file of this name below the home folder, if that is known.
 fn push_home(
     alloc: Global,
@@ -72,6 +106,35 @@ fn push_home(
     Ok(())
 }
 
+/// Adds the file of the user of this name in a folder.
+fn push_shown(
+    alloc: Global,
+    names: &mut Vec<Named>,
+    folder: &[u8],
+    name: &[u8],
+) -> Result<(), AllocError>
+    ensures { OnOk result (map file_of names.new.items
+        ≡ map file_of names.old.items ++ files.file of_user (files.shown_in folder.now name.now)) }
+{
+    let whole = shown_in(alloc, folder, name)?;
+    push(names, Scope::Global, whole)
+}
+
+/// Adds the file of the user in `.config` of the home folder, if that is known.
+fn push_config_home(
+    alloc: Global,
+    names: &mut Vec<Named>,
+    home: Option<&[u8]>,
+) -> Result<(), AllocError>
+    ensures { OnOk result (map file_of names.new.items
+        ≡ map file_of names.old.items ++ files.in_config_home (option_copied home.entry)) }
+{
+    let Some(home) = home else {
+        return Ok(());
+    };
+    push_shown(alloc, names, home, b".config/git/config")
+}
+
 /// Adds the first file of the user: in this folder of XDG_CONFIG_HOME, if it is not empty, or in `.config` of the home
 /// folder.
 fn push_xdg(
@@ -84,14 +147,12 @@ fn push_xdg(
         ++ files.in_xdg (option_copied home.entry) (option_copied own.entry)) }
 {
     let Some(folder) = own else {
-        return push_home(alloc, names, home, b".config/git/config");
+        return push_config_home(alloc, names, home);
     };
     if folder.is_empty() {
-        return push_home(alloc, names, home, b".config/git/config");
+        return push_config_home(alloc, names, home);
     }
-    let whole = joined(alloc, folder, b"/", b"git/config")?;
-    push(names, Scope::Global, whole)?;
-    Ok(())
+    push_shown(alloc, names, folder, b"git/config")
 }
 
 /// Adds the files of the user that no variable names.
@@ -135,39 +196,6 @@ pub(crate) fn protected_files(asked: &Asked<'_, '_>) -> Result<Vec<Named>, Stop>
     push_system(asked, &mut names)?;
     push_user(asked, &mut names)?;
     Ok(names)
-}
-
-/// A name without the slashes at its start.
-fn without_slashes(name: &[u8]) -> &[u8]
-    ensures { result.now ≡ files.without_slashes name.now }
-{
-    &name[count_slashes(name)..]
-}
-
-/// How many slashes are at the start of a name.
-fn count_slashes(name: &[u8]) -> usize
-    ensures count { result ≡ prefix_len files.is_slash name.now }
-    ensures within { result ≤ length name.now }
-{
-    name.iter().take_while(|byte| **byte == b'/').count()
-}
-
-/// A name without `./` at its start.
-fn without_dot(name: &[u8]) -> &[u8]
-    ensures { result.now ≡ files.without_dot name.now }
-{
-    if name.starts_with(b"./") {
-        return without_slashes(&name[2..]);
-    }
-    name
-}
-
-/// The name of a file in a git directory, as Git shows it: without `./` at its start.
-fn shown_in(alloc: Global, folder: &[u8], name: &[u8]) -> Result<Vec<u8>, AllocError>
-    ensures { IfOk result (λ whole. whole.items ≡ files.shown_in folder.now name.now) }
-{
-    let whole = joined(alloc, folder, b"/", name)?;
-    without_dot(&whole).to_vec(alloc)
 }
 
 /// Adds the files of a repository: that of the folder that work trees share, and that of a work tree of its own, if it

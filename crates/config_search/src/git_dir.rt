@@ -94,15 +94,25 @@ pub(crate) fn linked_folder(asked: &Asked<'_, '_>, git_dir: &[u8]) -> Result<Com
     Ok(linked_by(asked, git_dir, text)?)
 }
 
+/// The folder that GIT_COMMON_DIR names where Git starts in this one. An empty name is that of the root.
+fn given_in(alloc: Global, start: &[u8], name: &[u8]) -> Result<Vec<u8>, AllocError>
+    ensures { IfOk result (λ folder. folder.items ≡ rule.given_in start.now name.now) }
+{
+    if name.is_empty() {
+        return b"/".to_vec(alloc);
+    }
+    inside(alloc, start, name)
+}
+
 /// The folder that a git directory shares: that of GIT_COMMON_DIR, or of its file commondir.
-pub(crate) fn common_of(asked: &Asked<'_, '_>, git_dir: &[u8]) -> Result<Common, Stop>
+pub(crate) fn common_of(asked: &Asked<'_, '_>, start: &[u8], git_dir: &[u8]) -> Result<Common, Stop>
     ensures { MatchResult result
         (λ common. (system : System) → AreTrueIn system asked.now.facts.now
-        → common_shown common ≡ rule.common_of system git_dir.now)
+        → common_shown common ≡ rule.common_of system start.now git_dir.now)
         (IsNew asked.now.facts.now) }
 {
     match told(asked, VARIABLE, b"GIT_COMMON_DIR")? {
-        Some(folder) => Ok(Common::Linked(folder.to_vec(asked.alloc)?)),
+        Some(name) => Ok(Common::Linked(given_in(asked.alloc, start, name)?)),
         None => Ok(linked_folder(asked, git_dir)?),
     }
 }
@@ -166,7 +176,7 @@ pub(crate) fn is_git_dir(asked: &Asked<'_, '_>, start: &[u8], folder: &[u8]) -> 
     if !has_head(asked, folder)? {
         return Ok(false);
     }
-    let common = common_of(asked, folder)?;
+    let common = common_of(asked, start, folder)?;
     Ok(shares(asked, start, folder, &common)?)
 }
 

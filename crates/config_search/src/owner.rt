@@ -1,61 +1,87 @@
 //! Which repositories Git trusts: those of the same owner, and those that settings name which no repository can change.
-ghost use Rattle.std.specs.Prelude.{IfErr, IfSome, MatchResult};
-ghost use Rattle.config_search.specs.Answers.{IsOfOneThere};
-ghost use Rattle.config_search.specs.Shown.{IsNew, IsNewHalt};
+ghost use Rattle.std.specs.Prelude.{◌≡◌, IfErr, IfSome, MatchBool, MatchResult};
+ghost use Rattle.config_search.specs.System.{System, AreTrueIn};
+ghost use Rattle.config_search.specs.Rule.{IsBelow};
+ghost use Rattle.config_search.specs.Search.{Inside};
+ghost use Rattle.config_search.specs.Owner as rule;
+ghost use Rattle.config_search.specs.Answers.{IsOfBareOne, IsOfOtherOne, RefusesIt};
+ghost use Rattle.config_search.specs.Shown.{IsNew, IsNewHalt, form_of, git_dir_of};
 
 use crate::answer::{FaultKind, Refusal};
-use crate::fact::{Asked, Stop, told};
+use crate::fact::{Asked, Stop, is_word, told};
 use crate::halt::{Halt, fault};
 use crate::name::{inside, joined, opened};
 use crate::protected::{Said, of_user, protected_settings};
-use crate::seek::{Folder, Form, GitDir, is_on};
+use crate::seek::{Folder, Form, GitDir, is_on, is_same};
 use crate::{OWNER, REAL, USER, VARIABLE};
 use bstr::ByteSlice;
 use config_file::Directories;
 use config_file::path::expand;
 
-/// The number of the user root.
-const ROOT: u32 = 0;
-
-/// The number that a text is, or `None` if it is none.
-fn number_of(text: Option<&[u8]>) -> Option<u32> {
-    str::from_utf8(text?).ok()?.parse::<u32>().ok()
-}
-
 /// Whether the file of this name, which may be a link, belongs to the user. To root it also belongs if its owner became
 /// root by sudo.
 fn is_owned(asked: &Asked<'_, '_>, name: &[u8]) -> Result<bool, Stop>
-    ensures { IfErr result (IsNew asked.now.facts.now) }
+    ensures { MatchResult result
+        (λ is. (system : System) → AreTrueIn system asked.now.facts.now → is ≡ rule.is_owned system name.now)
+        (IsNew asked.now.facts.now) }
 {
-    let owner = number_of(told(asked, OWNER, name)?);
-    if owner.is_none() {
+    let owner = told(asked, OWNER, name)?;
+    let user = told(asked, USER, b"")?;
+    if is_same(owner, user) {
+        return Ok(true);
+    }
+    if !is_word(user, b"0") {
         return Ok(false);
     }
-    match number_of(told(asked, USER, b"")?) {
-        Some(ROOT) if owner == Some(ROOT) => Ok(true),
-        Some(ROOT) => Ok(number_of(told(asked, VARIABLE, b"SUDO_UID")?) == owner),
-        user => Ok(user == owner),
-    }
+    Ok(is_same(owner, told(asked, VARIABLE, b"SUDO_UID")?))
 }
 
-/// Whether all files that have to belong to the user do: the folder in which a git directory is found, and for `.git` of
-/// a folder also this file and the git directory. A variable may say that they do not, which Git has for tests.
-fn are_owned(asked: &Asked<'_, '_>, folder: &[u8], git_dir: &GitDir) -> Result<bool, Stop>
-    ensures { IfErr result (IsNew asked.now.facts.now) }
+/// Whether `.git` of a folder, the folder and the git directory belong to the user.
+fn are_owned_below(asked: &Asked<'_, '_>, folder: &[u8], name: &[u8]) -> Result<bool, Stop>
+    ensures { MatchResult result
+        (λ are. (system : System) → AreTrueIn system asked.now.facts.now
+        → are ≡ rule.are_owned system folder.now name.now IsBelow)
+        (IsNew asked.now.facts.now) }
 {
-    if is_on(asked, b"GIT_TEST_ASSUME_DIFFERENT_OWNER")? {
+    let link = inside(asked.alloc, folder, b".git")?;
+    if !is_owned(asked, &link)? {
         return Ok(false);
-    }
-    if git_dir.form == Form::Below {
-        let link = inside(asked.alloc, folder, b".git")?;
-        if !is_owned(asked, &link)? {
-            return Ok(false);
-        }
     }
     if !is_owned(asked, opened(folder))? {
         return Ok(false);
     }
-    Ok(git_dir.form == Form::Bare || is_owned(asked, &git_dir.name)?)
+    is_owned(asked, name)
+}
+
+/// Whether all files that have to belong to the user do.
+fn are_owned(asked: &Asked<'_, '_>, folder: &[u8], git_dir: &GitDir) -> Result<bool, Stop>
+    ensures { MatchResult result
+        (λ are. (system : System) → AreTrueIn system asked.now.facts.now
+        → are ≡ rule.are_owned system folder.now git_dir.now.name.items (form_of git_dir.now.form))
+        (IsNew asked.now.facts.now) }
+{
+    match git_dir.form {
+        Form::Given => Ok(true),
+        Form::Below => are_owned_below(asked, folder, &git_dir.name),
+        Form::Bare => is_owned(asked, opened(folder)),
+    }
+}
+
+/// Whether the git directory of a folder is the user's own. A variable may say that it is not, which Git has for tests.
+fn is_own(asked: &Asked<'_, '_>, folder: &[u8], git_dir: &GitDir) -> Result<bool, Stop>
+    ensures { MatchResult result
+        (λ is. (system : System) → AreTrueIn system asked.now.facts.now
+        → MatchBool is (rule.IsOwn system folder.now (git_dir_of git_dir.now))
+        (¬ (rule.IsOwn system folder.now (git_dir_of git_dir.now))))
+        (IsNew asked.now.facts.now) }
+{
+    if is_on(asked, b"GIT_TEST_ASSUME_DIFFERENT_OWNER")? {
+        return Ok(false);
+    }
+    if are_owned(asked, folder, git_dir)? {
+        return Ok(true);
+    }
+    Ok(false)
 }
 
 /// The path that a value of `safe.directory` spells, or `None` if it begins with a folder that is not known.
@@ -175,7 +201,7 @@ fn refuses_bare(
     start: &[u8],
     folder: Folder<'_>,
 ) -> Result<Option<Refusal>, Halt>
-    ensures { MatchResult result (λ refusal. IfSome refusal IsOfOneThere) (IsNewHalt asked.now.facts.now) }
+    ensures { MatchResult result (λ refusal. IfSome refusal IsOfBareOne) (IsNewHalt asked.now.facts.now) }
 {
     let may_be = allow_bare(asked, &protected_settings(asked, start)?)?;
     let real = told(asked, REAL, opened(folder.name))?.unwrap_or(folder.path);
@@ -191,7 +217,7 @@ fn refuses_owner(
     start: &[u8],
     folder: Folder<'_>,
 ) -> Result<Option<Refusal>, Halt>
-    ensures { MatchResult result (λ refusal. IfSome refusal IsOfOneThere) (IsNewHalt asked.now.facts.now) }
+    ensures { MatchResult result (λ refusal. IfSome refusal IsOfOtherOne) (IsNewHalt asked.now.facts.now) }
 {
     let Some(real) = told(asked, REAL, opened(folder.name))? else {
         return Ok(Some(Refusal::Owner(folder.path.to_vec(asked.alloc)?)));
@@ -209,17 +235,21 @@ pub(crate) fn refuses(
     folder: Folder<'_>,
     git_dir: &GitDir,
 ) -> Result<Option<Refusal>, Halt>
-    ensures { MatchResult result (λ refusal. IfSome refusal IsOfOneThere) (IsNewHalt asked.now.facts.now) }
+    ensures { MatchResult result
+        (λ refusal. (system : System) → AreTrueIn system asked.now.facts.now
+        → IfSome refusal (RefusesIt system (Inside folder.entry.name.now (git_dir_of git_dir.now))))
+        (IsNewHalt asked.now.facts.now) }
 {
-    if git_dir.form == Form::Given {
-        return Ok(None);
-    }
-    if git_dir.form == Form::Bare {
-        if let Some(refusal) = refuses_bare(asked, start, folder)? {
-            return Ok(Some(refusal));
+    match git_dir.form {
+        Form::Given => return Ok(None),
+        Form::Bare => {
+            if let Some(refusal) = refuses_bare(asked, start, folder)? {
+                return Ok(Some(refusal));
+            }
         }
+        Form::Below => {}
     }
-    if are_owned(asked, folder.name, git_dir)? {
+    if is_own(asked, folder.name, git_dir)? {
         return Ok(None);
     }
     Ok(refuses_owner(asked, start, folder)?)

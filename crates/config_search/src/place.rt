@@ -1,7 +1,7 @@
 //! The search.
-ghost use Rattle.std.specs.Prelude.{◌≡◌, ◌++◌, List, IfOk, IfErr, OnOk, MatchResult, map, option_map};
+ghost use Rattle.std.specs.Prelude.{◌≡◌, ◌++◌, ℕ, List, IfOk, IfErr, OnOk, MatchResult, map, option_map};
 ghost use Rattle.config_search.specs.System.{System, AreTrueIn};
-ghost use Rattle.config_search.specs.Shown.{IsNew, IsNewHalt, common_of as common_shown, file_of, found_of, git_dir_of};
+ghost use Rattle.config_search.specs.Shown.{AsksNothing, IsNew, IsNewHalt, common_of as common_shown, file_of, found_of, git_dir_of};
 ghost use Rattle.config_search.specs.Rule as rule;
 ghost use Rattle.config_search.specs.Search as search;
 ghost use Rattle.config_search.specs.Files as files;
@@ -20,6 +20,8 @@ use crate::name::{inside, opened};
 use crate::owner::refuses;
 use crate::seek::{Folder, Form, Found, GitDir, folder_of_name, seek};
 use crate::{REAL, VARIABLE};
+use config_text::readers::TryRead;
+use gix_config_value::Boolean;
 use std::alloc::{AllocError, Global};
 
 /// A git directory that is found: the folder in which Git starts, that of the git directory, and the folder that it
@@ -32,6 +34,42 @@ struct Site<'t> {
     common: Common,
 }
 
+/// Where Git stops at a variable.
+fn of_variable(alloc: Global, name: &[u8], why: &[u8]) -> Result<Halt, AllocError>
+    ensures { IfOk result AsksNothing }
+{
+    fault(alloc, FaultKind::Value, name, 0, why)
+}
+
+/// Whether a variable has a boolean text, if it is set.
+fn is_boolean(value: Option<&[u8]>) -> bool {
+    match value {
+        Some(value) => Boolean::try_read(value).is_ok(),
+        None => true,
+    }
+}
+
+/// Stops where Git does if a variable is no boolean.
+fn check_boolean(asked: &Asked<'_, '_>, name: &[u8]) -> Result<(), Halt>
+    ensures { IfErr result (IsNewHalt asked.now.facts.now) }
+{
+    if is_boolean(told(asked, VARIABLE, name)?) {
+        return Ok(());
+    }
+    Err(of_variable(asked.alloc, name, b"no boolean")?)
+}
+
+/// Stops where Git does at a variable that has to be a boolean. One of them counts only for a search upwards.
+fn check_booleans(asked: &Asked<'_, '_>) -> Result<(), Halt>
+    ensures { IfErr result (IsNewHalt asked.now.facts.now) }
+{
+    check_boolean(asked, b"GIT_CONFIG_NOSYSTEM")?;
+    if told(asked, VARIABLE, b"GIT_DIR")?.is_some() {
+        return Ok(());
+    }
+    check_boolean(asked, b"GIT_DISCOVERY_ACROSS_FILESYSTEM")
+}
+
 /// Where Git works, and what it does there.
 #[derive(Drop)]
 struct Place {
@@ -40,15 +78,20 @@ struct Place {
 }
 
 /// The top of the work tree that GIT_WORK_TREE or `core.worktree` names, without links. That of `core.worktree` means
-/// nothing to a bare repository.
+/// nothing to a bare repository. Git stops at an empty GIT_WORK_TREE.
 fn named_top(
     asked: &Asked<'_, '_>,
     site: &Site<'_>,
     format: &Format,
-) -> Result<Option<Vec<u8>>, Stop>
-    ensures { IfErr result (IsNew asked.now.facts.now) }
+) -> Result<Option<Vec<u8>>, Halt>
+    ensures { IfErr result (IsNewHalt asked.now.facts.now) }
 {
     let top = match told(asked, VARIABLE, b"GIT_WORK_TREE")? {
+        Some(b"") => return Err(of_variable(
+            asked.alloc,
+            b"GIT_WORK_TREE",
+            b"the empty string is no path",
+        )?),
         Some(top) => inside(asked.alloc, site.start.name, top)?,
         None => match &format.work_tree {
             Some(top) if !format.is_bare => inside(asked.alloc, &site.git_dir.name, top)?,
@@ -140,11 +183,11 @@ fn plain_folder(asked: &Asked<'_, '_>, site: &Site<'_>, is_bare: bool) -> Result
 }
 
 /// The folder in which Git works.
-fn work_folder(asked: &Asked<'_, '_>, site: &Site<'_>, format: &Format) -> Result<WorkFolder, Stop>
+fn work_folder(asked: &Asked<'_, '_>, site: &Site<'_>, format: &Format) -> Result<WorkFolder, Halt>
     ensures { MatchResult result
         (λ place. (system : System) → AreTrueIn system asked.now.facts.now
         → answers.IsNamed system (git_dir_of site.now.git_dir) place.named_dir.items)
-        (IsNew asked.now.facts.now) }
+        (IsNewHalt asked.now.facts.now) }
 {
     match named_top(asked, site, format)? {
         Some(top) => Ok(named_folder(asked, site, &top)?),
@@ -210,9 +253,9 @@ fn repository_in(
 ) -> Result<Repository, Stop>
     ensures { MatchResult result
         (λ repository. (system : System) → AreTrueIn system asked.now.facts.now
-        → common_shown site.now.common ≡ rule.common_of system site.now.git_dir.name.items
+        → common_shown site.now.common ≡ rule.common_of system site.now.start.name.now site.now.git_dir.name.items
         → answers.IsNamed system (git_dir_of site.now.git_dir) place.now.named_dir.items
-        → answers.IsOf system (git_dir_of site.now.git_dir) repository)
+        → answers.IsOf system site.now.start.name.now (git_dir_of site.now.git_dir) repository)
         (IsNew asked.now.facts.now) }
 {
     let path = inside(asked.alloc, &place.path, &place.named_dir)?;
@@ -230,12 +273,12 @@ fn repository_in(
 }
 
 /// Where Git works with this git directory, if it may have this format.
-fn located(asked: &Asked<'_, '_>, site: &Site<'_>, format: &Format) -> Result<Place, Stop>
+fn located(asked: &Asked<'_, '_>, site: &Site<'_>, format: &Format) -> Result<Place, Halt>
     ensures { MatchResult result
         (λ place. (system : System) → AreTrueIn system asked.now.facts.now
-        → common_shown site.now.common ≡ rule.common_of system site.now.git_dir.name.items
-        → answers.Tells system (search.Inside site.now.folder.name.now (git_dir_of site.now.git_dir)) place.outcome)
-        (IsNew asked.now.facts.now) }
+        → common_shown site.now.common ≡ rule.common_of system site.now.start.name.now site.now.git_dir.name.items
+        → answers.Tells system site.now.start.name.now (search.Inside site.now.folder.name.now (git_dir_of site.now.git_dir)) place.outcome)
+        (IsNewHalt asked.now.facts.now) }
 {
     if let Some(refusal) = format.refusal(asked.alloc)? {
         return Ok(Place::new(asked.alloc, site.folder, Outcome::Refuses(refusal))?);
@@ -268,9 +311,9 @@ fn or_stops(
 ) -> Result<Place, Stop>
     ensures asks { IfErr place (IsNewHalt asked.now.facts.now)
         → IfErr result (IsNew asked.now.facts.now) }
-    ensures tells { (system : System) (sought : search.Sought)
-        → IfOk place (λ p. answers.Tells system sought p.outcome)
-        → IfOk result (λ p. answers.Tells system sought p.outcome) }
+    ensures tells { (system : System) (start : List ℕ) (sought : search.Sought)
+        → IfOk place (λ p. answers.Tells system start sought p.outcome)
+        → IfOk result (λ p. answers.Tells system start sought p.outcome) }
 {
     match place {
         Ok(place) => Ok(place),
@@ -283,8 +326,8 @@ fn or_stops(
 fn used(asked: &Asked<'_, '_>, site: &Site<'_>, given: Option<Store>) -> Result<Place, Halt>
     ensures { MatchResult result
         (λ place. (system : System) → AreTrueIn system asked.now.facts.now
-        → common_shown site.now.common ≡ rule.common_of system site.now.git_dir.name.items
-        → answers.Tells system (search.Inside site.now.folder.name.now (git_dir_of site.now.git_dir)) place.outcome)
+        → common_shown site.now.common ≡ rule.common_of system site.now.start.name.now site.now.git_dir.name.items
+        → answers.Tells system site.now.start.name.now (search.Inside site.now.folder.name.now (git_dir_of site.now.git_dir)) place.outcome)
         (IsNewHalt asked.now.facts.now) }
 {
     let mut format = format_of(asked, &site.git_dir.name, &site.common)?;
@@ -300,12 +343,12 @@ fn site_of<'t>(
     git_dir: GitDir,
 ) -> Result<Site<'t>, Halt>
     ensures { MatchResult result
-        (λ site. (site.folder ≡ folder.entry) × (site.git_dir ≡ git_dir)
+        (λ site. (site.start ≡ start.entry) × (site.folder ≡ folder.entry) × (site.git_dir ≡ git_dir)
         × ((system : System) → AreTrueIn system asked.now.facts.now
-        → common_shown site.common ≡ rule.common_of system site.git_dir.name.items))
+        → common_shown site.common ≡ rule.common_of system start.entry.name.now site.git_dir.name.items))
         (IsNewHalt asked.now.facts.now) }
 {
-    let common = common_of(asked, &git_dir.name)?;
+    let common = common_of(asked, start.name, &git_dir.name)?;
     if matches!(common, Common::Broken) {
         let file = inside(asked.alloc, &git_dir.name, b"commondir")?;
         let why = b"no name of a folder";
@@ -323,8 +366,8 @@ fn site_of<'t>(
 fn trusted(asked: &Asked<'_, '_>, site: &Site<'_>) -> Result<Place, Halt>
     ensures { MatchResult result
         (λ place. (system : System) → AreTrueIn system asked.now.facts.now
-        → common_shown site.now.common ≡ rule.common_of system site.now.git_dir.name.items
-        → answers.Tells system (search.Inside site.now.folder.name.now (git_dir_of site.now.git_dir)) place.outcome)
+        → common_shown site.now.common ≡ rule.common_of system site.now.start.name.now site.now.git_dir.name.items
+        → answers.Tells system site.now.start.name.now (search.Inside site.now.folder.name.now (git_dir_of site.now.git_dir)) place.outcome)
         (IsNewHalt asked.now.facts.now) }
 {
     let start = site.start;
@@ -340,9 +383,10 @@ fn trusted(asked: &Asked<'_, '_>, site: &Site<'_>) -> Result<Place, Halt>
 fn place_of<'t>(asked: &Asked<'_, 't>, start: Folder<'t>, found: Found<'t>) -> Result<Place, Halt>
     ensures { MatchResult result
         (λ place. (system : System) → AreTrueIn system asked.now.facts.now
-        → answers.Tells system (found_of found.entry) place.outcome)
+        → answers.Tells system start.entry.name.now (found_of found.entry) place.outcome)
         (IsNewHalt asked.now.facts.now) }
 {
+    check_booleans(asked)?;
     let outcome = match found {
         Found::In(folder, git_dir) => {
             let site = site_of(asked, start, folder, git_dir)?;
@@ -399,7 +443,7 @@ fn place_from<'t>(asked: &Asked<'_, 't>, start: Folder<'t>) -> Result<Place, Sto
     ensures { MatchResult result
         (λ place. (system : System) → AreTrueIn system asked.now.facts.now
         → (sought : search.Sought) × search.OnlySeeks system start.entry.name.now sought
-        × answers.Tells system sought place.outcome)
+        × answers.Tells system start.entry.name.now sought place.outcome)
         (IsNew asked.now.facts.now) }
 {
     let found = seek(asked, start)?;

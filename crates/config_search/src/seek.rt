@@ -1,11 +1,12 @@
 //! Seeks the git directory of a folder, as Git does: GIT_DIR, or the first one upwards.
 
-ghost use Rattle.std.specs.Prelude.{◌≡◌, ℕ, List, [], true, None, Contains, codes, map, MatchBool, MatchResult, IfSome, option_copied, option_map};
+ghost use Rattle.std.specs.Prelude.{◌≡◌, ℕ, List, [], true, false, None, Contains, codes, map, MatchBool, MatchResult, IfSome, option_copied, option_map};
 ghost use Rattle.config_search.specs.System.{System, AreTrueIn};
 ghost use Rattle.config_search.specs.Shown.{IsNew, AreLimits, form_of, found_of, git_dir_of};
 ghost use Rattle.config_search.specs.Rule as rule;
 ghost use Rattle.config_search.specs.Search as search;
-ghost use Rattle.config_search.specs.declared.TheConstants.{VARIABLE};
+ghost use Rattle.config_search.specs.Names as names;
+ghost use Rattle.config_search.specs.declared.TheConstants.{VARIABLE, DEVICE};
 
 use crate::fact::{Asked, Stop, is_known, is_word, told, told_in};
 use crate::git_dir::{has_folder, is_git_dir, linked};
@@ -96,7 +97,7 @@ pub(crate) fn real_folder<'t>(asked: &Asked<'_, 't>, name: &[u8]) -> Result<Opti
 }
 
 /// Whether there are answers to two questions, and they are the same.
-fn is_same(first: Option<&[u8]>, second: Option<&[u8]>) -> bool
+pub(crate) fn is_same(first: Option<&[u8]>, second: Option<&[u8]>) -> bool
     ensures { result ≡ search.is_same (option_copied first.entry) (option_copied second.entry) }
 {
     match first {
@@ -257,15 +258,15 @@ fn without_slash(name: &[u8]) -> &[u8]
     name
 }
 
-/// A folder of GIT_CEILING_DIRECTORIES without links if it is to be resolved, and otherwise without one slash at its
-/// end.
+/// A folder of GIT_CEILING_DIRECTORIES without links if it is to be resolved and begins at the root, and otherwise
+/// without one slash at its end.
 fn ceiling<'t>(asked: &Asked<'_, 't>, folder: &'t [u8], is_resolved: bool) -> Result<&'t [u8], Stop>
     ensures { MatchResult result
         (λ at. (system : System) → AreTrueIn system asked.now.facts.now
         → at.now ≡ search.ceiling system is_resolved folder.now)
         (IsNew asked.now.facts.now) }
 {
-    if !is_resolved {
+    if !is_resolved || !folder.starts_with(b"/") {
         return Ok(without_slash(folder));
     }
     match told(asked, REAL, folder)? {
@@ -333,6 +334,23 @@ fn is_among(folders: &[&[u8]], folder: &[u8]) -> bool
     false
 }
 
+/// The device of the folder in which a search begins, unless that does not count.
+fn device_of<'t>(
+    asked: &Asked<'_, 't>,
+    crosses: bool,
+    folder: &[u8],
+) -> Result<Option<&'t [u8]>, Stop>
+    ensures { MatchResult result
+        (λ device. (system : System) → AreTrueIn system asked.now.facts.now
+        → crosses ≡ false → option_copied device ≡ system DEVICE (names.opened folder.now))
+        (IsNew asked.now.facts.now) }
+{
+    if crosses {
+        return Ok(None);
+    }
+    Ok(told(asked, DEVICE, opened(folder))?)
+}
+
 /// Where a search upwards ends.
 #[derive(Drop)]
 struct Limits<'t> {
@@ -351,7 +369,7 @@ impl<'t> Limits<'t> {
             (IsNew asked.now.facts.now) }
     {
         let crosses = is_on(asked, b"GIT_DISCOVERY_ACROSS_FILESYSTEM")?;
-        let device = told(asked, DEVICE, opened(folder))?;
+        let device = device_of(asked, crosses, folder)?;
         let ceilings = ceilings(asked)?;
         Ok(Limits {
             crosses,
