@@ -1,7 +1,7 @@
 -- Texts between colons, read from left to right.
 use Rattle.std.proofs.Common.{◌≡◌, ◌≤◌, ◌<◌, ◌+◌, ◌-◌, ℕ, Bool, Bor, List, [], ◌∷◌, ◌++◌, length, take, drop, get_or, slice_range, arith, add-one, inl, inr, refl, length-drop, drop-cons, ◌∙◌, sym, ap, append_assoc, map}
 use Rattle.std.proofs.Math.Seq.{take-suc}
-use Rattle.std.proofs.lemmas.List.{get_or-drop, map-append, take_all}
+use Rattle.std.proofs.lemmas.List.{get_or-drop, map-append}
 use Rattle.std.proofs.lemmas.Bool.Decides.{eqb_tells}
 use Rattle.std.proofs.lemmas.Grind.{common_steps}
 use Rattle.config_search.specs.System.{System}

@@ -1,5 +1,5 @@
 -- The rule lets Git find one thing in a system, and read one list of files.
-use Rattle.std.proofs.Common.{◌≡◌, ◌∙◌, ℕ, List, Option, inl, inr, sym, subst, ap}
+use Rattle.std.proofs.Common.{◌≡◌, ◌∙◌, ℕ, List, inl, inr, sym, subst}
 use Rattle.config_search.specs.System.{System}
 use Rattle.config_search.specs.Search.{Sought, Ends, Above, at_root, at_end, is_there, is_further, Seeks, by_variable, in_start, in_above, without_path}
 use Rattle.config_search.specs.Files.{File, IsOfSystem, AreFiles}

@@ -7,7 +7,7 @@ use Rattle.std.specs.Prelude.{◌≡◌, ◌⊎◌, ℕ, List, [], Option, None,
 use Rattle.config_search.specs.System.{System}
 use Rattle.config_search.specs.Rule.{GitDir, IsBare, Common, Own, Linked, Broken, or_itself, resolved, common_of}
 use Rattle.config_search.specs.Search.{Sought, Nowhere, Inside, Refused, OnlySeeks, path_of, start_of}
-use Rattle.config_search.specs.Files.{File, AreFiles, AreOnlyFiles, of_repository_in}
+use Rattle.config_search.specs.Files.{File, AreOnlyFiles, of_repository_in}
 use Rattle.config_search.specs.Owner.{IsOwn}
 use Rattle.config_search.specs.Shown.{file_of}
 use Rattle.config_search.specs.declared.answer.Answer.{Answer}
@@ -16,8 +16,6 @@ use Rattle.config_search.specs.declared.answer.Outcome.TheVariants.{Uses, FindsN
 use Rattle.config_search.specs.declared.answer.Repository.{Repository}
 use Rattle.config_search.specs.declared.answer.Refusal.{Refusal}
 use Rattle.config_search.specs.declared.answer.Refusal.TheVariants.{GitDir as OfVariable, Version, Extension, ExtensionOfLater, Owner, Bare}
-use Rattle.config_search.specs.declared.answer.Fault.{Fault}
-use Rattle.config_search.specs.declared.answer.FaultKind.{FaultKind}
 use Rattle.config_search.specs.declared.answer.FaultKind.TheVariants.{Folder}
 use Rattle.config_search.specs.declared.TheConstants.{VARIABLE, REAL}
 

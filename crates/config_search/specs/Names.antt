@@ -1,5 +1,5 @@
 -- Names of files and folders, and the lines that give them.
-use Rattle.std.specs.Prelude.{ℕ, Bool, not, List, [], ◌∷◌, ◌++◌, Option, None, Some, if◌then◌else◌, ◌==◌, ◌||◌, ◌-◌, codes, length, take, drop, max}
+use Rattle.std.specs.Prelude.{ℕ, Bool, not, List, [], ◌++◌, Option, None, Some, if◌then◌else◌, ◌==◌, ◌||◌, ◌-◌, codes, length, take, drop, max}
 use Rattle.std.specs.List.{prefix_len, suffix_len}
 use Rattle.std.specs.Str.{bytes_eq}
 

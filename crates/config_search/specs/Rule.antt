@@ -8,7 +8,7 @@ use Rattle.std.specs.List.{prefix_len}
 use Rattle.std.specs.Str.{bytes_eq}
 use Rattle.config_search.specs.System.{System}
 use Rattle.config_search.specs.Names.{begins, inside, opened, folder_of, line}
-use Rattle.config_search.specs.declared.TheConstants.{VARIABLE, CURRENT, KIND, LEADS, LINK, REAL, TEXT, DEVICE, IDENTITY}
+use Rattle.config_search.specs.declared.TheConstants.{VARIABLE, CURRENT, KIND, LEADS, LINK, REAL, TEXT}
 
 -- whether an answer is this word
 abbrev pub is_word : List ℕ → Option (List ℕ) → Bool

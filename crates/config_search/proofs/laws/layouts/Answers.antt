@@ -1,6 +1,6 @@
 use Rattle.std.proofs.Common.{arith, codes, inl, inr, refl}
 use Rattle.config_search.specs.Search.{by_variable, in_above, at_end, is_there}
-use Rattle.config_search.specs.Rule.{find_in, find_below, find_bare, is_git_dir, has_head, linked, linked_folder}
+use Rattle.config_search.specs.Rule.{find_below, find_bare, is_git_dir, has_head, linked, linked_folder}
 use Rattle.config_search.proofs.laws.layouts.Goals as goal
 
 pub returns-clause-below : goal.returns-clause-below

@@ -1,4 +1,4 @@
-use Rattle.std.proofs.Common.{◌≡◌, ◌∙◌, List, ℕ, Option, None, Some, Bool, true, false, is_some, sym, refl, ap, codes}
+use Rattle.std.proofs.Common.{◌≡◌, ◌∙◌, List, ℕ, Option, None, Some, true, false, is_some, sym, refl, codes}
 use Rattle.config_search.specs.System.{System}
 use Rattle.config_search.specs.Names.{inside}
 use Rattle.config_search.specs.Rule.{GitDir, IsBelow, find_below, is_git_dir, linked, linked_or}

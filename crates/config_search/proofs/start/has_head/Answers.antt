@@ -1,9 +1,9 @@
-use Rattle.std.proofs.Common.{◌≡◌, ◌∙◌, List, ℕ, Option, Bool, true, false, if◌then◌else◌, sym, ap, codes, refl}
+use Rattle.std.proofs.Common.{◌≡◌, ◌∙◌, List, ℕ, Option, false, if◌then◌else◌, sym, ap, codes, refl}
 use Rattle.std.proofs.lemmas.Bool.{cond-true, cond-false}
 use Rattle.config_search.specs.System.{System}
 use Rattle.config_search.specs.Names.{inside}
-use Rattle.config_search.specs.Rule.{has_head, is_head, is_word, is_reference_link}
-use Rattle.config_search.specs.declared.TheConstants.{KIND, LINK, TEXT}
+use Rattle.config_search.specs.Rule.{has_head, is_head, is_word}
+use Rattle.config_search.specs.declared.TheConstants.{KIND, TEXT}
 use Rattle.config_search.proofs.start.has_head.Goals as goal
 
 -- a file that is no link
