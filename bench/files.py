@@ -1,10 +1,12 @@
-"""Measures reading and checking files: python3 files.py GIT_SETTINGS CONFIG_CHECK [--prefix PREFIX] [--runs N].
+"""Measures reading and checking files: python3 files.py GIT_SETTINGS CONFIG_CHECK [--runs N] [--prefix PREFIX]
+[--package FOLDER] [--also NAME=COMMAND]..
 
 The programs are compared with `git config --list -z`, of the file alone and as the user's file, plain C that makes no
-entries (entries.c), libgit2 if it is installed, and for the small file dulwich, if Python has it. PREFIX has the
-library for C, which is measured too (walk.c), and a lookup in it. The processor time is the least of the runs, made in
-turn; it includes a program's start and its output. The last column has it as a part of that of Git with the file
-alone. If a list of git_settings is not Git's, the status is 1.
+entries (entries.c), libgit2 if it is installed, pygit2 if Python has it, and for the small file dulwich. PREFIX has the
+library for C, which is measured too (walk.c), and a lookup in it, and FOLDER has the Python package, as pip's --target
+makes it. A COMMAND gets the name of the file: it is another program that reads it. The processor time is the least of
+the runs, made in turn; it includes a program's start, which is that of Python too, and its output. The last column has
+it as a part of that of Git with the file alone. If a list of git_settings is not Git's, the status is 1.
 """
 import argparse
 import importlib.util
@@ -27,12 +29,19 @@ SECTION = """[branch "topic-%06d"]
 """
 ENTRIES = SECTION.count(" = ")
 SIZES = [100_000, 2_000_000]
-DULWICH = """
+# programs of Python: the name of each, the module that it needs, and what it does
+PYTHON = [("dulwich", "dulwich", """
 import sys
 from dulwich.config import ConfigFile
 file = ConfigFile.from_path(sys.argv[1])
 sum(1 for section in file.sections() for _ in file.items(section))
-"""
+"""), ("pygit2", "pygit2", """
+import sys, pygit2
+sum(1 for _ in pygit2.Config(sys.argv[1]))
+"""), ("the Python package", "gix_config_value", """
+import sys, gix_config_value
+sum(1 for _ in gix_config_value.read(sys.argv[1]).entries)
+""")]
 
 
 def listed(*command):
@@ -61,8 +70,12 @@ def commands(arguments, folder, file):
     yield "plain C", (f"{folder}/entries", file)
     for name, program in walks(folder, arguments.prefix):
         yield name, (program, file)
-    if importlib.util.find_spec("dulwich"):
-        yield "dulwich", (sys.executable, "-c", DULWICH, file)
+    for name, module, code in PYTHON:
+        if importlib.util.find_spec(module):
+            yield name, (sys.executable, "-c", code, file)
+    for also in arguments.also:
+        name, _, command = also.partition("=")
+        yield name, (*shlex.split(command), file)
 
 
 def rows(measuring, asked, file, arguments):
@@ -94,8 +107,13 @@ def main():
     arguments.add_argument("git_settings", type=os.path.abspath)
     arguments.add_argument("config_check", type=os.path.abspath)
     arguments.add_argument("--prefix", type=os.path.abspath)
+    arguments.add_argument("--package", type=os.path.abspath)
+    arguments.add_argument("--also", action="append", default=[])
     arguments.add_argument("--runs", type=int, default=5)
     arguments = arguments.parse_args()
+    if arguments.package:
+        sys.path.insert(0, arguments.package)
+        os.environ["PYTHONPATH"] = arguments.package
     before = load()
     with tempfile.TemporaryDirectory() as folder:
         for name in ("usage", "entries"):

@@ -6,7 +6,8 @@ from collections import namedtuple
 from . import _core, _walk
 from ._errors import InvalidFile
 
-# what conditions ask about a repository: the path of its directory, with links and without, and the branch
+# what conditions ask about a repository, in the order of a gcv_known: the path of its directory, with links and without,
+# and the branch
 Repository = namedtuple("Repository", "path real_path branch")
 # where Git works: a folder, the repository, why Git uses none although one is there, and what Git reads: the scope and
 # the name of each file

@@ -10,8 +10,6 @@ from ._values import home_of_user, interpolate
 # where the entries of a text come from: the scope, the name as a `str` and as `bytes`, the real name of the directory,
 # and the text; the settings of a command are in no directory, and so begin no relative name
 Source = namedtuple("Source", "scope shown name directory text is_file", defaults=(True,))
-# what conditions ask about, as `bytes` or `None`; no `urls` means that URLs are being sought, and each of them holds
-Known = namedtuple("Known", "install_dir home real_home git_dir real_git_dir branch urls")
 
 MISSING = (FileNotFoundError, NotADirectoryError)
 
@@ -84,7 +82,7 @@ def entries(sources, known):
         raise InvalidFile("remote_url", "remote URLs cannot be configured in file directly or indirectly "
                                         "included by includeIf.hasconfig:remote.*.url", refused.file, refused.line)
     if urls is not None and not error:
-        read, error = _walked(sources, known._replace(urls=urls))
+        read, error = _walked(sources, (*known[:-1], urls))
     if error:
         raise error
     read._trim()
@@ -92,9 +90,8 @@ def entries(sources, known):
 
 
 def known_in(repository):
-    """What includes may refer to: no install directory, the home directory, and the repository if there is one."""
+    """What includes may refer to, in the order of a gcv_known, each `bytes` or `None`: no install directory, the home
+    directory, the repository if there is one, and no URLs, which means that they are sought, and each of them holds."""
     home = _core.variable("HOME")
-    names = [None, home, home and real(home), None, None, None]
-    if repository:
-        names[3:] = repository.path, repository.real_path, repository.branch
-    return Known(*(None if name is None else os.fsencode(name) for name in names), None)
+    names = (None, home, home and real(home), *(repository or (None, None, None)))
+    return (*(None if name is None else os.fsencode(name) for name in names), None)

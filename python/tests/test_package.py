@@ -16,6 +16,7 @@ import re
 import shutil
 import subprocess
 import sys
+import tempfile
 import threading
 import unittest
 
@@ -471,6 +472,20 @@ class Package(unittest.TestCase):
         page = ROOT / "docs/C.md"
         tested = doctest.testfile(str(page), module_relative=False)
         self.assertTrue(tested.attempted > 0 and tested.failed == 0, tested)
+
+    @unittest.skipUnless(shutil.which("git"), "Git is not there")
+    def test_readme(self):
+        # the block of the README, and what its comments say of it
+        block = re.search(r"(?ms)^```python\n(.*?)^```$", (ROOT / "README.md").read_text("utf-8"))[1]
+        values, shown = re.search(r"(?m)^(\w+\(.*\w) +# (.*)$", block).groups()
+        before, after = (text.replace("\\t", "\t") for text in re.search(r'(?m)# "(.*)" becomes "(.*)"$', block).groups())
+        with tempfile.TemporaryDirectory() as folder:
+            subprocess.run(["git", "init", "-q", folder], check=True)
+            file = pathlib.Path(folder, ".git/config")
+            file.write_text(f"[core]\n\tbare = false\n[user]\n{before}\n", encoding="utf-8")
+            done = run("-c", f"import os\nos.chdir({folder!r})\n{block}\nprint(repr(({values}))[1:-1])")
+            self.assertEqual((done.returncode, done.stdout.decode()), (0, f"{shown}\n"), done.stderr)
+            self.assertEqual(file.read_text("utf-8"), f"[core]\n\tbare = false\n[user]\n{after}\n")
 
     def test_stubs(self):
         stubs = pathlib.Path(gcv.__file__).with_suffix(".pyi").read_text("utf-8")

@@ -11,8 +11,10 @@ use Rattle.config_text.specs.Value.{IsAccepted, IsRefused, Normalizes}
 use Rattle.config_integer.specs.Amount.{AmountText}
 use Rattle.config_boolean.specs.Boolean.{BooleanText}
 use Rattle.config_color.specs.Color.{ColorText}
+use Rattle.config_color.specs.Depth.{ReducedColor}
 use Rattle.config_color.specs.Escape.{escape_sequence}
 use Rattle.config_color.specs.declared.color.Color as color
+use Rattle.config_color.specs.declared.depth.Depth.{Depth}
 use Rattle.config_path.specs.Interpolation.{Known, PathResult, PathTable, known_by}
 use Rattle.config_path.specs.Interpolation.PathResult.{text}
 use Rattle.config_path.specs.Passwd.{IsHomeIn}
@@ -45,14 +47,20 @@ Writes shown.BooleanOrAmount value outcome typed = (IsAccepted AmountText value 
     ⊎ (IsRefused AmountText value × IsCanonical kinds.Boolean value outcome typed)
 Writes shown.BooleanOrText value outcome typed = (IsAccepted BooleanText value × IsCanonical kinds.Boolean value outcome typed)
     ⊎ (IsRefused BooleanText value × (outcome ≡ AsWritten))
-Writes shown.Escape value outcome typed =
+Writes (shown.Escape depth) value outcome typed =
     (IsAccepted ColorText value × (outcome ≡ AsWritten)) ⊎ (IsRefused ColorText value × (outcome ≡ Refused))
 Writes _ value outcome typed = outcome ≡ AsWritten
 
--- the escape sequence of the color that a text has, or none if it has no color
-abbrev pub IsEscape : List ℕ → Option (List ℕ) → Type 0
-IsEscape value None = IsRefused ColorText value
-IsEscape value (Some typed) = (color : color.Color) × ColorText value color × (typed ≡ escape_sequence color)
+-- what is written for a color: nothing where no colors are, and otherwise the escape sequence of what a terminal of
+-- this depth shows, which with all colors is the color itself
+abbrev pub EscapeAt : Option Depth → color.Color → List ℕ → Type 0
+EscapeAt None whole typed = typed ≡ []
+EscapeAt (Some depth) whole typed = (less : color.Color) × ReducedColor depth whole less × (typed ≡ escape_sequence less)
+
+-- what is written for the color that a text has, or none if it has no color
+abbrev pub IsEscape : Option Depth → List ℕ → Option (List ℕ) → Type 0
+IsEscape depth value None = IsRefused ColorText value
+IsEscape depth value (Some typed) = (color : color.Color) × ColorText value color × EscapeAt depth color typed
 
 -- the second that a date may have, in decimal
 abbrev pub IsSecond : (List ℕ → Option ℕ → Type 0) → List ℕ → Option (List ℕ) → Type 0
@@ -84,5 +92,6 @@ Shows dates is_there homes shown.Text (Some value) outcome typed = outcome ≡ A
 Shows dates is_there homes shown.Path value outcome typed =
     ShowsPath is_there (known_of homes) (unwrap_or value []) outcome typed
 Shows dates is_there homes shown.Date value outcome typed = OfType (IsSecond dates (read_text value)) outcome typed
-Shows dates is_there homes shown.Escape value outcome typed = OfType (IsEscape (read_text value)) outcome typed
+Shows dates is_there homes (shown.Escape depth) value outcome typed =
+    OfType (IsEscape depth (read_text value)) outcome typed
 Shows dates is_there homes shown value outcome typed = Writes shown (read_text value) outcome typed

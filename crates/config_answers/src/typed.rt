@@ -5,6 +5,7 @@ ghost use Rattle.config_answers.specs.Types.{Shows, Writes, known_of};
 
 use bstr::BStr;
 use gix_config_value::canonical::{Kind, TryRead, normalize};
+use gix_config_value::color::Depth;
 use gix_config_value::integer::Amount;
 use gix_config_value::path::cut_mark;
 use gix_config_value::path::parts::joint_of;
@@ -38,8 +39,8 @@ pub enum Shown {
     Path,
     /// As the seconds of the epoch before which something is too old.
     Date,
-    /// As the escape sequence of a color.
-    Escape,
+    /// As the escape sequence of a color for a terminal of this depth, and as nothing where no colors are.
+    Escape(Option<Depth>),
 }
 
 /// What becomes of a value.
@@ -145,17 +146,18 @@ fn put_canonical(text: &mut Vec<u8>, kind: Kind, value: &[u8]) -> Result<Outcome
     }
 }
 
-/// Puts the escape sequence of a color into an empty text.
-fn put_escape(text: &mut Vec<u8>, value: &[u8]) -> Result<Outcome, AllocError>
+/// Puts the escape sequence of a color for this depth into an empty text, and nothing where no colors are.
+fn put_escape(text: &mut Vec<u8>, depth: Option<Depth>, value: &[u8]) -> Result<Outcome, AllocError>
     requires { text.old.items ≡ [] }
-    ensures { IfOk result (λ outcome. OfType (IsEscape value.now) outcome text.new.items) }
+    ensures { IfOk result (λ outcome. OfType (IsEscape depth value.now) outcome text.new.items) }
 {
-    match Color::try_read(value) {
-        Ok(color) => {
-            text.extend_from_slice(color.escape().as_str().as_bytes())?;
+    match (Color::try_read(value), depth) {
+        (Ok(color), Some(depth)) => {
+            text.extend_from_slice(color.reduced(depth).escape().as_str().as_bytes())?;
             Ok(Outcome::Typed)
         }
-        Err(_) => Ok(Outcome::Refused),
+        (Ok(_), None) => Ok(Outcome::Typed),
+        (Err(_), _) => Ok(Outcome::Refused),
     }
 }
 
@@ -181,7 +183,7 @@ pub fn put_typed(text: &mut Vec<u8>, shown: Shown, value: &[u8]) -> Result<Outco
                 Ok(Outcome::AsWritten)
             }
         }
-        Shown::Escape => Ok(if Color::try_read(value).is_ok() {
+        Shown::Escape(_) => Ok(if Color::try_read(value).is_ok() {
             Outcome::AsWritten
         } else {
             Outcome::Refused
@@ -277,7 +279,7 @@ impl<H: Host> Values<'_, H> {
             }),
             Shown::Path => self.put_path(text, value.unwrap_or(b"")),
             Shown::Date => self.put_date(text, read_text(value)),
-            Shown::Escape => Ok(put_escape(text, read_text(value))?),
+            Shown::Escape(depth) => Ok(put_escape(text, depth, read_text(value))?),
             Shown::Canonical(kind) => Ok(put_canonical(text, kind, read_text(value))?),
             Shown::BooleanOrAmount | Shown::BooleanOrText => {
                 Ok(put_typed(text, self.shown, read_text(value))?)

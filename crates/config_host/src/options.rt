@@ -27,6 +27,18 @@ pub enum Takes {
     /// A value, which the help calls by this name. If there are words, the value is one of them. `--no-` before the
     /// name undoes it.
     Value(&'static str, &'static [&'static str]),
+    /// A value, as `Value` says. Its name is never shortened, since Git has no such option.
+    WholeValue(&'static str, &'static [&'static str]),
+}
+
+impl Takes {
+    /// What the help calls the value, and the words that it can be, or `None` if there is no value.
+    fn value(self) -> Option<(&'static str, &'static [&'static str])> {
+        match self {
+            Takes::Value(name, words) | Takes::WholeValue(name, words) => Some((name, words)),
+            _ => None,
+        }
+    }
 }
 
 /// An option: its name, its letter or the empty text, what it takes, and what it does. Help leaves it out if it
@@ -195,9 +207,14 @@ fn exact(tables: Tables, name: &str) -> Option<Found> {
     }
 }
 
+/// Whether the name of the option is never shortened, since Git has no such option.
+fn is_whole(row: &Row) -> bool {
+    matches!(row.2, Takes::Whole | Takes::WholeValue(..))
+}
+
 /// Whether a name is the beginning of that of the option, and whether it is the beginning of its opposite.
 fn begins(row: &Row, name: &str) -> (bool, bool) {
-    if matches!(row.2, Takes::End | Takes::Whole) {
+    if is_whole(row) || matches!(row.2, Takes::End) {
         return (false, false);
     }
     let is_opposite = match name.strip_prefix("no-") {
@@ -252,7 +269,7 @@ fn check_dashes<'a>(tables: Tables, letters: &'a str) -> Result<(), Misuse<'a>> 
     }
     for rows in tables {
         for row in *rows {
-            if row.0.starts_with(letters) {
+            if row.0.starts_with(letters) && !is_whole(row) {
                 return Err(Misuse::OneDash(letters));
             }
         }
@@ -312,8 +329,8 @@ impl<'w, 'a> Reading<'w, 'a> {
         lacking: Misuse<'a>,
     ) -> Result<(), Misuse<'a>> {
         let (row, is_undone) = found;
-        let words = match row.2 {
-            Takes::Value(_, words) if !is_undone => words,
+        let words = match row.2.value() {
+            Some((_, words)) if !is_undone => words,
             _ => {
                 if value.is_some() {
                     return Err(Misuse::TakesNone(negation(is_undone), row.0));
@@ -357,7 +374,7 @@ impl<'w, 'a> Reading<'w, 'a> {
                 check_dashes(self.tables, letters)?;
                 return Err(Misuse::Switch(letter));
             };
-            if !matches!(row.2, Takes::Value(..)) {
+            if row.2.value().is_none() {
                 self.keep(row, "", false);
                 continue;
             }
@@ -445,9 +462,9 @@ pub struct About {
 
 /// How many columns the name of an option takes in the help, with the name of its value.
 fn width(row: &Row) -> usize {
-    let value = match row.2 {
-        Takes::Value(name, _) => name.len().saturating_add(3),
-        _ => 0,
+    let value = match row.2.value() {
+        Some((name, _)) => name.len().saturating_add(3),
+        None => 0,
     };
     row.0.len().saturating_add(value)
 }
@@ -490,15 +507,15 @@ fn put_row(text: &mut Text, row: &Row, columns: usize) {
     }
     text.put(b"--");
     text.put(name.as_bytes());
-    if let Takes::Value(value, _) = takes {
+    if let Some((value, _)) = takes.value() {
         text.put(b" <");
         text.put(value.as_bytes());
         text.put(b">");
     }
     text.put_repeated(b' ', columns.saturating_sub(width(row)).saturating_add(2));
     text.put(what.as_bytes());
-    match takes {
-        Takes::Value(_, words) if !words.is_empty() => put_words(text, words),
+    match takes.value() {
+        Some((_, words)) if !words.is_empty() => put_words(text, words),
         _ => {}
     }
     text.put(b"\n");

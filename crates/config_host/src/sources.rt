@@ -114,6 +114,48 @@ pub fn is_there(disk: &Disk<'_>, name: &[u8]) -> io::Result<bool> {
     }
 }
 
+/// The file of this scope among those that Git reads in a place, which `git config --global` or the like changes: the
+/// last one, unless only one before it is there. `None` if Git reads none of the scope there. It fails if the system
+/// does not say whether a file is there.
+///
+/// ```rust
+/// use bumpalo::Bump;
+/// use config_file::Scope;
+/// use config_host::Disk;
+/// use config_host::sources::{Named, file_of_scope};
+/// use std::fs;
+///
+/// fs::write(&rt, "first", b"")?;
+/// let mut files = Vec::new(alloc);
+/// files.push(Named { scope: Scope::Global, name: b"first" })?;
+/// files.push(Named { scope: Scope::Global, name: b"missing" })?;
+/// let texts = Bump::new(rt.alloc());
+/// let disk = Disk::new(&rt, &texts);
+/// let file = file_of_scope(&disk, &files, Scope::Global)?;
+/// assert!(rt; matches!(file, Some(file) if file.name == b"first".as_slice()));
+/// assert!(rt; file_of_scope(&disk, &files, Scope::Local)?.is_none());
+/// ```
+pub fn file_of_scope<'t>(
+    disk: &Disk<'t>,
+    files: &[Named<'t>],
+    scope: Scope,
+) -> io::Result<Option<Named<'t>>> {
+    let mut found: Option<Named<'t>> = None;
+    for named in files {
+        if named.scope != scope {
+            continue;
+        }
+        let keeps = match found {
+            Some(earlier) => is_there(disk, earlier.name)? && !is_there(disk, named.name)?,
+            None => false,
+        };
+        if !keeps {
+            found = Some(*named);
+        }
+    }
+    Ok(found)
+}
+
 /// Reads a file. It is not read if it is not there, or if the user of this program may not read a file of the
 /// user.
 fn read_source<'t>(disk: &Disk<'t>, named: Named<'t>) -> Result<Option<Source<'t>>, HereError<'t>> {

@@ -53,7 +53,7 @@ fn put_plain_key(key: &mut Text, section: &str, name: &[u8]) {
 /// Whether the run goes on after a setting that has no value of its type. As in Git, it ends at others.
 fn is_passed_over(shown: Shown, setting: &Setting<'_>) -> bool {
     match shown {
-        Shown::Escape | Shown::Date => true,
+        Shown::Escape(_) | Shown::Date => true,
         Shown::Path => setting.value.is_none(),
         _ => false,
     }
@@ -132,7 +132,7 @@ impl<'t> Reading<'_, 't> {
                 Ok(read) if setting.value.is_some() => color = Some(read),
                 _ => {
                     let key = setting.entry.key_text(self.rt.alloc())?;
-                    self.tell_setting(Shown::Escape, setting, &key);
+                    self.tell_setting(self.request.shown, setting, &key);
                     return Ok(None);
                 }
             }
@@ -140,7 +140,8 @@ impl<'t> Reading<'_, 't> {
         Ok(Some(color))
     }
 
-    /// Appends the escape sequence of the last color that was found, or of the default, and nothing after it.
+    /// Appends the escape sequence of the last color that was found, or of the default, for the depth that is asked
+    /// for, and nothing after it.
     pub fn answer_color(&mut self) -> Result<Ending, HostError> {
         let Some(mut color) = self.last_color()? else {
             return Ok(Ending::Refused);
@@ -158,11 +159,11 @@ impl<'t> Reading<'_, 't> {
                 }
             }
         }
-        if let Some(color) = color {
+        if let (Some(color), Shown::Escape(Some(depth))) = (color, self.request.shown) {
             self.found
                 .writer
                 .output
-                .extend_from_slice(color.escape().as_str().as_bytes())?;
+                .extend_from_slice(color.reduced(depth).escape().as_str().as_bytes())?;
         }
         Ok(Ending::Done)
     }

@@ -6,6 +6,7 @@ use crate::request::{Change, Chosen, Edit, Request, Subject, Texts};
 use crate::shown::{Shown, shown_by_name};
 use config_file::{Key, Scope};
 use config_host::options::Options;
+use gix_config_value::color::Depth;
 
 /// What a command line asks for.
 #[derive(Clone, Copy)]
@@ -118,8 +119,8 @@ fn type_of<'a>(name: &'static str, value: &'a str) -> Option<&'a str> {
     None
 }
 
-/// As what values are read and shown.
-fn shown_of<'a>(options: &Options<'a>) -> Result<Shown, Misuse<'a>> {
+/// As what values are read and shown. A color is shown for this depth.
+fn shown_of<'a>(options: &Options<'a>, depth: Option<Depth>) -> Result<Shown, Misuse<'a>> {
     let mut found: Option<&'a str> = None;
     for given in &options.given {
         let Some(word) = type_of(given.name, given.value) else {
@@ -136,11 +137,12 @@ fn shown_of<'a>(options: &Options<'a>) -> Result<Shown, Misuse<'a>> {
     let Some(word) = found else {
         return Ok(Shown::Text);
     };
-    shown_by_name(word, !options.has("canonical")).ok_or(fatal(
-        "unrecognized --type argument, ",
-        word,
-        "",
-    ))
+    let escape = if options.has("canonical") {
+        None
+    } else {
+        Some(depth)
+    };
+    shown_by_name(word, escape).ok_or(fatal("unrecognized --type argument, ", word, ""))
 }
 
 /// Whether includes are followed: if this is not said, in all that Git reads here and in standard input, and not in
@@ -326,7 +328,7 @@ fn subject_of<'a>(plain: &Plain<'a>, default: Option<&'a str>, shown: Shown) -> 
         Action::GetUrlMatch => Subject::Url(first, plain.second.unwrap_or("")),
         Action::GetColor => Subject::Color(first),
         Action::GetColorBool => Subject::UsesColor(first, plain.second),
-        _ if plain.is_word && first.is_empty() && matches!(shown, Shown::Escape) => {
+        _ if plain.is_word && first.is_empty() && matches!(shown, Shown::Escape(_)) => {
             if default.is_some() {
                 Subject::Color(first)
             } else {
@@ -426,14 +428,28 @@ fn edit_of<'a>(
     })
 }
 
-/// What a word, or a command line without one, asks with these options.
-/// GIT_CONFIG may have named a file.
+/// Refuses a depth where no escape sequence is printed.
+fn check_depth(
+    plain: &Plain<'_>,
+    options: &Options<'_>,
+    shown: Shown,
+) -> Result<(), Misuse<'static>> {
+    let prints = matches!(shown, Shown::Escape(_)) && change_of(plain).is_none();
+    if options.has("depth") && !prints {
+        return Err(error("--depth is only applicable to reading with --type=color or --get-color"));
+    }
+    Ok(())
+}
+
+/// What a word, or a command line without one, asks with these options. GIT_CONFIG may have named a file, and escape
+/// sequences are those for this depth.
 pub fn asked_of<'a>(
     word: &Word,
     options: &Options<'a>,
     named: Option<&'a str>,
+    depth: Option<Depth>,
 ) -> Result<Asked<'a>, Misuse<'a>> {
-    let shown = shown_of(options)?;
+    let mut shown = shown_of(options, depth)?;
     let plain = if word.name.is_empty() {
         older(options)?
     } else {
@@ -443,11 +459,15 @@ pub fn asked_of<'a>(
     if is_color && !matches!(shown, Shown::Text) {
         return Err(error("--get-color and variable type are incoherent"));
     }
+    if matches!(plain.action, Action::GetColor) {
+        shown = Shown::Escape(depth);
+    }
     if plain.is_word {
         check_word(&plain, options)?;
     } else {
         check_older(&plain, options)?;
     }
+    check_depth(&plain, options, shown)?;
     let texts = texts_of(options, named)?;
     match change_of(&plain) {
         Some(change) => Ok(Asked::Change(edit_of(&plain, change, options, texts, shown)?)),

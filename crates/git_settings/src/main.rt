@@ -18,6 +18,7 @@ mod wanted;
 use crate::asked::{Asked, asked_of};
 use crate::options::{Word, word_of};
 use crate::output::{Ending, tell, tell_error, tell_fatal};
+use crate::shown::depth_of;
 use config_host::HostError;
 use config_host::environment::{arguments as arguments_of, variable, words_of};
 use config_host::options::{Ends, Misuse, Options, help, read};
@@ -52,7 +53,7 @@ fn run_word<'a>(
         },
         _ => None,
     };
-    match asked_of(word, options, named) {
+    match asked_of(word, options, named, depth_of(rt, options)?) {
         Ok(Asked::Read(request)) => files::run(rt, &request, commands),
         Ok(Asked::Change(edit)) => edits::run(rt, &edit),
         Err(misuse) => Ok(misuse.tell(rt)),

@@ -1,6 +1,6 @@
 //! The words of the command line, their options, and what the help says of them.
 
-use config_host::options::Takes::{self, Ever, Nothing, Value, Whole};
+use config_host::options::Takes::{self, Ever, Nothing, Value, Whole, WholeValue};
 use config_host::options::{About, GENERAL, Row, Tables};
 
 /// What is done.
@@ -106,6 +106,18 @@ Read or write values as this: bool, int, bool-or-int, bool-or-str, path, expiry-
 or suffix, integer, amount, boolean, name or attribute";
 
 const CANONICAL: &str = "Show or write a color by its canonical text, which Git does not do";
+
+/// For how many colors an escape sequence is printed.
+const DEPTH: &[Row] = &[("depth", "", DEPTHS, FEWER)];
+
+const DEPTHS: Takes = WholeValue(
+    "DEPTH",
+    &["auto", "always", "never", "16", "256", "16777216"],
+);
+
+const FEWER: &str = "\
+Print the escape sequence of a color for so many colors, which Git does not do: those of the output (auto), those that \
+TERM and COLORTERM tell of any output (always), none (never), or a number";
 
 /// How entries are shown.
 const DISPLAY: &[Row] = &[
@@ -232,7 +244,9 @@ const WORDS: &[Word] = &[
         name: "list",
         action: Action::List,
         count: 0,
-        tables: &[LOCATION, DISPLAY, TYPE, TYPE_FLAGS, INCLUDES, GENERAL],
+        tables: &[
+            LOCATION, DISPLAY, TYPE, DEPTH, TYPE_FLAGS, INCLUDES, GENERAL,
+        ],
         summary: "Lists all entries, as `git config list` does",
         usage: "git-settings [-c KEY=VALUE]... list [OPTIONS]",
     },
@@ -241,7 +255,8 @@ const WORDS: &[Word] = &[
         action: Action::Get,
         count: 1,
         tables: &[
-            LOCATION, FILTER, FIXED, KEYS, DISPLAY, TYPE, TYPE_FLAGS, INCLUDES, DEFAULT, GENERAL,
+            LOCATION, FILTER, FIXED, KEYS, DISPLAY, TYPE, DEPTH, TYPE_FLAGS, INCLUDES, DEFAULT,
+            GENERAL,
         ],
         summary: "Prints the last value of a key, or all of them, as `git config get` does",
         usage: "git-settings [-c KEY=VALUE]... get [OPTIONS] KEY",
@@ -288,7 +303,8 @@ const WITHOUT: &Word = &Word {
     action: Action::Get,
     count: 0,
     tables: &[
-        LOCATION, OLDER, DISPLAY, TYPE, TYPE_FLAGS, DEFAULT, COMMENT, FIXED, INCLUDES, GENERAL,
+        LOCATION, OLDER, DISPLAY, TYPE, DEPTH, TYPE_FLAGS, DEFAULT, COMMENT, FIXED, INCLUDES,
+        GENERAL,
     ],
     summary: "Reads and changes Git's settings, as `git config` does",
     usage: "git-settings [-c KEY=VALUE]... [OPTIONS] [KEY [VALUE [PATTERN]]]",

@@ -6,9 +6,12 @@ use crate::output::{Origin, Place, tell, tell_line};
 use config_answers::typed::Host;
 pub use config_answers::typed::{Homes, Outcome, Shown, Values};
 use config_host::names::exists;
+use config_host::options::Options;
+use config_host::terminal::{When, depth};
 use config_host::{Disk, Users};
 use gix_config_value::Fault;
 use gix_config_value::canonical::{Kind, TryRead};
+use gix_config_value::color::Depth;
 use gix_config_value::integer::Amount;
 use std::alloc::AllocError;
 use std::io;
@@ -24,11 +27,25 @@ const NAMED: &[(&str, Shown)] = &[
     ("expiry-date", Shown::Date),
 ];
 
-/// What this word after `--type` means, or `None` if it is no such word. A color is shown as its escape sequence
-/// if `escapes` is true.
-pub fn shown_by_name(word: &str, escapes: bool) -> Option<Shown> {
-    if word == "color" && escapes {
-        return Some(Shown::Escape);
+/// For how many colors escape sequences are printed: as Git does for all, if the options do not say it.
+pub fn depth_of(rt: &HostRuntime, options: &Options<'_>) -> Result<Option<Depth>, AllocError> {
+    let when = match options.last("depth") {
+        Some("16") => return Ok(Some(Depth::Ansi16)),
+        Some("256") => return Ok(Some(Depth::Ansi256)),
+        Some("auto") => When::Auto,
+        Some("always") => When::Always,
+        Some("never") => When::Never,
+        _ => return Ok(Some(Depth::TrueColor)),
+    };
+    depth(rt, &rt.stdout(), when)
+}
+
+/// What this word after `--type` means, or `None` if it is no such word. A color is shown by its canonical text, or for
+/// the depth `escape` as its escape sequence.
+pub fn shown_by_name(word: &str, escape: Option<Option<Depth>>) -> Option<Shown> {
+    match escape {
+        Some(depth) if word == "color" => return Some(Shown::Escape(depth)),
+        _ => {}
     }
     for (name, shown) in NAMED {
         if *name == word {
@@ -139,7 +156,7 @@ fn tell_typed(rt: &HostRuntime, shown: Shown, wrong: &Wrong<'_>, value: &[u8]) -
             let end = b"' is not a valid timestamp";
             tell(rt, &[b"error: '", value, of_key, wrong.key, end]);
         }
-        Shown::Escape | Shown::Canonical(Kind::Color) => {
+        Shown::Escape(_) | Shown::Canonical(Kind::Color) => {
             tell(rt, &[b"error: invalid color value: ", value]);
         }
         Shown::BooleanOrAmount | Shown::Canonical(Kind::Amount) => tell_number(rt, wrong),
@@ -154,14 +171,14 @@ fn tell_typed(rt: &HostRuntime, shown: Shown, wrong: &Wrong<'_>, value: &[u8]) -
     }
     matches!(
         shown,
-        Shown::Date | Shown::Escape | Shown::Canonical(Kind::Color)
+        Shown::Date | Shown::Escape(_) | Shown::Canonical(Kind::Color)
     )
 }
 
 /// Tells in Git's words why a value is none of its type. If they have a second line, it is that of the place
 /// of the value, or this one and the value.
 pub fn tell_wrong(rt: &HostRuntime, shown: Shown, wrong: &Wrong<'_>, end: &[u8]) {
-    let needs_value = matches!(shown, Shown::Path | Shown::Date | Shown::Escape);
+    let needs_value = matches!(shown, Shown::Path | Shown::Date | Shown::Escape(_));
     let value = wrong.value.unwrap_or(b"true");
     if wrong.value.is_none() && needs_value {
         tell(rt, &[b"error: missing value for '", wrong.key, b"'"]);

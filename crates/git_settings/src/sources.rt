@@ -10,7 +10,7 @@ use config_file::{AddError, Content, FilePlace, Files, IncludeFault, Scope};
 use config_host::disk::ReadError;
 use config_host::reading::{files_of, seek_urls};
 use config_host::repository::{Location, find};
-use config_host::sources::{Named, Source, has_worktrees, is_there, sources, system_name};
+use config_host::sources::{Named, Source, file_of_scope, has_worktrees, sources, system_name};
 use config_host::surroundings::{Followed, FoundRepository, has_conditions};
 use config_host::{Disk, HereError, Refusal, Surroundings};
 use std::alloc::{AllocError, Global};
@@ -218,28 +218,6 @@ fn open_named<'t>(
     Ok(opened)
 }
 
-/// The file of this scope among those that Git reads here: the last one, unless only one before it is there.
-fn of_scope<'t>(
-    disk: &Disk<'t>,
-    files: &[Named<'t>],
-    scope: Scope,
-) -> io::Result<Option<Named<'t>>> {
-    let mut found: Option<Named<'t>> = None;
-    for named in files {
-        if named.scope != scope {
-            continue;
-        }
-        let keeps = match found {
-            Some(earlier) => is_there(disk, earlier.name)? && !is_there(disk, named.name)?,
-            None => false,
-        };
-        if !keeps {
-            found = Some(*named);
-        }
-    }
-    Ok(found)
-}
-
 /// Tells that there is no file of a scope here.
 fn tell_no_file(rt: &HostRuntime, scope: Scope) {
     match scope {
@@ -289,7 +267,7 @@ pub fn file_of<'t>(
     let Some(wanted) = wanted else {
         return Ok(None);
     };
-    match of_scope(disk, &place.files, wanted)? {
+    match file_of_scope(disk, &place.files, wanted)? {
         Some(named) => Ok(Some(named.name)),
         None => {
             tell_no_file(rt, scope);
