@@ -4,11 +4,11 @@ ghost use Rattle.std.specs.Prelude.{None};
 use crate::annotations::put_annotation;
 use crate::causes::Cause;
 use crate::changes::{Mended, Mender};
-use crate::hints::{Hint, hint_for, put_slots};
+use crate::hints::{Hint, hint_for, key_in_order, put_slots};
 use crate::options::{Asked, Format, Ignored, Output, Style};
 use crate::sarif::result_of;
 use crate::source::{Source, Spot};
-use crate::text::{put, put_hint, put_number, put_text};
+use crate::text::{put, put_hint, put_meant, put_number, put_text};
 use config_checks::check::{CheckError, Counts, Receiver};
 use config_checks::code::{Code, EXPLAINED};
 use config_checks::finding::Finding;
@@ -81,17 +81,22 @@ struct Counted {
     count: u64,
 }
 
-/// The reason of a finding about an entry, with what is known of its value, and the slots that rows have.
+/// The reason of a finding about an entry, with what is known of its value, and the key that is suggested or the slots that
+/// rows have.
 fn reason_of_entry(
     alloc: Global,
     rows: &[Row<'_>],
     finding: &Finding<'_>,
     hint: &Hint<'_>,
+    key: &Option<Vec<u8>>,
 ) -> Result<Vec<u8>, AllocError> {
     let mut reason = Text::new(alloc);
     reason.put(finding.reason);
     put_hint(&mut reason, hint);
-    put_slots(alloc, &mut reason, rows, finding)?;
+    match key {
+        Some(key) => put_meant(&mut reason, key),
+        None => put_slots(alloc, &mut reason, rows, finding)?,
+    }
     reason.end()
 }
 
@@ -320,9 +325,10 @@ impl<W: Write> Lines<'_, '_, '_, '_, '_, '_, W> {
         setting: &Setting<'_>,
         finding: &Finding<'_>,
     ) -> Result<Vec<u8>, AllocError> {
-        let hint = hint_for(self.alloc, finding)?;
+        let hint = hint_for(self.alloc, self.rows, finding)?;
+        let key = key_in_order(self.alloc, self.rows, finding)?;
         let spot = self.source.spot(finding, hint.wrong);
-        let reason = reason_of_entry(self.alloc, self.rows, finding, &hint)?;
+        let reason = reason_of_entry(self.alloc, self.rows, finding, &hint, &key)?;
         let mended = if hint.is_sure { Some(setting) } else { None };
         let mut whole = Finding {
             line: spot.number,
@@ -331,6 +337,9 @@ impl<W: Write> Lines<'_, '_, '_, '_, '_, '_, W> {
         };
         if let Some(meant) = &hint.meant {
             whole.suggested_value = Some(meant);
+        }
+        if let Some(key) = &key {
+            whole.suggested_key = Some(key);
         }
         self.text_for(&whole, &spot, mended)
     }
