@@ -1,6 +1,7 @@
 //! What to write in place of a value that the reader of a boolean, an integer or a color refuses, or in place of a part
 //! of a value, and which slots there are in place of an unknown one.
 
+use crate::rows::word_of;
 use crate::text::{put, put_number, put_shown};
 use config_checks::code::Code;
 use config_checks::finding::{Finding, key_text};
@@ -481,6 +482,43 @@ pub(crate) fn key_in_order(
         Some(row) => Ok(Some(key_text(alloc, &row.key)?)),
         None => Ok(None),
     }
+}
+
+/// Whether a byte may stand in the name of a key, or is a `_`, which many write in it.
+fn is_in_name(byte: u8) -> bool {
+    byte.is_ascii_alphanumeric() || matches!(byte, b'-' | b'_')
+}
+
+/// The name around the `_` that this many bytes of a text precede, without its bytes `_`.
+fn plain_name(alloc: Global, text: &[u8], at: usize) -> Result<Vec<u8>, AllocError> {
+    let (before, after) = text.split_at_checked(at).unwrap_or((b"", b""));
+    let front = before.rsplit(|byte| !is_in_name(*byte)).next();
+    let end = after.split(|byte| !is_in_name(*byte)).next();
+    let mut name = Text::new(alloc);
+    for byte in front.unwrap_or(b"").iter().chain(end.unwrap_or(b"")) {
+        if *byte != b'_' {
+            name.put_byte(*byte);
+        }
+    }
+    name.end()
+}
+
+/// The name of a row for a key in which Git stops at a `_`, if it lacks nothing else. This many bytes precede the `_`.
+pub(crate) fn name_meant<'r>(
+    alloc: Global,
+    rows: &[Row<'r>],
+    text: &[u8],
+    at: usize,
+) -> Result<Option<&'r [u8]>, AllocError> {
+    if text.get(at) != Some(&b'_') {
+        return Ok(None);
+    }
+    let name = plain_name(alloc, text, at)?;
+    let before = text.get(..at).unwrap_or(b"");
+    let section = word_of(before.rsplit(|byte| *byte == b'[').next().unwrap_or(b""));
+    let found = rows.iter().find(|row| row.key.section().eq_ignore_ascii_case(section)
+        && row.key.name().eq_ignore_ascii_case(&name));
+    Ok(found.map(|row| row.key.name()))
 }
 
 /// How many slots are told.

@@ -4,7 +4,7 @@ ghost use Rattle.std.specs.Prelude.{None};
 use crate::annotations::put_annotation;
 use crate::causes::Cause;
 use crate::changes::{Mended, Mender};
-use crate::hints::{Hint, hint_for, key_in_order, put_slots};
+use crate::hints::{Hint, hint_for, key_in_order, name_meant, put_slots};
 use crate::options::{Asked, Format, Ignored, Output, Style};
 use crate::sarif::result_of;
 use crate::source::{Source, Spot};
@@ -100,17 +100,21 @@ fn reason_of_entry(
     reason.end()
 }
 
-/// What is told of a line that Git cannot read: the reason and the cause.
+/// What is told of a line that Git cannot read: the reason, the cause, and the name that is suggested for its key.
 fn reason_of_line(
     alloc: Global,
     finding: &Finding<'_>,
     cause: &Cause,
+    meant: Option<&[u8]>,
 ) -> Result<Vec<u8>, AllocError> {
     let mut reason = Text::new(alloc);
     reason.put(finding.reason);
     if let Some(why) = cause.why {
         put(&mut reason, ": ");
         put(&mut reason, why);
+    }
+    if let Some(name) = meant {
+        put_meant(&mut reason, name);
     }
     reason.end()
 }
@@ -348,7 +352,8 @@ impl<W: Write> Lines<'_, '_, '_, '_, '_, '_, W> {
     fn text_for_line(&mut self, finding: &Finding<'_>) -> Result<Vec<u8>, AllocError> {
         let cause = Cause::of(self.source.text);
         let spot = self.source.spot_of_cause(finding.line, &cause);
-        let reason = reason_of_line(self.alloc, finding, &cause)?;
+        let meant = name_meant(self.alloc, self.rows, self.source.text, cause.at)?;
+        let reason = reason_of_line(self.alloc, finding, &cause, meant)?;
         let whole = Finding {
             reason: &reason,
             ..*finding
