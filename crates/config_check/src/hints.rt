@@ -503,6 +503,15 @@ fn plain_name(alloc: Global, text: &[u8], at: usize) -> Result<Vec<u8>, AllocErr
     name.end()
 }
 
+/// What the section is called that is open behind this many bytes of a text, or another word that follows a `[`.
+fn section_before(text: &[u8], at: usize) -> &[u8] {
+    let (before, _) = text.split_at_checked(at).unwrap_or((b"", b""));
+    match before.rsplit(|byte| *byte == b'[').next() {
+        Some(header) => word_of(header),
+        None => b"",
+    }
+}
+
 /// The name of a row for a key in which Git stops at a `_`, if it lacks nothing else. This many bytes precede the `_`.
 pub(crate) fn name_meant<'r>(
     alloc: Global,
@@ -514,11 +523,15 @@ pub(crate) fn name_meant<'r>(
         return Ok(None);
     }
     let name = plain_name(alloc, text, at)?;
-    let before = text.get(..at).unwrap_or(b"");
-    let section = word_of(before.rsplit(|byte| *byte == b'[').next().unwrap_or(b""));
-    let found = rows.iter().find(|row| row.key.section().eq_ignore_ascii_case(section)
-        && row.key.name().eq_ignore_ascii_case(&name));
-    Ok(found.map(|row| row.key.name()))
+    let section = section_before(text, at);
+    for row in rows {
+        if row.key.section().eq_ignore_ascii_case(section)
+            && row.key.name().eq_ignore_ascii_case(&name)
+        {
+            return Ok(Some(row.key.name()));
+        }
+    }
+    Ok(None)
 }
 
 /// How many slots are told.
