@@ -28,7 +28,7 @@ SECONDS = 20
 # the Gits whose answers are kept, in the order of their columns
 VERSIONS = ("2.39", "2.55")
 # the marks of rows that precede their kinds, and what follows a mark with a value
-MARKS = re.compile(r"alone|needs-value|warn|(since|until|instead)=(.*)")
+MARKS = re.compile(r"alone|needs-value|warn|(since|until|instead|old)=(.*)")
 # a repository with a remote, a submodule, notes, a conflict, and a change that is not committed
 MADE = r"""
 git init -q --template= --bare origin.git; git init -q --template= sub; git -C sub commit -q --allow-empty -m sub
@@ -170,6 +170,7 @@ COMMANDS = {
     "worktree": ("", "git worktree add -q ../tree"),
     "worktree-side": ("", "git worktree add -q ../side"),
     "version": ("", "git version"),
+    "symbolic-ref": ("", "git symbolic-ref refs/heads/z refs/heads/main"),
     "bare": ("git init -q --bare ../bare.git", "git -C ../bare.git rev-parse --git-dir"),
     "column": ("", "git column --mode=plain < a.txt"),
     "describe": ("", "git describe"),

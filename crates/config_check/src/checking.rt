@@ -37,8 +37,8 @@ use std::mem;
 /// read once.
 const FEW_FILES: usize = 8;
 
-/// Git opens the file that includes it by its full name, and so its folder.
-const FOLDER: &str = "it is no regular file";
+/// Why Git cannot read an included file without a name: it opens the folder of the file that includes it.
+const NO_NAME: &str = "the path is empty, and so names a folder, at which Git stops";
 
 const UNNAMED: &str = "--fix changes only files that are named: name one";
 
@@ -166,6 +166,14 @@ fn misnamed<'t>(
         }
     }
     Ok(found)
+}
+
+/// Whether the path that an entry includes is empty.
+fn has_no_path(alloc: Global, entry: &Entry<'_>) -> Result<bool, AllocError> {
+    match &entry.value {
+        Some(value) => Ok(value.text(alloc)?.is_empty()),
+        None => Ok(false),
+    }
 }
 
 /// Whether a path that an entry includes begins at the root or in a home directory, and not in the folder of
@@ -629,6 +637,9 @@ impl<'c, 't> Checking<'c, 't> {
         if is_stdin && !name.starts_with(b"/") {
             return Ok(());
         }
+        if has_no_path(self.rt.alloc(), entry)? {
+            return self.report(place, entry, Wrong::Unreadable(NO_NAME));
+        }
         let name = self.rooted(entry, name)?;
         let real = self.disk.real_name(&name)?;
         if self.is_within(walk, &real)? {
@@ -638,11 +649,6 @@ impl<'c, 't> Checking<'c, 't> {
             return Ok(());
         }
         match self.disk.read(self.rt.alloc(), &name)? {
-            Content::Missing if name.is_empty() => return self.report(
-                place,
-                entry,
-                Wrong::Unreadable(FOLDER),
-            ),
             Content::Missing => return self.report(place, entry, Wrong::Missing),
             Content::Unreadable(why) => {
                 let is_opened = str::from_utf8(&name).is_ok();

@@ -119,7 +119,12 @@ fn put_row(alloc: Global, out: &mut Text, row: &Row<'_>) -> Result<(), AllocErro
     put_version(out, "; since Git ", row.since);
     put_version(out, "; before Git ", row.until);
     if let Some(instead) = row.instead {
-        put(out, "; deprecated: use ");
+        put(out, "; deprecated");
+        if let Some(old) = row.old {
+            put(out, " as ");
+            put_shown(out, old);
+        }
+        put(out, ": use ");
         put_shown(out, instead);
     }
     put(

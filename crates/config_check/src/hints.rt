@@ -1,9 +1,12 @@
-//! What to write in place of a value that the reader of a boolean, an integer or a color refuses, and which
-//! slots there are in place of an unknown one.
+//! What to write in place of a value that the reader of a boolean, an integer or a color refuses, or in place of a part
+//! of a value, and which slots there are in place of an unknown one.
 
+use crate::rows::word_of;
 use crate::text::{put, put_number, put_shown};
 use config_checks::code::Code;
-use config_checks::finding::Finding;
+use config_checks::finding::{Finding, key_text};
+use config_checks::key::covers;
+use config_checks::kind::{Form, SettingKind, WordList, is_separator, sort_name};
 use config_checks::reason::nearest_word;
 use config_checks::row::Row;
 use config_file::key::Key;
@@ -201,6 +204,32 @@ fn separated(alloc: Global, text: &[u8]) -> Result<Option<Vec<u8>>, AllocError> 
     Ok(Some(color))
 }
 
+/// The color that is meant by a text in which this word and the next one are one word, as in `light green`.
+fn joined(alloc: Global, text: &[u8], wrong: &[u8]) -> Result<Option<Meant>, AllocError> {
+    let mut parts = text
+        .split(|byte| byte.is_ascii_whitespace())
+        .skip_while(|part| *part != wrong)
+        .filter(|part| !part.is_empty())
+        .skip(1);
+    let Some(next) = parts.next() else {
+        return Ok(None);
+    };
+    let mut both = wrong.to_vec(alloc)?;
+    both.extend_from_slice(next)?;
+    let Some((word, _)) = nearest(alloc, &words_in(alloc, COLORS)?, &both)? else {
+        return Ok(None);
+    };
+    let shorter = replaced(alloc, text, next, b"")?;
+    let color = replaced(alloc, &shorter, wrong, word)?;
+    if Color::try_read(&color).is_err() {
+        return Ok(None);
+    }
+    Ok(Some(Meant {
+        text: color,
+        is_sure: false,
+    }))
+}
+
 /// The color that is meant by a text in which this word is none.
 fn color_meant(alloc: Global, text: &[u8], wrong: &[u8]) -> Result<Option<Meant>, AllocError> {
     if let Some(color) = separated(alloc, text)? {
@@ -210,7 +239,7 @@ fn color_meant(alloc: Global, text: &[u8], wrong: &[u8]) -> Result<Option<Meant>
         }));
     }
     let Some((word, is_sure)) = nearest(alloc, &words_in(alloc, COLORS)?, wrong)? else {
-        return Ok(None);
+        return joined(alloc, text, wrong);
     };
     let color = replaced(alloc, text, wrong, word)?;
     if Color::try_read(&color).is_err() {
@@ -288,15 +317,221 @@ fn colors_by_age<'v>(alloc: Global, text: &'v [u8]) -> Result<Hint<'v>, AllocErr
     Ok(hint_of(named, Some(Meant { text, is_sure })))
 }
 
+/// A text with another one in place of its part that this many bytes precede.
+fn with_part(
+    alloc: Global,
+    text: &[u8],
+    before: usize,
+    part: &[u8],
+    other: &[u8],
+) -> Result<Vec<u8>, AllocError> {
+    let mut value = Text::new(alloc);
+    value.put(text.get(..before).unwrap_or(b""));
+    value.put(other);
+    value.put(text.get(before.saturating_add(part.len())..).unwrap_or(b""));
+    value.end()
+}
+
+/// What is known of a key to sort by whose name is none: the value with the nearest name in it.
+fn sort_key<'v>(alloc: Global, words: &[&[u8]], text: &'v [u8]) -> Result<Hint<'v>, AllocError> {
+    let rest = sort_name(text);
+    let name = rest.split(|byte| *byte == b':').next().unwrap_or(b"");
+    let Some((word, is_sure)) = nearest(alloc, words, name)? else {
+        return Ok(hint_of(None, None));
+    };
+    let before = text.len().saturating_sub(rest.len());
+    let text = with_part(alloc, text, before, name, word)?;
+    Ok(hint_of(None, Some(Meant { text, is_sure })))
+}
+
+/// The nearest of the words that end in `=*`, without its `*`, and what follows the `=` of a piece.
+fn setting_meant(
+    alloc: Global,
+    words: &[&[u8]],
+    piece: &[u8],
+) -> Result<Option<Meant>, AllocError> {
+    let mut fronts = Vec::new(alloc);
+    for word in words {
+        if let Some(front) = word.strip_suffix(b"=*") {
+            fronts.push(front)?;
+        }
+    }
+    let name = piece.split(|byte| *byte == b'=').next().unwrap_or(b"");
+    if name.len() == piece.len() {
+        return Ok(None);
+    }
+    match nearest(alloc, &fronts, name)? {
+        Some((front, is_sure)) => Ok(Some(Meant {
+            text: with_part(alloc, piece, 0, name, front)?,
+            is_sure,
+        })),
+        None => Ok(None),
+    }
+}
+
+/// The word that is meant by a piece of a list.
+fn piece_meant(alloc: Global, words: &[&[u8]], piece: &[u8]) -> Result<Option<Meant>, AllocError> {
+    match nearest(alloc, words, piece)? {
+        Some((word, is_sure)) => Ok(Some(Meant {
+            text: word.to_vec(alloc)?,
+            is_sure,
+        })),
+        None => setting_meant(alloc, words, piece),
+    }
+}
+
+/// What is known of a text that is not a list of these words: which piece is none, and the value with another one.
+fn words<'v>(alloc: Global, list: &WordList<'_>, text: &'v [u8]) -> Result<Hint<'v>, AllocError> {
+    let mut before: usize = 0;
+    for piece in text.split(|byte| is_separator(*byte)) {
+        if piece.is_empty() || list.find(piece).is_some() {
+            before = before.saturating_add(piece.len()).saturating_add(1);
+            continue;
+        }
+        let named = if piece == text { None } else { Some(piece) };
+        let Some(
+            Meant {
+                text: word,
+                is_sure,
+            },
+        ) = piece_meant(alloc, &list.words, piece)?
+        else {
+            return Ok(hint_of(named, None));
+        };
+        let text = with_part(alloc, text, before, piece, &word)?;
+        return Ok(hint_of(named, Some(Meant { text, is_sure })));
+    }
+    Ok(hint_of(None, None))
+}
+
+/// The list by which a value is wrong.
+fn list_of<'r, 'w>(rows: &'r [Row<'w>], finding: &Finding<'_>) -> Option<&'r WordList<'w>> {
+    let key = Key::split(finding.key?)?;
+    let row = rows.iter().find(|row| covers(&row.key, &key))?;
+    match &row.kind {
+        SettingKind::Word(list) => Some(list),
+        _ => None,
+    }
+}
+
+/// What is known of a value that is wrong by a list, and near none of its words.
+fn listed<'v>(
+    alloc: Global,
+    rows: &[Row<'_>],
+    finding: &Finding<'_>,
+    value: &'v [u8],
+) -> Result<Hint<'v>, AllocError> {
+    match list_of(rows, finding) {
+        Some(list) => match list.form {
+            Form::SortKey => sort_key(alloc, &list.words, value),
+            Form::Words => words(alloc, list, value),
+            _ => Ok(hint_of(None, None)),
+        },
+        None => Ok(hint_of(None, None)),
+    }
+}
+
 /// What is known of a value beyond the reason of its finding.
-pub(crate) fn hint_for<'v>(alloc: Global, finding: &Finding<'v>) -> Result<Hint<'v>, AllocError> {
+pub(crate) fn hint_for<'v>(
+    alloc: Global,
+    rows: &[Row<'_>],
+    finding: &Finding<'v>,
+) -> Result<Hint<'v>, AllocError> {
     match (finding.fault, finding.value) {
         (Some(Fault::Color), Some(value)) => color(alloc, value),
         (Some(Fault::Boolean), Some(value)) => Ok(hint_of(None, boolean(alloc, value)?)),
         (Some(Fault::Integer), Some(value)) => Ok(hint_of(None, number(alloc, value)?)),
         (None, Some(value)) if finding.code == Code::BadColor => colors_by_age(alloc, value),
+        (None, Some(value))
+            if finding.code == Code::NotAWord && finding.suggested_value.is_none() => listed(
+            alloc, rows, finding, value,
+        ),
         _ => Ok(hint_of(None, None)),
     }
+}
+
+/// Whether a row has this section and this name, and no subsection.
+fn is_alone(row: &Row<'_>, section: &[u8], name: &[u8]) -> bool {
+    row.key.subsection().is_none()
+        && row.key.section().eq_ignore_ascii_case(section)
+        && row.key.name().eq_ignore_ascii_case(name)
+}
+
+/// The key of a row that has the parts of an unknown key in another order, if no other key is suggested: `color.grep`
+/// for `grep.color`, and `diff.colorMoved` for `color.diff.colorMoved`.
+pub(crate) fn key_in_order(
+    alloc: Global,
+    rows: &[Row<'_>],
+    finding: &Finding<'_>,
+) -> Result<Option<Vec<u8>>, AllocError> {
+    if finding.code != Code::UnknownKey || finding.suggested_key.is_some() {
+        return Ok(None);
+    }
+    let Some(key) = Key::split(finding.key.unwrap_or(b"")) else {
+        return Ok(None);
+    };
+    let (section, name) = match key.subsection() {
+        Some(subsection) if key.section().eq_ignore_ascii_case(b"color") => (
+            subsection,
+            key.name(),
+        ),
+        None if key.name().eq_ignore_ascii_case(b"color") => (key.name(), key.section()),
+        _ => return Ok(None),
+    };
+    match rows.iter().find(|row| is_alone(row, section, name)) {
+        Some(row) => Ok(Some(key_text(alloc, &row.key)?)),
+        None => Ok(None),
+    }
+}
+
+/// Whether a byte may stand in the name of a key, or is a `_`, which many write in it.
+fn is_in_name(byte: u8) -> bool {
+    byte.is_ascii_alphanumeric() || matches!(byte, b'-' | b'_')
+}
+
+/// The name around the `_` that this many bytes of a text precede, without its bytes `_`.
+fn plain_name(alloc: Global, text: &[u8], at: usize) -> Result<Vec<u8>, AllocError> {
+    let (before, after) = text.split_at_checked(at).unwrap_or((b"", b""));
+    let front = before.rsplit(|byte| !is_in_name(*byte)).next();
+    let end = after.split(|byte| !is_in_name(*byte)).next();
+    let mut name = Text::new(alloc);
+    for byte in front.unwrap_or(b"").iter().chain(end.unwrap_or(b"")) {
+        if *byte != b'_' {
+            name.put_byte(*byte);
+        }
+    }
+    name.end()
+}
+
+/// What the section is called that is open behind this many bytes of a text, or another word that follows a `[`.
+fn section_before(text: &[u8], at: usize) -> &[u8] {
+    let (before, _) = text.split_at_checked(at).unwrap_or((b"", b""));
+    match before.rsplit(|byte| *byte == b'[').next() {
+        Some(header) => word_of(header),
+        None => b"",
+    }
+}
+
+/// The name of a row for a key in which Git stops at a `_`, if it lacks nothing else. This many bytes precede the `_`.
+pub(crate) fn name_meant<'r>(
+    alloc: Global,
+    rows: &[Row<'r>],
+    text: &[u8],
+    at: usize,
+) -> Result<Option<&'r [u8]>, AllocError> {
+    if text.get(at) != Some(&b'_') {
+        return Ok(None);
+    }
+    let name = plain_name(alloc, text, at)?;
+    let section = section_before(text, at);
+    for row in rows {
+        if row.key.section().eq_ignore_ascii_case(section)
+            && row.key.name().eq_ignore_ascii_case(&name)
+        {
+            return Ok(Some(row.key.name()));
+        }
+    }
+    Ok(None)
 }
 
 /// How many slots are told.

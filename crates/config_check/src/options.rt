@@ -39,13 +39,14 @@ const SEVERAL: &[Row] = &[
         "settings",
         "",
         Takes::Value("FILE", &[]),
-        "Rows of further settings, which win over the built-in ones, and over those of later files",
+        "Rows of further settings, which win over the built-in ones, and over those of later files; may be repeated",
     ),
     (
         "ignore",
         "",
         Takes::Value("CODE", &[]),
-        "Report no finding with this code or, if it is a KEY, about keys that it covers as that of a row",
+        "Report no finding with this code or, if it is a KEY, about keys that it covers as that of a row; may be \
+repeated",
     ),
 ];
 
@@ -80,7 +81,7 @@ const ONCE: &[Row] = &[
         "diff",
         "",
         Takes::Ever,
-        "Write what --fix would change as a unified diff, and change nothing",
+        "Write what --fix would change as a unified diff, and change nothing: the exit status is as without it",
     ),
     (
         "exit-zero",
@@ -104,7 +105,8 @@ const ONCE: &[Row] = &[
         "root",
         "",
         Takes::Value("DIR", &[]),
-        "Look for users, and for included files with an absolute path or below a home directory, in this folder",
+        "Look for users, and for included files with an absolute path or below a home directory, in this folder; HOME is \
+the name that its user's home has there, as /home/ann",
     ),
     (
         "baseline",

@@ -4,11 +4,11 @@ ghost use Rattle.std.specs.Prelude.{None};
 use crate::annotations::put_annotation;
 use crate::causes::Cause;
 use crate::changes::{Mended, Mender};
-use crate::hints::{Hint, hint_for, put_slots};
+use crate::hints::{Hint, hint_for, key_in_order, name_meant, put_slots};
 use crate::options::{Asked, Format, Ignored, Output, Style};
 use crate::sarif::result_of;
 use crate::source::{Source, Spot};
-use crate::text::{put, put_hint, put_number, put_text};
+use crate::text::{put, put_hint, put_meant, put_number, put_text};
 use config_checks::check::{CheckError, Counts, Receiver};
 use config_checks::code::{Code, EXPLAINED};
 use config_checks::finding::Finding;
@@ -81,31 +81,40 @@ struct Counted {
     count: u64,
 }
 
-/// The reason of a finding about an entry, with what is known of its value, and the slots that rows have.
+/// The reason of a finding about an entry, with what is known of its value, and the key that is suggested or the slots that
+/// rows have.
 fn reason_of_entry(
     alloc: Global,
     rows: &[Row<'_>],
     finding: &Finding<'_>,
     hint: &Hint<'_>,
+    key: &Option<Vec<u8>>,
 ) -> Result<Vec<u8>, AllocError> {
     let mut reason = Text::new(alloc);
     reason.put(finding.reason);
     put_hint(&mut reason, hint);
-    put_slots(alloc, &mut reason, rows, finding)?;
+    match key {
+        Some(key) => put_meant(&mut reason, key),
+        None => put_slots(alloc, &mut reason, rows, finding)?,
+    }
     reason.end()
 }
 
-/// What is told of a line that Git cannot read: the reason and the cause.
+/// What is told of a line that Git cannot read: the reason, the cause, and the name that is suggested for its key.
 fn reason_of_line(
     alloc: Global,
     finding: &Finding<'_>,
     cause: &Cause,
+    meant: Option<&[u8]>,
 ) -> Result<Vec<u8>, AllocError> {
     let mut reason = Text::new(alloc);
     reason.put(finding.reason);
     if let Some(why) = cause.why {
         put(&mut reason, ": ");
         put(&mut reason, why);
+    }
+    if let Some(name) = meant {
+        put_meant(&mut reason, name);
     }
     reason.end()
 }
@@ -320,9 +329,10 @@ impl<W: Write> Lines<'_, '_, '_, '_, '_, '_, W> {
         setting: &Setting<'_>,
         finding: &Finding<'_>,
     ) -> Result<Vec<u8>, AllocError> {
-        let hint = hint_for(self.alloc, finding)?;
+        let hint = hint_for(self.alloc, self.rows, finding)?;
+        let key = key_in_order(self.alloc, self.rows, finding)?;
         let spot = self.source.spot(finding, hint.wrong);
-        let reason = reason_of_entry(self.alloc, self.rows, finding, &hint)?;
+        let reason = reason_of_entry(self.alloc, self.rows, finding, &hint, &key)?;
         let mended = if hint.is_sure { Some(setting) } else { None };
         let mut whole = Finding {
             line: spot.number,
@@ -332,6 +342,9 @@ impl<W: Write> Lines<'_, '_, '_, '_, '_, '_, W> {
         if let Some(meant) = &hint.meant {
             whole.suggested_value = Some(meant);
         }
+        if let Some(key) = &key {
+            whole.suggested_key = Some(key);
+        }
         self.text_for(&whole, &spot, mended)
     }
 
@@ -339,7 +352,8 @@ impl<W: Write> Lines<'_, '_, '_, '_, '_, '_, W> {
     fn text_for_line(&mut self, finding: &Finding<'_>) -> Result<Vec<u8>, AllocError> {
         let cause = Cause::of(self.source.text);
         let spot = self.source.spot_of_cause(finding.line, &cause);
-        let reason = reason_of_line(self.alloc, finding, &cause)?;
+        let meant = name_meant(self.alloc, self.rows, self.source.text, cause.at)?;
+        let reason = reason_of_line(self.alloc, finding, &cause, meant)?;
         let whole = Finding {
             reason: &reason,
             ..*finding

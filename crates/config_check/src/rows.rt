@@ -143,7 +143,7 @@ fn in_order<'t>(
 }
 
 /// The first bytes of a text that the name of a section may have.
-fn word_of(text: &[u8]) -> &[u8] {
+pub(crate) fn word_of(text: &[u8]) -> &[u8] {
     let mut count: usize = 0;
     for byte in text {
         if !byte.is_ascii_alphanumeric() && *byte != b'-' {

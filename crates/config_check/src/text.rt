@@ -120,10 +120,15 @@ pub(crate) fn put_hint(text: &mut Text, hint: &Hint<'_>) {
         put(text, "' is none");
     }
     if let Some(meant) = &hint.meant {
-        put(text, "; did you mean ");
-        put_shown(text, meant);
-        put(text, "?");
+        put_meant(text, meant);
     }
+}
+
+/// Appends a suggestion.
+pub(crate) fn put_meant(text: &mut Text, meant: &[u8]) {
+    put(text, "; did you mean ");
+    put_shown(text, meant);
+    put(text, "?");
 }
 
 /// Appends the place of a finding: its file, its line and its column.

@@ -105,6 +105,10 @@ def stops(group, program, folder, known):
     came = run([program.path, "stops"], cwd=folder, env=known)
     found = [line.split(": ")[0].split(":")[1] + line.split(": ")[1] for line in came.output.decode().splitlines()]
     group.expect("stops", ["2error", "3error", "4note", "5note", "8warning", "8note", "10error"], found)
+    (folder / "stops").write_text(PATH % "")
+    for name in ("stops", "./stops"):
+        told = b"%s:2:2: error: include.path: '': the path is empty, and so names a folder, at which Git stops [include-path]\n"
+        group.expect("an empty path", told % name.encode(), run([program.path, name], cwd=folder, env=known).output)
 
 
 def check(group, program):

@@ -25,7 +25,7 @@ NUL = b"a NUL byte outside a comment"
 
 # a key, cut at its first and at its last dot; if it has only one dot, there is no middle
 Key = collections.namedtuple("Key", "first middle last")
-Row = collections.namedtuple("Row", "key since until instead wanted must alone warns kind words text")
+Row = collections.namedtuple("Row", "key since until instead old wanted must alone warns kind words text")
 # the Git by whose rows values are judged if none is named
 NEWEST = (2, 55)
 
@@ -251,6 +251,15 @@ def number_hint(text):
     return asked(plain)
 
 
+def joined_hint(words, at):
+    """The color that is meant if a wrong word and the next one are one word, as in `light green`."""
+    words = [word for place, word in enumerate(words) if word or place == at]
+    at = next(place for place, word in enumerate(words) if color(word) is None)
+    word = nearest_text(COLORS_MEANT, b"".join(words[at:at + 2])) if at + 1 < len(words) else None
+    whole = b" ".join([*words[:at], word or b"", *words[at + 2:]])
+    return b"" if word is None or color(whole) is None else asked(whole)
+
+
 def color_hint(text):
     """The word that is wrong, if there are several, and the color that is meant."""
     words = re.split(rb"[ \t\n\r\f]", text)
@@ -262,9 +271,9 @@ def color_hint(text):
     if color(parts) is not None:
         return named + asked(b" ".join(part for part in re.split(rb"[ \t\n\r\f]", parts) if part))
     word = nearest_text(COLORS_MEANT, wrong)
-    if word is None:
-        return named
     at = words.index(wrong)
+    if word is None:
+        return named + joined_hint(words, at)
     whole = b" ".join(part for part in words[:at] + [word] + words[at + 1:] if part)
     return named + asked(word if color(whole) is None else whole)
 
@@ -331,9 +340,31 @@ def meant(words, text):
 MOST_WORDS = 10
 
 
-def hint(form, text):
-    """The boolean or number that is suggested if no word is near and the form takes one."""
-    return {b"bool-or-word": boolean_hint, b"int-or-word": number_hint}.get(form, lambda _: b"")(text)
+def sort_key_hint(words, text):
+    """The key to sort by with the nearest name in it."""
+    rest = SORT_NAME.fullmatch(text)[1]
+    name, *after = rest.split(b":", 1)
+    word = nearest_text([word for word in words if not word.endswith(b"*")], name)
+    return b"" if word is None else asked(text.removesuffix(rest) + b":".join([word, *after]))
+
+
+def list_hint(words, any_case, text):
+    """The first piece of a list that is none of the words, if there are several pieces, and the list with the nearest word in it."""
+    wrong = next(piece for piece in re.finditer(rb"[^, \t\n\r]+", text) if matching(words, piece[0], any_case) is None)
+    named = b"" if wrong[0] == text else b"; '%s' is none" % cut(wrong[0])[0]
+    word = nearest_text([word for word in words if not word.endswith(b"*")], wrong[0])
+    name, equals, after = wrong[0].partition(b"=")
+    if word is None and equals:
+        front = nearest_text([word.removesuffix(b"=*") for word in words if word.endswith(b"=*")], name)
+        word = None if front is None else front + equals + after
+    return named if word is None else named + asked(text[:wrong.start()] + word + text[wrong.end():])
+
+
+def hint(form, words, any_case, text):
+    """What is suggested if no word is near: a boolean or number if the form takes one, or a value with another part."""
+    return {b"bool-or-word": lambda: boolean_hint(text), b"int-or-word": lambda: number_hint(text),
+            b"sort-key": lambda: sort_key_hint(words, text),
+            b"words": lambda: list_hint(words, any_case, text)}.get(form, lambda: b"")()
 
 
 def of_words(kind, words, text):
@@ -345,7 +376,8 @@ def of_words(kind, words, text):
     spelling = spelled_by_form(form, words, text, any_case)
     if spelling is None:
         more = b" and %d more" % (len(words) - MOST_WORDS) if len(words) > MOST_WORDS else b""
-        raise Refused(FORMS[form] + b", ".join(map(shown, words[:MOST_WORDS])) + more + (meant(words, text) or hint(form, text)))
+        raise Refused(FORMS[form] + b", ".join(map(shown, words[:MOST_WORDS])) + more +
+                      ((form != b"sort-key" and meant(words, text)) or hint(form, words, any_case, text)))
     return spelling
 
 
@@ -429,12 +461,18 @@ def outside(row):
     return None
 
 
+def is_old(row, value):
+    """Whether a right value means what Git calls deprecated."""
+    return meaning(row, b"true" if value is None else value) == meaning(row, row.old)
+
+
 def reason(row, value, canonical):
     """The severity and the reason of a value that is reported, or None; `value` is None for a key alone."""
     if outside(row) is not None:
         return outside(row)
     found = wrong(row, value, canonical)
-    if row.instead is not None and (found is None or found.startswith(b"note: ")):
+    is_right = found is None or found.startswith(b"note: ")
+    if row.instead is not None and is_right and (row.old is None or is_old(row, value)):
         return b"warning: deprecated: use " + shown(row.instead)
     return found
 
@@ -500,7 +538,7 @@ def row_of(fields):
     """The row with these fields; None if they are not a row."""
     text, *rest = fields
     marks = {}
-    for mark in (b"since=", b"until=", b"instead=", b"is="):
+    for mark in (b"since=", b"until=", b"instead=", b"old=", b"is="):
         if rest and rest[0].startswith(mark):
             marks[mark] = rest.pop(0).removeprefix(mark)
     versions = [version(marks[mark]) if mark in marks else None for mark in (b"since=", b"until=")]
@@ -520,8 +558,8 @@ def row_of(fields):
     is_row = bounds(words) is not None if kind == b"int" else bool(words) == (kind in WITH_WORDS)
     if not is_row:
         return None
-    row = Row(key_of(text), *versions, marks.get(b"instead="), marks.get(b"is="), must, kind in RIGHT_ALONE if alone is None else alone,
-              warns, kind, words, text)
+    row = Row(key_of(text), *versions, marks.get(b"instead="), marks.get(b"old="), marks.get(b"is="), must,
+              kind in RIGHT_ALONE if alone is None else alone, warns, kind, words, text)
     # a row may want any path, whatever users there are
     is_taken = row.wanted is None or kind == b"path" or wrong(row, row.wanted, False) is None
     return row if is_taken else None
@@ -645,7 +683,7 @@ TOPICS = [b"advice", b"color", b"credential", b"pager"]
 def is_moved(pattern, key):
     """Whether the key of a row has the last part of a key in another section, and neither has a middle."""
     return (pattern.middle is None and key.middle is None and pattern.last == key.last and pattern.first != key.first
-            and pattern.first not in TOPICS)
+            and pattern.first not in TOPICS and pattern.last != b"color")
 
 
 def slots_of(rows, middle):
@@ -656,6 +694,17 @@ def slots_of(rows, middle):
         if row.key.first == b"color" and row.key.middle == middle:
             found.setdefault(row.key.last, row.text.rpartition(b".")[2])
     return list(found.values())
+
+
+def in_order(rows, key):
+    """The key of a row without a middle that has the parts of a key in another order, or None."""
+    if key.first == b"color" and key.middle is not None:
+        wanted = (key.middle.lower(), None, key.last)
+    elif key.last == b"color" and key.middle is None:
+        wanted = (b"color", None, key.first)
+    else:
+        return None
+    return next((row.text for row in sorted(rows, key=lambda row: outside(row) is not None) if tuple(row.key) == wanted), None)
 
 
 def has_slots(middle, slots):
@@ -676,9 +725,12 @@ def unknown(rows, text):
         return b"warning: unknown key; did you mean %s?" % shown(filled(rows[found].text, key))
     if key.middle is not None:
         slots = slots_of(rows, key.middle) if key.first == b"color" else []
-        return b"warning: unknown key" + has_slots(key.middle, slots) if slots else None
+        if not slots:
+            return None
+        other = in_order(rows, key)
+        return b"warning: unknown key" + (has_slots(key.middle, slots) if other is None else asked(other))
     is_own = key.first not in SHARED and any(row.key.first == key.first for row in rows)
-    return b"warning: unknown key" if is_own else None
+    return b"warning: unknown key" + (b"" if in_order(rows, key) is None else asked(in_order(rows, key))) if is_own else None
 
 
 # input and output
@@ -913,7 +965,8 @@ def member_texts(place, key, value, why):
     """The JSON members of a finding in standard input; the line that Git cannot read has no column."""
     severity, _, text = why.partition(b": ")
     code = code_of(why)
-    names_key = code in ("unknown-key", "deprecated")
+    # the deprecated keys of the rows have a dot, and their deprecated values have none
+    names_key = code == "unknown-key" or code == "deprecated" and b"." in suggestion(why)
     members = {"key": key, "reason": text, "severity": severity, "value": value,
                "suggested_key": suggestion(why) if names_key else None,
                "suggested_value": None if names_key else suggestion(why)}

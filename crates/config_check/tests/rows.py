@@ -43,6 +43,9 @@ mark.until until=2.55 bool
 mark.reached since=2.55 until=2.55.1 warn int 1 9
 mark.reached since=2.3 until=3.0 int
 mark.instead instead=mark.since bool
+mark.old instead=false old=on bool
+mark.old-word instead=Two old=one word one Two
+mark.old-alone old=one text
 want.bool is=true bool
 want.off is=off bool
 want.int is=1k int
@@ -213,6 +216,7 @@ ACCEPTED = [
     (b"mark.needs", [b"", b"yes"]),
     (b"mark.warn", [b"-1", b"0", b"16k"]),
     (b"mark.both", [None, b"one"]),
+    (b"mark.old", [b"no", b"", b"0"]), (b"mark.old-word", [b"Two"]), (b"mark.old-alone", [b"one"]),
     (b"mark.needs-warn", [b"one", b"yes", b""]),
     (b"mark.reached", [b"10", b"0"]),
 ]
@@ -259,14 +263,14 @@ REPORTED = [
     (b"test.int-or-word", NO_VALUE, [None]),
     (b"test.int-or-word", NO_INT_OR_WORD, [b"", b"yes", b"2147483648", *NO_NUMBERS]),
     (b"test.words", NO_VALUE, [None]),
-    (b"test.words", NOT_WORDS, [b"one;Two", b"one,two", b"tab", b"tab+*", b"TAB=1", b"L", b"xl"]),
+    (b"test.words", NOT_WORDS, [b"one;Two", b"tab", b"tab+*", b"xyb=1", b"L", b"xl"]),
+    (b"test.words", NOT_WORDS + b"; 'xxxx' is none", [b"one,xxxx", b"xxxx one", b"\tTwo,xxxx,yyyy"]),
     (b"test.words-any-case", b"error: not a list of: one, tab=*", [b"one-tab="]),
     (b"test.date", NO_VALUE, [None]),
     (b"test.hash", b"error: not one of: a#b, #, #c", [b"", b"\\\\#", b"no-word", b"\\\\d"]),
     (b"test.date", NO_DATE, [b"", b"j", b"nowadays", b"xja", b" ", b"\xc3\xa9"]),
     (b"test.sort-key", NO_VALUE, [None]),
-    (b"test.sort-key", NO_SORT_KEY, [b"", b"-", b"--name", b"*-name", b"-:name", b"v:version:name", b"name,date",
-                                     b"versionname"]),
+    (b"test.sort-key", NO_SORT_KEY, [b"", b"-", b"-:name", b"v:version:name", b"name,date", b"versionname"]),
     (b"mark.needs", NO_VALUE, [None]),
     (b"want.bool", b"error: has to be true", [b"no", b"0", b""]), (b"want.bool", BOOLEAN_FAULT, [b"x"]),
     (b"want.off", b"error: has to be off", [None, b"yes", b"1"]), (b"want.int", b"error: has to be 1k", [b"1", b"1m"]),
@@ -283,6 +287,8 @@ REPORTED = [
     (b"mark.until", b"warning: Git reads it only before 2.55", [None, b"", b"x"]),
     (b"mark.instead", b"warning: deprecated: use mark.since", [None, b"yes", b"true"]),
     (b"mark.instead", BOOLEAN_FAULT, [b"x"]),
+    (b"mark.old", b"warning: deprecated: use false", [None, b"yes", b"1", b"true"]), (b"mark.old", BOOLEAN_FAULT, [b"x"]),
+    (b"mark.old-word", b"warning: deprecated: use Two", [b"one"]), (b"mark.old-word", NO_VALUE, [None]),
     (b"mark.needs-warn", NO_VALUE, [None]),
     (b"mark.needs-warn", b"warning: not a boolean, nor one of: one", [b"x"]),
 ]
@@ -300,11 +306,13 @@ MEANT = [
     (b"both.bytes", b"error: not a boolean, nor one of: yes, 1, auto", {b"Auto": b"auto", b"yess": b"yes", b"ye": b"yes"}),
     (b"both.any-case", b"error: not a boolean, nor one of: Yes, 0X10, auto", {b"aut": b"auto", b"0x1t0": b"0X10"}),
     (b"test.int-or-word", NO_INT_OR_WORD, {b"Auto": b"auto", b"autoo": b"auto", b"0X80000000": b"0x80000000"}),
-    (b"test.words", NOT_WORDS, {b"One": b"one", b"three": b"-three", b"--three": b"-three"}),
+    (b"test.words", NOT_WORDS, {b"One": b"one", b"three": b"-three", b"--three": b"-three", b"TAB=1": b"tab=1", b"tap=": b"tab="}),
+    (b"test.words", NOT_WORDS + b"; 'two' is none", {b"one,two": b"one,Two", b" two,one": b" Two,one", b"two two": b"Two two"}),
     (b"test.words-any-case", b"error: not a list of: one, tab=*", {b"on": b"one"}),
     (b"test.date", NO_DATE, {b"snow": b"now", b"no": b"now"}),
     (b"test.sort-key", NO_SORT_KEY, {b"nam": b"name", b"namee": b"name", b"Name": b"name", b" name": b"name", b"dtae": b"date",
-                                     b"nate": b"name"}),
+                                     b"nate": b"name", b"--name": b"-name", b"*-name": b"*name", b"-naem": b"-name",
+                                     b"-version:nam": b"-version:name", b"v:dat:x:y": b"v:date:x:y"}),
     (b"mark.both", b"warning: not one of: one", {b"One": b"one"}),
     (b"mark.needs-warn", b"warning: not a boolean, nor one of: one", {b"One": b"one"}),
 ]
@@ -491,6 +499,8 @@ MISSPELLED_BUILT_IN = [
     (b"rebase.conflictstyle", b"merge.conflictStyle"), (b"pull.default", b"push.default"), (b"push.rebase", b"pull.rebase"),
     (b"commit.signoff", b"format.signOff"), (b"core.defaultbranch", b"init.defaultBranch"), (b"user.editor", b"core.editor"),
     (b"core.email", b"user.email"), (b"maintainance.auto", b"maintenance.auto"), (b"diff.renam", b"diff.renames"), (b"core.longpath", b"core.longpaths"),
+    (b"grep.color", b"color.grep"), (b"showbranch.color", b"color.showBranch"), (b"log.color", None),
+    (b"color.diff.colormoved", b"diff.colorMoved"),
 ]
 
 # built-in rows: key, value, and a prefix of the line's severity and reason
@@ -501,6 +511,10 @@ BUILT_IN = [
     (b"core.bigFileThreshold", b"-1", b"error: out of range: not from 0 to "),
     (b"push.default", b"everything", b"error: not one of: "), (b"push.default", b"simple", None),
     (b"push.default", b"nothing", None), (b"push.default", None, NO_VALUE),
+    (b"push.default", b"tracking", b"warning: deprecated: use upstream"),
+    (b"core.commentchar", b"auto", b"warning: deprecated: use #"), (b"core.commentchar", b"Auto", None), (b"core.commentchar", b";", None),
+    (b"core.commentstring", b"auto", b"warning: deprecated: use #"), (b"core.commentstring", b"//", None),
+    (b"core.prefersymlinkrefs", None, b"warning: deprecated: use false"), (b"core.prefersymlinkrefs", b"no", None),
     (b"color.branch.local", b"purple", COLOR_FAULT), (b"color.branch.local", b"bold red", None),
     (b"branch.x.rebase", b"maybe", b"error: not a boolean, nor one of: "), (b"branch.x.rebase", b"true", None),
     (b"branch.a.b.rebase", b"interactive", None), (b"branch.x.rebase", None, None),

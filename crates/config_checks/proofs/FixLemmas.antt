@@ -18,7 +18,7 @@ use Rattle.config_checks.specs.declared.setting.Setting.{Setting}
 use Rattle.config_checks.specs.declared.suggestion.UnknownKey.{UnknownKey}
 use Rattle.config_checks.specs.Findings.{Finding}
 use Rattle.config_checks.specs.Fixes.{IsClean, IsOnlyMeant, IsOnlyKey, MendsValue, IsRenamed, MendsKey, Mends}
-use Rattle.config_checks.specs.Fixes.{IsSafe, IsSafeName, IsSafeValue, spelled, asked, mistyped, IsTypingError}
+use Rattle.config_checks.specs.Fixes.{IsSafeName, IsSafeValue, spelled, asked, mistyped, IsTypingError}
 use Rattle.config_checks.specs.Nearest.{FewEdits, most_edits}
 use Rattle.config_file.specs.Key.{Key, IsCut}
 use Rattle.config_file.proofs.OneKey.{cut_same}

@@ -26,7 +26,7 @@ use Rattle.config_checks.specs.Reasons.{IsJudged, IsJudgedWithin, IsJudgedBool, 
 use Rattle.config_checks.specs.Reasons.{IsMeant, IsJudgedPath, IsJudgedText, IsComparedTo, IsJudgedAlone}
 use Rattle.config_checks.specs.Reasons.{IsJudgedByRow, HasReason, IsRespelled, IsRespelledAs}
 use Rattle.config_checks.specs.Reasons.{IsRespelledByForm, IsRespelledByWords, HasSpelling, IsOutside}
-use Rattle.config_checks.specs.Reasons.{IsRemarkBy, HasFinding, IsSameFinding}
+use Rattle.config_checks.specs.Reasons.{IsSpelled, IsRemarkBy, HasFinding, IsSameFinding}
 use Rattle.config_checks.specs.Reasons.IsJudgedByRow.{refused, taken}
 use Rattle.config_checks.specs.Reasons.HasFinding.{outside, wrong, right}
 use Rattle.config_checks.specs.declared.version.Version.{Version}
@@ -187,11 +187,19 @@ spelling_once kind (Some t) a b p q = grind (
 
 -- ---- the finding
 
-remark_once : (instead : Option (Bor (List ℕ))) (wants : Bool) (kind : SettingKind) (value : Option (List ℕ)) (a b : Option Reason)
-    → IsRemarkBy instead wants kind value a → IsRemarkBy instead wants kind value b → IsSameFinding a b
-remark_once (Some word) wants kind value a b p q = as_same a b (p ∙ sym q)
-remark_once None true kind value a b p q = spelling_once kind value a b p q
-remark_once None false kind value a b p q = as_same a b (p ∙ sym q)
+spelled_once : (wants : Bool) (kind : SettingKind) (value : Option (List ℕ)) (a b : Option Reason) → IsSpelled wants kind value a
+    → IsSpelled wants kind value b → IsSameFinding a b
+spelled_once true kind value a b p q = spelling_once kind value a b p q
+spelled_once false kind value a b p q = as_same a b (p ∙ sym q)
+
+remark_once : (instead old : Option (Bor (List ℕ))) (wants : Bool) (kind : SettingKind) (value : Option (List ℕ))
+    (a b : Option Reason) → IsRemarkBy instead old wants kind value a → IsRemarkBy instead old wants kind value b → IsSameFinding a b
+remark_once (Some word) None wants kind value a b p q = as_same a b (p ∙ sym q)
+remark_once (Some word) (Some old) wants kind value a b (inl p) (inl q) = as_same a b (p.1 ∙ sym q.1)
+remark_once (Some word) (Some old) wants kind value a b (inl p) (inr q) = absurd (q.0 p.0)
+remark_once (Some word) (Some old) wants kind value a b (inr p) (inl q) = absurd (p.0 q.0)
+remark_once (Some word) (Some old) wants kind value a b (inr p) (inr q) = spelled_once wants kind value a b p.1 q.1
+remark_once None old wants kind value a b p q = spelled_once wants kind value a b p q
 
 module _ (git : Version) (row : Row) where
   not_outside : IsOf git row → (reason : Reason) → ¬ (IsOutside git row reason)
@@ -212,4 +220,4 @@ module _ (options : Options) (row : Row) where
   finding_once value a b (right of judged remark) (wrong of' s judged' is') =
       absurd (none_before s (reason_once options.users row value None (Some s) judged judged'))
   finding_once value a b (right of judged remark) (right of' judged' remark') =
-      remark_once row.instead options.canonical row.kind value a b remark remark'
+      remark_once row.instead row.old options.canonical row.kind value a b remark remark'

@@ -8,7 +8,7 @@ use Rattle.config_checks.specs.declared.shape.Shape.{Shape}
 use Rattle.config_checks.specs.declared.shape.Shape.TheVariants as shapes
 use Rattle.config_checks.specs.declared.reason.Reason.{Reason}
 use Rattle.config_checks.specs.declared.reason.Reason.TheVariants.{NoValue, Refused, OutOfRange, NoWord, NoHome, Misshapen, IsNot}
-use Rattle.config_checks.specs.declared.reason.Reason.TheVariants.{TooNew, Gone, Deprecated, NotCanonical, OtherCase}
+use Rattle.config_checks.specs.declared.reason.Reason.TheVariants.{TooNew, Gone, Deprecated, Outdated, NotCanonical, OtherCase}
 
 abbrev pub code_name : Code → List ℕ
 code_name kind.BadBoolean = codes "bad-boolean"
@@ -67,5 +67,6 @@ code_of (IsNot wanted) = kind.OtherValue
 code_of (TooNew since) = kind.TooNew
 code_of (Gone until) = kind.Gone
 code_of (Deprecated word) = kind.Deprecated
+code_of (Outdated word) = kind.Deprecated
 code_of (NotCanonical canonical) = kind.NotCanonical
 code_of (OtherCase word) = kind.NotCanonical

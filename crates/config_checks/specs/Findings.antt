@@ -18,7 +18,7 @@ use Rattle.config_checks.specs.declared.kind.Form.TheVariants as forms
 use Rattle.config_checks.specs.declared.kind.WordList.{WordList}
 use Rattle.config_checks.specs.declared.reason.Reason.{Reason}
 use Rattle.config_checks.specs.declared.reason.Reason.TheVariants.{NoValue, Refused, OutOfRange, NoWord}
-use Rattle.config_checks.specs.declared.reason.Reason.TheVariants.{NoHome, Misshapen, IsNot, TooNew, Gone, Deprecated}
+use Rattle.config_checks.specs.declared.reason.Reason.TheVariants.{NoHome, Misshapen, IsNot, TooNew, Gone, Deprecated, Outdated}
 use Rattle.config_checks.specs.declared.reason.Reason.TheVariants.{NotCanonical, OtherCase}
 use Rattle.config_checks.specs.Shapes.{shape_fault}
 use Rattle.config_checks.specs.declared.version.Version.{Version}
@@ -108,6 +108,7 @@ reason_text (IsNot wanted) = codes "has to be " ++ shown wanted.now
 reason_text (TooNew since) = version_text (codes "Git reads it only since ") since
 reason_text (Gone until) = version_text (codes "Git reads it only before ") until
 reason_text (Deprecated word) = codes "deprecated: use " ++ shown word.now
+reason_text (Outdated word) = codes "deprecated: use " ++ shown word.now
 reason_text (NotCanonical canonical) = codes "should be " ++ canonical.bytes
 reason_text (OtherCase word) = codes "should be " ++ shown word.now
 

@@ -22,7 +22,7 @@ use Rattle.config_checks.specs.declared.paths.KnownUsers.{KnownUsers}
 use Rattle.config_checks.specs.declared.row.Row.{Row}
 use Rattle.config_checks.specs.declared.reason.Reason.{Reason}
 use Rattle.config_checks.specs.declared.reason.Reason.TheVariants.{NoValue, Refused, OutOfRange, NoWord, NoHome, Misshapen, IsNot}
-use Rattle.config_checks.specs.declared.reason.Reason.TheVariants.{TooNew, Gone, Deprecated, NotCanonical, OtherCase}
+use Rattle.config_checks.specs.declared.reason.Reason.TheVariants.{TooNew, Gone, Deprecated, Outdated, NotCanonical, OtherCase}
 use Rattle.config_checks.specs.declared.reason.Severity.{Severity}
 use Rattle.config_checks.specs.declared.reason.Severity.TheVariants.{Error, Warning, Note}
 use Rattle.config_checks.specs.Kinds.{IsPattern, IsSame, HasWord, IsNoWord, IsFirstWord, AreWords, HasDate, IsSortKey}
@@ -98,9 +98,15 @@ abbrev pub IsMeant : List (Bor (List ℕ)) → List ℕ → Option (Bor (List �
 IsMeant words t None = AreFar (WordEdits t) words
 IsMeant words t (Some word) = IsNearest (WordEdits t) words word
 
+-- the word that is suggested for a text by a list of this form; the word of a key to sort by is only part of one
+abbrev pub IsMeantBy : Form → List (Bor (List ℕ)) → List ℕ → Option (Bor (List ℕ)) → Type 0
+IsMeantBy forms.SortKey words t meant = meant ≡ None
+IsMeantBy form words t meant = IsMeant words t meant
+
 abbrev pub IsJudgedByWords : WordList → List ℕ → Option Reason → Type 0
 IsJudgedByWords list t None = IsTaken list t
-IsJudgedByWords list t (Some (NoWord l meant)) = (l.now ≡ list) × ¬ (IsTaken list t) × IsMeant list.words.items t meant
+IsJudgedByWords list t (Some (NoWord l meant)) = (l.now ≡ list) × ¬ (IsTaken list t)
+    × IsMeantBy list.form list.words.items t meant
 IsJudgedByWords list t (Some _) = ⊥
 
 -- no reason unless these users lack the home directory that the path begins with
@@ -179,12 +185,13 @@ HasReason users row None r = IsJudgedAlone row.takes_no_value row r
 HasReason users row (Some t) r = IsJudgedByRow users row t r
 
 -- A missing value is an error. What only a newer Git reads is a note, as is another spelling. What Git no longer reads
--- is a warning, as is a deprecated setting. A wrong value is a warning if Git continues after it, and otherwise an error.
+-- is a warning, as is a deprecated setting or value. A wrong value is a warning if Git continues after it, and otherwise an error.
 abbrev pub severity_of : (goes_on : Bool) → Reason → Severity
 severity_of goes_on NoValue = Error
 severity_of goes_on (TooNew since) = Note
 severity_of goes_on (Gone until) = Warning
 severity_of goes_on (Deprecated word) = Warning
+severity_of goes_on (Outdated word) = Warning
 severity_of goes_on (NotCanonical canonical) = Note
 severity_of goes_on (OtherCase word) = Note
 severity_of goes_on _ = if goes_on then Warning else Error
@@ -239,16 +246,27 @@ IsOutside git row (TooNew since) = (row.since ≡ Some since) × IsBefore git si
 IsOutside git row (Gone until) = (row.until ≡ Some until) × ¬ (IsBefore git until) × ¬ (IsTooNew git row)
 IsOutside git row _ = ⊥
 
--- what replaces a deprecated setting; for other settings, if canonical texts are wanted, how the value should be spelled
-abbrev pub IsRemarkBy : Option (Bor (List ℕ)) → (wants_canonical : Bool) → SettingKind → Option (List ℕ) → Option Reason
-    → Type 0
-IsRemarkBy (Some word) wants_canonical kind value r = r ≡ Some (Deprecated word)
-IsRemarkBy None true kind value r = HasSpelling kind value r
-IsRemarkBy None false kind value r = r ≡ None
+-- the value means the same as this one; a key alone means `true`
+abbrev pub IsOld : SettingKind → Option (List ℕ) → List ℕ → Type 0
+IsOld kind None old = MeanSame kind (codes "true") old
+IsOld kind (Some t) old = MeanSame kind t old
+
+-- if canonical texts are wanted, how the value should be spelled
+abbrev pub IsSpelled : (wants_canonical : Bool) → SettingKind → Option (List ℕ) → Option Reason → Type 0
+IsSpelled true kind value r = HasSpelling kind value r
+IsSpelled false kind value r = r ≡ None
+
+-- what replaces a deprecated setting or, if only one value is deprecated, that value; for others, how they should be spelled
+abbrev pub IsRemarkBy : (instead old : Option (Bor (List ℕ))) → (wants_canonical : Bool) → SettingKind → Option (List ℕ)
+    → Option Reason → Type 0
+IsRemarkBy (Some word) None wants_canonical kind value r = r ≡ Some (Deprecated word)
+IsRemarkBy (Some word) (Some old) wants_canonical kind value r = (IsOld kind value old.now × (r ≡ Some (Outdated word)))
+    ⊎ (¬ (IsOld kind value old.now) × IsSpelled wants_canonical kind value r)
+IsRemarkBy None old wants_canonical kind value r = IsSpelled wants_canonical kind value r
 
 -- what is said of a right value, if there is anything to say
 abbrev pub IsRemark : (wants_canonical : Bool) → Row → Option (List ℕ) → Option Reason → Type 0
-IsRemark wants_canonical row value r = IsRemarkBy row.instead wants_canonical row.kind value r
+IsRemark wants_canonical row value r = IsRemarkBy row.instead row.old wants_canonical row.kind value r
 
 -- what a check finds for a setting, by its options, its row and its value, if it finds anything
 pub data HasFinding (options : Options) (row : Row) (value : Option (List ℕ)) (r : Option Reason) : Type 0 where

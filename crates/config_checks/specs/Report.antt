@@ -18,7 +18,7 @@ use Rattle.config_checks.specs.declared.code.Code.TheVariants as kind
 use Rattle.config_checks.specs.declared.row.Row.{Row}
 use Rattle.config_checks.specs.declared.setting.Setting.{Setting}
 use Rattle.config_checks.specs.declared.reason.Reason.{Reason}
-use Rattle.config_checks.specs.declared.reason.Reason.TheVariants.{Refused, NoWord, IsNot, Deprecated, NotCanonical, OtherCase}
+use Rattle.config_checks.specs.declared.reason.Reason.TheVariants.{Refused, NoWord, IsNot, Deprecated, Outdated, NotCanonical, OtherCase}
 use Rattle.config_checks.specs.declared.reason.Severity.{Severity}
 use Rattle.config_checks.specs.declared.reason.Severity.TheVariants.{Error, Warning, Note}
 use Rattle.config_checks.specs.declared.suggestion.UnknownKey.{UnknownKey}
@@ -38,6 +38,7 @@ value_meant (NoWord list meant) = option_copied meant
 value_meant (IsNot wanted) = Some wanted.now
 value_meant (NotCanonical canonical) = Some canonical.bytes
 value_meant (OtherCase word) = Some word.now
+value_meant (Outdated word) = Some word.now
 value_meant _ = None
 
 -- the key that is suggested in place of a deprecated one

@@ -115,8 +115,10 @@ pub record HasMarks (fields : List (List ℕ)) (marks : Marks) (rest : List (Lis
   pub until : CutsVersion after_since (codes "until=") marks.until after_until
   pub after_instead : List (List ℕ)
   pub instead : CutsText after_until (codes "instead=") (option_copied marks.instead) after_instead
+  pub after_old : List (List ℕ)
+  pub old : CutsText after_instead (codes "old=") (option_copied marks.old) after_old
   pub after_wanted : List (List ℕ)
-  pub wanted : CutsText after_instead (codes "is=") (option_copied marks.wanted) after_wanted
+  pub wanted : CutsText after_old (codes "is=") (option_copied marks.wanted) after_wanted
   pub after_must : List (List ℕ)
   pub must : CutsMark after_wanted (codes "must") marks.must after_must
   pub after_alone : List (List ℕ)
@@ -200,6 +202,7 @@ pub record SpellsRow (fields : List (List ℕ)) (row : Row) : Type 0 where
   pub since : row.since ≡ marks.since
   pub until : row.until ≡ marks.until
   pub instead : row.instead ≡ marks.instead
+  pub old : row.old ≡ marks.old
   pub wanted : row.wanted ≡ marks.wanted
   pub must : row.must ≡ marks.must
   pub takes_no_value : row.takes_no_value ≡ is_right_alone marks.alone row.kind

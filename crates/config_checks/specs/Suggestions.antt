@@ -113,13 +113,15 @@ unknown_severity key =
 abbrev pub IsTopic : List ℕ → Type 0
 IsTopic t = SameWord (codes "advice") t ⊎ (SameWord (codes "color") t ⊎ (SameWord (codes "credential") t ⊎ SameWord (codes "pager") t))
 
--- the key of the row has the key's name in another section, and neither key has a subsection
+-- The key of the row has the key's name in another section, and neither key has a subsection. A `color` may be that of
+-- many commands.
 pub record IsMoved (row key : Key) : Type 0 where
   pub row_alone : row.subsection ≡ None
   pub key_alone : key.subsection ≡ None
   pub name : SameWord row.name key.name
   pub section : ¬ (SameWord row.section key.section)
   pub no_topic : ¬ (IsTopic row.section)
+  pub no_color : ¬ (SameWord (codes "color") row.name)
 
 abbrev pub IsMovedRow : Key → Row → Type 0
 IsMovedRow key row = IsMoved (key_of row.key) key

@@ -223,7 +223,7 @@ pub const EXPLAINED: &[Explained] = &[
     },
     Explained {
         code: Code::Deprecated,
-        meaning: "Git calls the setting deprecated",
+        meaning: "Git calls the setting or its value deprecated",
         wrong: "[core]\n\tfsyncObjectFiles = true\n",
         right: "[core]\n\tfsync = loose-object\n",
     },
@@ -323,7 +323,7 @@ impl Reason<'_, '_> {
             Reason::IsNot(_) => Code::OtherValue,
             Reason::TooNew(_) => Code::TooNew,
             Reason::Gone(_) => Code::Gone,
-            Reason::Deprecated(_) => Code::Deprecated,
+            Reason::Deprecated(_) | Reason::Outdated(_) => Code::Deprecated,
             Reason::NotCanonical(_) | Reason::OtherCase(_) => Code::NotCanonical,
         }
     }

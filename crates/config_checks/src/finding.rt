@@ -251,6 +251,7 @@ pub fn push_reason(out: &mut Vec<u8>, reason: &Reason<'_, '_>) -> Result<(), All
         Reason::TooNew(since) => push_version(out, "Git reads it only since ", *since),
         Reason::Gone(until) => push_version(out, "Git reads it only before ", *until),
         Reason::Deprecated(word) => push_word(out, "deprecated: use ", word),
+        Reason::Outdated(word) => push_word(out, "deprecated: use ", word),
         Reason::NotCanonical(canonical) => {
             out.extend_from_slice(b"should be ")?;
             out.extend_from_slice(canonical.as_str().as_bytes())
@@ -333,6 +334,7 @@ pub(crate) fn value_meant<'r>(reason: &'r Reason<'_, '_>) -> Option<&'r [u8]>
         Reason::IsNot(wanted) => Some(wanted),
         Reason::NotCanonical(canonical) => Some(canonical.as_str().as_bytes()),
         Reason::OtherCase(word) => Some(word),
+        Reason::Outdated(word) => Some(word),
         _ => None,
     }
 }

@@ -444,8 +444,8 @@ fn safety_of(
 /// can make it unseen: the value that is suggested, unless another word is as near, or the last part of the key that is
 /// suggested in place of an unknown one, if the other parts stay and no other key is as near. A safe change undoes one
 /// typing error, a byte less, more or other, or two in the wrong order, or it writes what a row asks for, or the same
-/// value as Git writes it. Two typing errors, a missing word, another digit, an `s` at the end and a text of three bytes
-/// are guesses. It fails only if memory is refused.
+/// value as Git writes it. Two typing errors, a missing word, another digit, an `s` at the end, and a name or value of three
+/// bytes or fewer in place of the wrong one are guesses. It fails only if memory is refused.
 pub fn mend<'f>(
     alloc: Global,
     judge: &Judge<'_, '_>,

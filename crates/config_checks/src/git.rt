@@ -93,7 +93,7 @@ core.sparseCheckout                 bool
 core.sparseCheckoutCone             bool
 core.fsmonitor                      alone path
 core.checkRoundtripEncoding         text
-core.preferSymlinkRefs              bool
+core.preferSymlinkRefs              until=2.52 bool
 core.gitProxy                       text
 core.sshCommand                     text
 core.alternateRefsCommand           alone text
@@ -101,7 +101,7 @@ core.alternateRefsPrefixes          text
 core.sharedRepository               bool-or-word umask group all world everybody
 core.askPass                        text
 core.editor                         text
-core.commentChar                    text
+core.commentChar                    until=2.52 text
 core.pager                          text
 core.whitespace                     until=2.53 warn words trailing-space -trailing-space blank-at-eol \
     -blank-at-eol space-before-tab -space-before-tab indent-with-non-tab -indent-with-non-tab tab-in-indent \
@@ -594,7 +594,7 @@ pull.rebase                         bool-or-word merges m interactive i
 pull.octopus                        text
 pull.twohead                        text
 push.autoSetupRemote                bool
-push.default                        word nothing current upstream tracking simple matching
+push.default                        instead=upstream old=tracking word nothing current upstream tracking simple matching
 push.followTags                     bool
 push.gpgSign                        bool-or-word-any-case if-asked
 push.recurseSubmodules              words-any-case check on-demand only false no off 0* +0* -0*
@@ -1184,7 +1184,7 @@ advice.forceDeleteBranch            since=2.44 bool
 advice.rebaseTodoError              since=2.44 bool
 format.mboxrd                       since=2.44 bool
 pack.allowPackReuse                 since=2.44 bool-or-word-any-case single multi
-core.commentString                  since=2.45 text
+core.commentString                  since=2.45 until=2.52 text
 diff.dstPrefix                      since=2.45 text
 diff.srcPrefix                      since=2.45 text
 extensions.compatObjectFormat       since=2.45 word sha1 sha256
@@ -1272,6 +1272,9 @@ sendemail.imapSentFolder            since=2.52 alone text
 sendemail.useImapOnly               since=2.52 bool
 stash.index                         since=2.52 bool
 remote.*.token                      since=2.52 text
+core.commentChar                    since=2.52 instead=# old=auto text
+core.commentString                  since=2.52 instead=# old=auto text
+core.preferSymlinkRefs              since=2.52 instead=false old=true bool
 maintenance.strategy                since=2.52 word-any-case incremental gc geometric
 promisor.storeFields                since=2.53 warn words-any-case partialCloneFilter token
 replay.refAction                    since=2.53 word update print

@@ -90,8 +90,8 @@ pub enum SettingKind<'t> {
     Word(WordList<'t>),
 }
 
-/// Whether a byte separates the words of a list.
-fn is_separator(byte: u8) -> bool
+/// Whether a byte separates the words of a list: a comma, a space, a tab, a line feed or a carriage return.
+pub fn is_separator(byte: u8) -> bool
     ensures { result ≡ is_separator byte }
 {
     byte == b',' || byte == b' ' || byte == b'\t' || byte == b'\n' || byte == b'\r'
@@ -116,7 +116,7 @@ pub(crate) fn without_front<'a>(text: &'a [u8], front: &[u8]) -> &'a [u8]
 }
 
 /// A key to sort by without the prefixes `-`, `version:`, `v:` and `*`, in this order, if it has them.
-fn sort_name(text: &[u8]) -> &[u8]
+pub fn sort_name(text: &[u8]) -> &[u8]
     ensures { result.now ≡ sort_name text.now }
 {
     let ascending = without_front(text, b"-");

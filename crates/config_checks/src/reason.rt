@@ -5,11 +5,11 @@ ghost use Rattle.config_text.specs.declared.errors.Fault.TheVariants as faults;
 ghost use Rattle.gix_config_value.specs.Kinds.{KindGrammar, KindCanonical};
 ghost use Rattle.config_text.specs.Value.{IsAccepted};
 ghost use Rattle.gix_config_value.specs.Boolean.{BooleanText, CanonicalBoolean};
-ghost use Rattle.config_checks.specs.Reasons.{IsWithin, IsJudged, IsJudgedWithin, IsJudgedBool, IsInt};
+ghost use Rattle.config_checks.specs.Reasons.{IsWithin, IsJudged, IsJudgedWithin, IsJudgedBool, IsInt, IsMeantBy};
 ghost use Rattle.config_checks.specs.Reasons.{WordEdits, IsMeant, IsJudgedByWords, IsTakenByForm, IsTaken};
 ghost use Rattle.config_checks.specs.Reasons.{IsJudgedPath, IsJudgedText, HaveSameValue, AreSameBoolOrInt};
 ghost use Rattle.config_checks.specs.Reasons.{AreSameByForm, AreSameByWords, MeanSame, IsComparedTo};
-ghost use Rattle.config_checks.specs.Reasons.{IsJudgedAlone, HasReason, HasSpelling, IsOutside, IsRemark};
+ghost use Rattle.config_checks.specs.Reasons.{IsJudgedAlone, HasReason, HasSpelling, IsOutside, IsOld, IsSpelled, IsRemark};
 ghost use Rattle.config_checks.specs.Reasons.{HasFinding, severity_of, IsRespelled, IsRespelledBoolOrInt};
 ghost use Rattle.config_checks.specs.Reasons.{IsRespelledAs, IsRespelledByForm, IsRespelledByWords};
 ghost use Rattle.gix_config_value.specs.Amount.{AmountText};
@@ -74,6 +74,8 @@ pub enum Reason<'r, 't> {
     Gone(Version),
     /// Its value is valid, but Git warns of the setting. This is what to use instead.
     Deprecated(&'t [u8]),
+    /// Its value is valid, but Git warns of the value. This is the value to use instead.
+    Outdated(&'t [u8]),
     /// Its value is valid, but differs from this, its canonical text.
     NotCanonical(CanonicalText),
     /// Its value is valid, but is this word of the list in another case.
@@ -118,7 +120,7 @@ impl Reason<'_, '_> {
     {
         match self {
             Reason::NoValue => Severity::Error,
-            Reason::Gone(_) | Reason::Deprecated(_) => Severity::Warning,
+            Reason::Gone(_) | Reason::Deprecated(_) | Reason::Outdated(_) => Severity::Warning,
             Reason::TooNew(_) | Reason::NotCanonical(_) | Reason::OtherCase(_) => Severity::Note,
             _ if goes_on => Severity::Warning,
             _ => Severity::Error,
@@ -241,6 +243,20 @@ pub fn nearest_word<'t>(
     Ok(best.copied())
 }
 
+/// The nearest word of a list. `None` if no word is near, or if a word is only part of a right text.
+fn word_meant<'t>(
+    alloc: Global,
+    list: &WordList<'t>,
+    text: &[u8],
+) -> Result<Option<&'t [u8]>, AllocError>
+    ensures { IfOk result (IsMeantBy list.now.form list.now.words.items text.now) }
+{
+    match list.form {
+        Form::SortKey => Ok(None),
+        _ => nearest_word(alloc, &list.words, text),
+    }
+}
+
 /// Why a text is wrong according to a list of words, or `None` if it is right.
 fn word_reason<'r, 't>(
     alloc: Global,
@@ -252,7 +268,7 @@ fn word_reason<'r, 't>(
     if list.has(text) || is_taken_by_form(list, text) {
         return Ok(None);
     }
-    let meant = nearest_word(alloc, &list.words, text)?;
+    let meant = word_meant(alloc, list, text)?;
     Ok(Some(Reason::NoWord { list, meant }))
 }
 
@@ -494,7 +510,32 @@ pub fn outside<'r, 't>(row: &Row<'t>, git: Version) -> Option<Reason<'r, 't>>
     None
 }
 
-/// What is said of a valid value: what to use in place of a deprecated setting or, if canonical texts are
+/// Whether a value means the same as this one. A key alone means `true`.
+fn is_old(kind: &SettingKind<'_>, value: Option<&[u8]>, old: &[u8]) -> bool
+    ensures { IsTrue result ↔ IsOld kind.now (option_copied value.entry) old.now }
+{
+    match value {
+        Some(text) => mean_same(kind, text, old),
+        None => mean_same(kind, b"true", old),
+    }
+}
+
+/// How a valid value should be spelled, if canonical texts are wanted.
+fn spelling<'r, 't>(
+    row: &'r Row<'t>,
+    value: Option<&[u8]>,
+    wants_canonical: bool,
+) -> Option<Reason<'r, 't>>
+    requires { (users : Option declared.KnownUsers) × HasReason users row.now (option_copied value) None }
+    ensures { IsSpelled wants_canonical row.now.kind (option_copied value.entry) result }
+{
+    if !wants_canonical {
+        return None;
+    }
+    respelled(&row.kind, value?)
+}
+
+/// What is said of a valid value: what to use in place of a deprecated setting or value or, if canonical texts are
 /// wanted, how the value should be spelled. `None` if there is nothing to say.
 fn remark<'r, 't>(
     row: &'r Row<'t>,
@@ -504,17 +545,17 @@ fn remark<'r, 't>(
     requires { (users : Option declared.KnownUsers) × HasReason users row.now (option_copied value) None }
     ensures { IsRemark wants_canonical row.now (option_copied value.entry) result }
 {
-    if let Some(instead) = row.instead {
-        return Some(Reason::Deprecated(instead));
+    match (row.instead, row.old) {
+        (Some(instead), None) => Some(Reason::Deprecated(instead)),
+        (Some(instead), Some(old)) if is_old(&row.kind, value, old) => {
+            Some(Reason::Outdated(instead))
+        }
+        _ => spelling(row, value, wants_canonical),
     }
-    if !wants_canonical {
-        return None;
-    }
-    respelled(&row.kind, value?)
 }
 
 /// Returns what a check with these options finds for a setting with this row: that the row is not for this
-/// Git, why the value is wrong, what to use in place of a deprecated setting or, if canonical texts are
+/// Git, why the value is wrong, what to use in place of a deprecated setting or value or, if canonical texts are
 /// wanted, how the value should be spelled. Returns `None` if there is nothing to report, and an error if
 /// there is no memory to find the nearest word. `value` is `None` for a key alone.
 pub fn find<'r, 't>(

@@ -24,8 +24,10 @@ pub struct Row<'t> {
     pub since: Option<Version>,
     /// The first version of Git that no longer reads them as this row says.
     pub until: Option<Version>,
-    /// What to use instead, if Git calls these settings deprecated.
+    /// What to use instead, if Git calls these settings deprecated, or only the value `old` of them.
     pub instead: Option<&'t [u8]>,
+    /// The value that Git calls deprecated, if it does not call the settings so.
+    pub old: Option<&'t [u8]>,
     /// What the value has to mean, if the row asks for one meaning.
     pub wanted: Option<&'t [u8]>,
     /// Whether one of the files has to have such a setting.

@@ -245,7 +245,8 @@ fn is_topic(section: &[u8]) -> bool
         || is_same_word(b"pager", section)
 }
 
-/// Whether the key of a row has the name of a key in another section, and neither key has a subsection.
+/// Whether the key of a row has the name of a key in another section, and neither key has a subsection. A name `color`
+/// does not count: it may be that of many commands.
 fn is_moved(row: &Key<'_>, key: &Key<'_>) -> bool
     ensures { IsTrue result ↔ IsMoved (key_of row.now) (key_of key.now) }
 {
@@ -254,6 +255,7 @@ fn is_moved(row: &Key<'_>, key: &Key<'_>) -> bool
             is_same_word(row.name(), key.name())
                 && !is_same_word(row.section(), key.section())
                 && !is_topic(row.section())
+                && !is_same_word(COLOR, row.name())
         }
         _ => false,
     }

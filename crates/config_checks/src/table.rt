@@ -113,6 +113,7 @@ struct Marks<'t> {
     since: Option<Version>,
     until: Option<Version>,
     instead: Option<&'t [u8]>,
+    old: Option<&'t [u8]>,
     wanted: Option<&'t [u8]>,
     must: bool,
     alone: Option<bool>,
@@ -190,6 +191,7 @@ fn cut_marks<'f, 't>(fields: &'f [&'t [u8]]) -> Result<(Marks<'t>, &'f [&'t [u8]
     let (since, rest) = cut_version(fields, b"since=")?;
     let (until, rest) = cut_version(rest, b"until=")?;
     let (instead, rest) = cut_text(rest, b"instead=");
+    let (old, rest) = cut_text(rest, b"old=");
     let (wanted, rest) = cut_text(rest, b"is=");
     let (must, rest) = cut_mark(rest, b"must");
     let (alone, rest) = cut_alone(rest);
@@ -199,6 +201,7 @@ fn cut_marks<'f, 't>(fields: &'f [&'t [u8]]) -> Result<(Marks<'t>, &'f [&'t [u8]
             since,
             until,
             instead,
+            old,
             wanted,
             must,
             alone,
@@ -374,6 +377,7 @@ fn spelled_row<'t>(alloc: Global, line: &'t [u8]) -> Result<Option<Row<'t>>, Row
         since: marks.since,
         until: marks.until,
         instead: marks.instead,
+        old: marks.old,
         wanted: marks.wanted,
         must: marks.must,
         takes_no_value: marks.alone.unwrap_or(kind.takes_true()),
