@@ -341,7 +341,8 @@ def class_of(place, ours, git, running):
                                                                              b"error: relative config includes ")),
         classes.BARE: "safe.bareRepository" in place.words and ".git" in place.where.split("/"),
         classes.NO_WORD: git.status == -11 and "word alone" in place.words,
-        classes.NO_STORE: "store" in place.words and b"main_ref_store outside of repository" in git.told,
+        classes.NO_STORE: "store" in place.words and (b"main_ref_store outside of repository" in git.told
+                                                      or git.status == -11),
         classes.STORED: "store" in place.words,
     }
     return next((name for name, holds in rules.items()
@@ -416,6 +417,8 @@ PLACES = [
       for more in ({}, {"GIT_DIR": "../.git"}, {"GIT_DIR": "x"})),
     *(Shown(None, set(), {"GIT_COMMON_DIR": name}, "top/deep", {"top/.git/config": "[a]b=1\n"})
       for name in ("../.git", ".git", "", "F/top/.git")),
+    Shown(None, set(), {"GIT_COMMON_DIR": "../.git"}, "top/deep",
+          {"top/.git/config": "[core]repositoryformatversion=99\n", "system": ON_DIR}),
     *(Shown(None, set(), {name: f".{slashes}x"}, "top", {"top/x/.config/git/config": "[a]b=1\n", "top/x/git/config": "[a]b=2\n"})
       for name in ("HOME", "XDG_CONFIG_HOME") for slashes in ("/", "//")),
     *(Shown(None, set(), {"GIT_WORK_TREE": "", **more}, "top", {"top/.git/config": "[a]b=1\n"})

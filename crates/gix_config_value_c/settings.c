@@ -13,10 +13,11 @@ typedef struct block {
     char bytes[];
 } block;
 
-/* `slots` has 0, or one more than the index of the last setting with a key. */
+/* `sums` has those of the keys of the list, and `slots` 0, or one more than the index of the last setting with a key. */
 typedef struct gcv_memory {
     block *texts;
     gcv_setting *list;
+    uint64_t *sums;
     size_t room;
     size_t *slots;
     size_t slots_size;
@@ -24,17 +25,23 @@ typedef struct gcv_memory {
 
 enum { LEAST_BLOCK = 1 << 14, LEAST_LIST = 64, LONGEST_FILE = 1 << 30 };
 
-/* The slot of a key: that of a setting with the key, or an empty one. The sum begins with an address, so that nobody
- * can write keys that all have one slot. */
-static size_t slot_of(const gcv_memory *memory, const char *key)
+/* The sum of a key. It begins with an address, so that nobody can write keys that all have one slot. */
+static uint64_t sum_of(const gcv_memory *memory, const char *key)
 {
     uint64_t sum = 14695981039346656037u ^ (uint64_t)(uintptr_t)memory;
     for (const char *at = key; *at != '\0'; at++) {
         sum = (sum ^ (unsigned char)*at) * 1099511628211u;
         sum ^= sum >> 29;
     }
-    size_t slot = (size_t)sum & (memory->slots_size - 1);
-    while (memory->slots[slot] != 0 && strcmp(memory->list[memory->slots[slot] - 1].key, key) != 0) {
+    return sum;
+}
+
+/* The slot of a key with this sum: that of a setting with the key, or an empty one. */
+static size_t slot_of(const gcv_memory *memory, const char *key, uint64_t sum)
+{
+    size_t slot = (size_t)sum & (memory->slots_size - 1), at;
+    while ((at = memory->slots[slot]) != 0
+           && (memory->sums[at - 1] != sum || strcmp(memory->list[at - 1].key, key) != 0)) {
         slot = (slot + 1) & (memory->slots_size - 1);
     }
     return slot;
@@ -51,7 +58,7 @@ const gcv_setting *gcv_find_setting(const gcv_settings *settings, const char *ke
         listed[size] = '\0';
         key = listed;
     }
-    size_t found = settings->memory->slots[slot_of(settings->memory, key)];
+    size_t found = settings->memory->slots[slot_of(settings->memory, key, sum_of(settings->memory, key))];
     return found == 0 ? NULL : &settings->list[found - 1];
 }
 
@@ -89,7 +96,7 @@ static void index_first(gcv_memory *memory, size_t count)
 {
     memset(memory->slots, 0, memory->slots_size * sizeof *memory->slots);
     for (size_t at = 0; at < count; at++) {
-        memory->slots[slot_of(memory, memory->list[at].key)] = at + 1;
+        memory->slots[slot_of(memory, memory->list[at].key, memory->sums[at])] = at + 1;
     }
 }
 
@@ -102,7 +109,9 @@ static gcv_status make_room(gcv_memory *memory, size_t count)
     size_t room = count == 0 ? LEAST_LIST : 2 * count;
     gcv_setting *list = room > PTRDIFF_MAX / sizeof *list ? NULL : realloc(memory->list, room * sizeof *list);
     memory->list = list ? list : memory->list;
-    size_t *slots = list ? calloc(2 * room, sizeof *slots) : NULL;
+    uint64_t *sums = list ? realloc(memory->sums, room * sizeof *sums) : NULL;
+    memory->sums = sums ? sums : memory->sums;
+    size_t *slots = sums ? calloc(2 * room, sizeof *slots) : NULL;
     if (!slots) {
         return GCV_NO_MEMORY;
     }
@@ -165,6 +174,7 @@ void gcv_free_settings(gcv_settings *settings)
             each = before;
         }
         free(settings->memory->list);
+        free(settings->memory->sums);
         free(settings->memory->slots);
         free(settings->memory);
     }
@@ -337,11 +347,13 @@ static gcv_status append(reading *to, gcv_step *step)
     if (status != GCV_OK) {
         return status;
     }
-    size_t *slot = &memory->slots[slot_of(memory, step->key)];
+    uint64_t sum = sum_of(memory, step->key);
+    size_t *slot = &memory->slots[slot_of(memory, step->key, sum)];
     if (*slot != 0) {
         share_key(memory->texts, step, memory->list[*slot - 1].key);
     }
     gcv_setting setting = {step->key, step->value, step->file, step->line, to->source};
+    memory->sums[settings->count] = sum;
     memory->list[settings->count++] = setting;
     *slot = settings->count;
     return GCV_OK;

@@ -38,11 +38,11 @@ abbrev pub IsNamed : System → GitDir → List ℕ → Type 0
 IsNamed system it name = (name ≡ it.named) ⊎ (name ≡ resolved system it.name)
 
 -- the repository is that of this git directory: by its name without links, by a name that Git shows, and by the folder
--- that it shares where Git starts in this folder
+-- that it shares in the folder in which it is found
 abbrev pub IsOf : System → List ℕ → GitDir → Repository → Type 0
-IsOf system start it repository = (repository.real_git_dir.items ≡ or_itself repository.git_dir.items (system REAL it.name))
+IsOf system folder it repository = (repository.real_git_dir.items ≡ or_itself repository.git_dir.items (system REAL it.name))
     × IsNamed system it repository.named_dir.items
-    × (repository.common_dir.items ≡ shown_common system repository.named_dir.items (common_of system start it.name))
+    × (repository.common_dir.items ≡ shown_common system repository.named_dir.items (common_of system folder it.name))
 
 -- a git directory is there
 abbrev pub IsThere : Sought → Type 0
@@ -50,10 +50,10 @@ IsThere Nowhere = ⊥
 IsThere (Inside folder it) = Unit {0}
 IsThere (Refused text) = ⊥
 
-abbrev pub UsesIt : System → List ℕ → Sought → Repository → Type 0
-UsesIt system start Nowhere repository = ⊥
-UsesIt system start (Inside folder it) repository = IsOf system start it repository
-UsesIt system start (Refused text) repository = ⊥
+abbrev pub UsesIt : System → Sought → Repository → Type 0
+UsesIt system Nowhere repository = ⊥
+UsesIt system (Inside folder it) repository = IsOf system folder it repository
+UsesIt system (Refused text) repository = ⊥
 
 -- a git directory is there that is a folder itself
 abbrev pub IsBareThere : Sought → Type 0
@@ -87,12 +87,12 @@ IsOfBareOne refusal = (system : System) (sought : Sought) → IsBareThere sought
 abbrev pub IsOfOtherOne : Refusal → Type 0
 IsOfOtherOne refusal = (system : System) (sought : Sought) → IsOfOther system sought → RefusesIt system sought refusal
 
--- what Git does with what it finds where it starts in this folder
-abbrev pub Tells : System → List ℕ → Sought → Outcome → Type 0
-Tells system start sought (Uses repository) = UsesIt system start sought repository
-Tells system start sought FindsNone = sought ≡ Nowhere
-Tells system start sought (Refuses refusal) = RefusesIt system sought refusal
-Tells system start sought (Stops fault) = Unit {0}
+-- what Git does with what it finds
+abbrev pub Tells : System → Sought → Outcome → Type 0
+Tells system sought (Uses repository) = UsesIt system sought repository
+Tells system sought FindsNone = sought ≡ Nowhere
+Tells system sought (Refuses refusal) = RefusesIt system sought refusal
+Tells system sought (Stops fault) = Unit {0}
 
 -- the files of the repository that is used, if one is
 abbrev pub files_of : Outcome → List File
@@ -111,7 +111,7 @@ IsNowhere (Stops fault) = fault.kind ≡ Folder
 -- what Git does where it starts in a folder of this path, if there is one
 abbrev pub Does : System → List ℕ → Option (List ℕ) → Outcome → Type 0
 Does system start None outcome = IsNowhere outcome
-Does system start (Some path) outcome = (sought : Sought) × OnlySeeks system start sought × Tells system start sought outcome
+Does system start (Some path) outcome = (sought : Sought) × OnlySeeks system start sought × Tells system sought outcome
 
 -- what the answer tells of a folder in this system
 abbrev pub Answers : System → List ℕ → Answer → Type 0

@@ -1,5 +1,5 @@
 //! The search.
-ghost use Rattle.std.specs.Prelude.{◌≡◌, ◌++◌, ℕ, List, IfOk, IfErr, OnOk, MatchResult, map, option_map};
+ghost use Rattle.std.specs.Prelude.{◌≡◌, ◌++◌, List, IfOk, IfErr, OnOk, MatchResult, map, option_map};
 ghost use Rattle.config_search.specs.System.{System, AreTrueIn};
 ghost use Rattle.config_search.specs.Shown.{AsksNothing, IsNew, IsNewHalt, common_of as common_shown, file_of, found_of, git_dir_of};
 ghost use Rattle.config_search.specs.Rule as rule;
@@ -253,9 +253,9 @@ fn repository_in(
 ) -> Result<Repository, Stop>
     ensures { MatchResult result
         (λ repository. (system : System) → AreTrueIn system asked.now.facts.now
-        → common_shown site.now.common ≡ rule.common_of system site.now.start.name.now site.now.git_dir.name.items
+        → common_shown site.now.common ≡ rule.common_of system site.now.folder.name.now site.now.git_dir.name.items
         → answers.IsNamed system (git_dir_of site.now.git_dir) place.now.named_dir.items
-        → answers.IsOf system site.now.start.name.now (git_dir_of site.now.git_dir) repository)
+        → answers.IsOf system site.now.folder.name.now (git_dir_of site.now.git_dir) repository)
         (IsNew asked.now.facts.now) }
 {
     let path = inside(asked.alloc, &place.path, &place.named_dir)?;
@@ -276,8 +276,8 @@ fn repository_in(
 fn located(asked: &Asked<'_, '_>, site: &Site<'_>, format: &Format) -> Result<Place, Halt>
     ensures { MatchResult result
         (λ place. (system : System) → AreTrueIn system asked.now.facts.now
-        → common_shown site.now.common ≡ rule.common_of system site.now.start.name.now site.now.git_dir.name.items
-        → answers.Tells system site.now.start.name.now (search.Inside site.now.folder.name.now (git_dir_of site.now.git_dir)) place.outcome)
+        → common_shown site.now.common ≡ rule.common_of system site.now.folder.name.now site.now.git_dir.name.items
+        → answers.Tells system (search.Inside site.now.folder.name.now (git_dir_of site.now.git_dir)) place.outcome)
         (IsNewHalt asked.now.facts.now) }
 {
     if let Some(refusal) = format.refusal(asked.alloc)? {
@@ -311,9 +311,9 @@ fn or_stops(
 ) -> Result<Place, Stop>
     ensures asks { IfErr place (IsNewHalt asked.now.facts.now)
         → IfErr result (IsNew asked.now.facts.now) }
-    ensures tells { (system : System) (start : List ℕ) (sought : search.Sought)
-        → IfOk place (λ p. answers.Tells system start sought p.outcome)
-        → IfOk result (λ p. answers.Tells system start sought p.outcome) }
+    ensures tells { (system : System) (sought : search.Sought)
+        → IfOk place (λ p. answers.Tells system sought p.outcome)
+        → IfOk result (λ p. answers.Tells system sought p.outcome) }
 {
     match place {
         Ok(place) => Ok(place),
@@ -326,8 +326,8 @@ fn or_stops(
 fn used(asked: &Asked<'_, '_>, site: &Site<'_>, given: Option<Store>) -> Result<Place, Halt>
     ensures { MatchResult result
         (λ place. (system : System) → AreTrueIn system asked.now.facts.now
-        → common_shown site.now.common ≡ rule.common_of system site.now.start.name.now site.now.git_dir.name.items
-        → answers.Tells system site.now.start.name.now (search.Inside site.now.folder.name.now (git_dir_of site.now.git_dir)) place.outcome)
+        → common_shown site.now.common ≡ rule.common_of system site.now.folder.name.now site.now.git_dir.name.items
+        → answers.Tells system (search.Inside site.now.folder.name.now (git_dir_of site.now.git_dir)) place.outcome)
         (IsNewHalt asked.now.facts.now) }
 {
     let mut format = format_of(asked, &site.git_dir.name, &site.common)?;
@@ -335,7 +335,8 @@ fn used(asked: &Asked<'_, '_>, site: &Site<'_>, given: Option<Store>) -> Result<
     Ok(located(asked, site, &format)?)
 }
 
-/// The git directory that is found in this folder, with the folder that it shares with others.
+/// The git directory that is found in this folder, with the folder that it shares with others. Git goes to the folder
+/// first, in which a relative GIT_COMMON_DIR then begins.
 fn site_of<'t>(
     asked: &Asked<'_, 't>,
     start: Folder<'t>,
@@ -343,12 +344,12 @@ fn site_of<'t>(
     git_dir: GitDir,
 ) -> Result<Site<'t>, Halt>
     ensures { MatchResult result
-        (λ site. (site.start ≡ start.entry) × (site.folder ≡ folder.entry) × (site.git_dir ≡ git_dir)
+        (λ site. (site.folder ≡ folder.entry) × (site.git_dir ≡ git_dir)
         × ((system : System) → AreTrueIn system asked.now.facts.now
-        → common_shown site.common ≡ rule.common_of system start.entry.name.now site.git_dir.name.items))
+        → common_shown site.common ≡ rule.common_of system folder.entry.name.now site.git_dir.name.items))
         (IsNewHalt asked.now.facts.now) }
 {
-    let common = common_of(asked, start.name, &git_dir.name)?;
+    let common = common_of(asked, folder.name, &git_dir.name)?;
     if matches!(common, Common::Broken) {
         let file = inside(asked.alloc, &git_dir.name, b"commondir")?;
         let why = b"no name of a folder";
@@ -366,8 +367,8 @@ fn site_of<'t>(
 fn trusted(asked: &Asked<'_, '_>, site: &Site<'_>) -> Result<Place, Halt>
     ensures { MatchResult result
         (λ place. (system : System) → AreTrueIn system asked.now.facts.now
-        → common_shown site.now.common ≡ rule.common_of system site.now.start.name.now site.now.git_dir.name.items
-        → answers.Tells system site.now.start.name.now (search.Inside site.now.folder.name.now (git_dir_of site.now.git_dir)) place.outcome)
+        → common_shown site.now.common ≡ rule.common_of system site.now.folder.name.now site.now.git_dir.name.items
+        → answers.Tells system (search.Inside site.now.folder.name.now (git_dir_of site.now.git_dir)) place.outcome)
         (IsNewHalt asked.now.facts.now) }
 {
     let start = site.start;
@@ -383,7 +384,7 @@ fn trusted(asked: &Asked<'_, '_>, site: &Site<'_>) -> Result<Place, Halt>
 fn place_of<'t>(asked: &Asked<'_, 't>, start: Folder<'t>, found: Found<'t>) -> Result<Place, Halt>
     ensures { MatchResult result
         (λ place. (system : System) → AreTrueIn system asked.now.facts.now
-        → answers.Tells system start.entry.name.now (found_of found.entry) place.outcome)
+        → answers.Tells system (found_of found.entry) place.outcome)
         (IsNewHalt asked.now.facts.now) }
 {
     check_booleans(asked)?;
@@ -443,7 +444,7 @@ fn place_from<'t>(asked: &Asked<'_, 't>, start: Folder<'t>) -> Result<Place, Sto
     ensures { MatchResult result
         (λ place. (system : System) → AreTrueIn system asked.now.facts.now
         → (sought : search.Sought) × search.OnlySeeks system start.entry.name.now sought
-        × answers.Tells system start.entry.name.now sought place.outcome)
+        × answers.Tells system sought place.outcome)
         (IsNew asked.now.facts.now) }
 {
     let found = seek(asked, start)?;
