@@ -262,8 +262,8 @@ class Place:
             "GIT_CONFIG_GLOBAL": ("g", "./g", f"{folder}/top/g", "", f"{folder}/missing", "../top/g"),
             "XDG_CONFIG_HOME": (f"{folder}/xdg", "rel", "", f"{folder}/xdg/", "./rel", ".//rel"),
             "HOME": ("", f"{folder}/home/", "rel", f"{folder}/missing", "./rel"),
-            "GIT_CEILING_DIRECTORIES": (f"{folder}/top", f"{folder}/top/deep", str(folder), f":{folder}/top", "top", "..",
-                                        f"..:{folder}/top/", f"x::{folder}/top/"),
+            "GIT_CEILING_DIRECTORIES": (f"{folder}/top", f"{folder}/top/deep", str(folder), f":{folder}/top", "top",
+                                        "..", f"..:{folder}/top/", f"x::{folder}/top/"),
             "GIT_DISCOVERY_ACROSS_FILESYSTEM": ("1", "0", "maybe", ""),
             "GIT_TEST_ASSUME_DIFFERENT_OWNER": ("1", "1", "0"),
         }
@@ -419,7 +419,8 @@ PLACES = [
       for name in ("../.git", ".git", "", "F/top/.git")),
     Shown(None, set(), {"GIT_COMMON_DIR": "../.git"}, "top/deep",
           {"top/.git/config": "[core]repositoryformatversion=99\n", "system": ON_DIR}),
-    *(Shown(None, set(), {name: f".{slashes}x"}, "top", {"top/x/.config/git/config": "[a]b=1\n", "top/x/git/config": "[a]b=2\n"})
+    *(Shown(None, set(), {name: f".{slashes}x"}, "top",
+            {"top/x/.config/git/config": "[a]b=1\n", "top/x/git/config": "[a]b=2\n"})
       for name in ("HOME", "XDG_CONFIG_HOME") for slashes in ("/", "//")),
     *(Shown(None, set(), {"GIT_WORK_TREE": "", **more}, "top", {"top/.git/config": "[a]b=1\n"})
       for more in ({}, {"GIT_DIR": ".git"}, {"GIT_DIR": "x"})),
