@@ -124,9 +124,10 @@ def is_right(word, arguments, before, after):
 
 
 def is_cut_from(line, other):
-    """Whether a line is another one, out of which at most one piece is cut."""
-    front = len(os.path.commonprefix((line, other)))
-    return len(line) <= len(other) and other.endswith(line[front:])
+    """Whether a line is another one, or its end from a header on, out of which at most one piece is cut."""
+    ends = [other, *(other[at:] for at, byte in enumerate(other) if byte == ord("["))]
+    fronts = ((end, len(os.path.commonprefix((line, end)))) for end in ends)
+    return any(len(line) <= len(end) and end.endswith(line[front:]) for end, front in fronts)
 
 
 def keeps(word, arguments, old, new):
