@@ -368,12 +368,12 @@ int main(void)
     ASKS(read_and_show, "red bold", 0);
     ASKS(normalize, "16k", 0);
     ASKS(list_key, "a.B.c", 0);
-    ASKS(read_files, "a.b", 36);
+    ASKS(read_files, "a.b", 37);
     int made = mkstemp(file_name);
     count(made >= 0 && write(made, "[a]\n", 4) == 4, "a file");
     ASKS(open_file, "[a]\n", 4);
     ASKS(set_in_file, "[a]\n\tb = 2\n", 13);
-    ASKS(read_system_file, "a.b", 10);
+    ASKS(read_system_file, "a.b", 11);
     gcv_file zeros;
     largest = 0;
     count(gcv_open_file(NULL, "/dev/zero", &zeros) == GCV_NOT_READ && errno == EFBIG && largest <= ((size_t)1 << 30) + 1 && blocks == 0,
