@@ -3,3 +3,5 @@ pub mod Ceilings
 pub mod Lists
 pub mod Names
 pub mod OneAnswer
+pub mod Trusted
+pub mod Unchangeable

@@ -1,14 +1,15 @@
 -- What an answer tells of a system.
 --
--- Look for: an answer that uses a repository uses the one that the rule finds, and one is refused for its owner only if
--- it is not the user's own. Which folders of others Git trusts, which formats it knows, at which texts it stops and where
--- the top of a work tree is are not stated here, but tested: such an answer says only that a git directory is there.
+-- Look for: an answer that uses a repository uses the one that the rule finds, and only if Git trusts it; one is refused
+-- for its owner only if it is not the user's own. Which formats Git knows, at which texts it stops and where the top of a
+-- work tree is are not stated here, but tested: such an answer says only that a git directory is there.
 use Rattle.std.specs.Prelude.{◌≡◌, ◌⊎◌, ℕ, List, [], Option, None, Some, codes, map}
 use Rattle.config_search.specs.System.{System}
 use Rattle.config_search.specs.Rule.{GitDir, IsBare, Common, Own, Linked, Broken, or_itself, resolved, common_of}
 use Rattle.config_search.specs.Search.{Sought, Nowhere, Inside, Refused, OnlySeeks, path_of, start_of}
 use Rattle.config_search.specs.Files.{File, AreOnlyFiles, of_repository_in}
 use Rattle.config_search.specs.Owner.{IsOwn}
+use Rattle.config_search.specs.Trust.{IsTrusted}
 use Rattle.config_search.specs.Shown.{file_of}
 use Rattle.config_search.specs.declared.answer.Answer.{Answer}
 use Rattle.config_search.specs.declared.answer.Outcome.{Outcome}
@@ -50,10 +51,11 @@ IsThere Nowhere = ⊥
 IsThere (Inside folder it) = Unit {0}
 IsThere (Refused text) = ⊥
 
-abbrev pub UsesIt : System → Sought → Repository → Type 0
-UsesIt system Nowhere repository = ⊥
-UsesIt system (Inside folder it) repository = IsOf system folder it repository
-UsesIt system (Refused text) repository = ⊥
+-- the repository is that of a git directory which is there and which Git trusts
+abbrev pub UsesIt : System → List ℕ → Sought → Repository → Type 0
+UsesIt system start Nowhere repository = ⊥
+UsesIt system start (Inside folder it) repository = IsOf system folder it repository × IsTrusted system start folder it
+UsesIt system start (Refused text) repository = ⊥
 
 -- a git directory is there that is a folder itself
 abbrev pub IsBareThere : Sought → Type 0
@@ -87,12 +89,12 @@ IsOfBareOne refusal = (system : System) (sought : Sought) → IsBareThere sought
 abbrev pub IsOfOtherOne : Refusal → Type 0
 IsOfOtherOne refusal = (system : System) (sought : Sought) → IsOfOther system sought → RefusesIt system sought refusal
 
--- what Git does with what it finds
-abbrev pub Tells : System → Sought → Outcome → Type 0
-Tells system sought (Uses repository) = UsesIt system sought repository
-Tells system sought FindsNone = sought ≡ Nowhere
-Tells system sought (Refuses refusal) = RefusesIt system sought refusal
-Tells system sought (Stops fault) = Unit {0}
+-- what Git does with what it finds where it starts in a folder
+abbrev pub Tells : System → List ℕ → Sought → Outcome → Type 0
+Tells system start sought (Uses repository) = UsesIt system start sought repository
+Tells system start sought FindsNone = sought ≡ Nowhere
+Tells system start sought (Refuses refusal) = RefusesIt system sought refusal
+Tells system start sought (Stops fault) = Unit {0}
 
 -- the files of the repository that is used, if one is
 abbrev pub files_of : Outcome → List File
@@ -111,7 +113,7 @@ IsNowhere (Stops fault) = fault.kind ≡ Folder
 -- what Git does where it starts in a folder of this path, if there is one
 abbrev pub Does : System → List ℕ → Option (List ℕ) → Outcome → Type 0
 Does system start None outcome = IsNowhere outcome
-Does system start (Some path) outcome = (sought : Sought) × OnlySeeks system start sought × Tells system sought outcome
+Does system start (Some path) outcome = (sought : Sought) × OnlySeeks system start sought × Tells system start sought outcome
 
 -- what the answer tells of a folder in this system
 abbrev pub Answers : System → List ℕ → Answer → Type 0

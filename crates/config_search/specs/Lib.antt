@@ -4,6 +4,8 @@ pub mod Rule
 pub mod Search
 pub mod Files
 pub mod Owner
+pub mod Protected
+pub mod Trust
 pub mod Shown
 pub mod Answers
 pub mod Layouts

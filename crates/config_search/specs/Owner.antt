@@ -1,7 +1,7 @@
 -- Which git directories are the user's own.
 --
 -- Look for: the file `.git` of a folder, the folder and the git directory have to be the user's. Owners and users are
--- numbers in decimal, compared as texts. Which folders of others `safe.directory` names is not stated here, but tested.
+-- numbers in decimal, compared as texts. Which of others Git trusts is in Trust.
 use Rattle.std.specs.Prelude.{◌≡◌, ℕ, Bool, true, List, [], codes, ◌&&◌, ◌||◌}
 use Rattle.config_search.specs.System.{System}
 use Rattle.config_search.specs.Names.{inside, opened}

@@ -1,6 +1,11 @@
 -- What the rule says of the values of the program.
-use Rattle.std.specs.Prelude.{◌≡◌, ℕ, false, List, MatchBool, codes, map, option_copied}
-use Rattle.config_search.specs.System.{System, IsOpen}
+use Rattle.std.specs.Prelude.{◌≡◌, ◌⊎◌, ℕ, Bool, true, false, List, [], MatchBool, codes, map, option_copied}
+use Rattle.config_file.specs.Key.{Key, HasKey}
+use Rattle.config_file.specs.Settings.{path_bytes}
+use Rattle.config_file.specs.Views.{entry_of}
+use Rattle.config_file.specs.Walk.{Content, Unreadable}
+use Rattle.config_file.specs.declared.settings.Setting.{Setting}
+use Rattle.config_search.specs.System.{System, AreTrueIn, IsOpen}
 use Rattle.config_search.specs.Names.{opened}
 use Rattle.config_search.specs.declared.fact.Fact.{Fact}
 use Rattle.config_search.specs.declared.fact.Stop.{Stop}
@@ -9,9 +14,12 @@ use Rattle.config_search.specs.declared.halt.Halt.{Halt}
 use Rattle.config_search.specs.declared.halt.Halt.TheVariants.{Stopped, Fault}
 use Rattle.config_search.specs.Rule as rule
 use Rattle.config_search.specs.Search as search
-use Rattle.config_search.specs.Files.{File}
+use Rattle.config_search.specs.Files.{File, AreFiles}
+use Rattle.config_search.specs.Protected.{Holds, IsOfCommand}
+use Rattle.config_search.specs.Trust.{NamesFolder}
 use Rattle.config_search.specs.declared.TheConstants.{DEVICE}
 use Rattle.config_search.specs.declared.answer.Named.{Named}
+use Rattle.config_search.specs.declared.protected.Sources.{Sources}
 use Rattle.config_search.specs.declared.seek.Found.{Found}
 use Rattle.config_search.specs.declared.seek.Found.TheVariants.{Nothing, In, Refused}
 use Rattle.config_search.specs.declared.seek.Limits.{Limits}
@@ -25,6 +33,25 @@ use Rattle.config_search.specs.declared.git_dir.Common.TheVariants.{Own, Linked,
 abbrev pub IsNew : List Fact → Stop → Type 0
 IsNew facts (Ask question) = IsOpen facts question.subject question.name.items
 IsNew facts (Memory error) = Unit {0}
+
+-- a file that the program names
+abbrev pub file_of : Named → File
+file_of named = record { scope = named.scope; name = named.name.items }
+
+-- what facts let the file of a name hold: what it holds in each system in which they are true, or that it is not read
+abbrev pub MayHold : List Fact → List ℕ → List ℕ → Content → Type 0
+MayHold facts start name content = ((system : System) → AreTrueIn system facts → Holds system start name content)
+    ⊎ (content ≡ Unreadable)
+
+-- the program has the names of the files, and the settings of the command, that no repository can change
+abbrev pub AreSources : System → Sources → Type 0
+AreSources system sources = AreFiles system [] (map file_of sources.files.items) × IsOfCommand system sources.command.items
+
+-- after a setting a folder is safe: it has the key and names it, or it was safe before and this is no empty one
+abbrev pub IsSafeAfter : System → List ℕ → List ℕ → Key → Setting → Bool → Type 0
+IsSafeAfter system start folder key setting was_safe =
+    (HasKey (entry_of setting.entry) key × NamesFolder system start (path_bytes setting) folder)
+    ⊎ ((was_safe ≡ true) × ¬ (HasKey (entry_of setting.entry) key × (path_bytes setting ≡ [])))
 
 -- the folder that the program says is shared
 abbrev pub common_of : Common → rule.Common
@@ -41,10 +68,6 @@ form_of Bare = rule.IsBare
 -- the git directory that the program shows
 abbrev pub git_dir_of : GitDir → rule.GitDir
 git_dir_of it = record { name = it.name.items; named = it.named.items; form = form_of it.form }
-
--- a file that the program names
-abbrev pub file_of : Named → File
-file_of named = record { scope = named.scope; name = named.name.items }
 
 -- what the program finds
 abbrev pub found_of : Found → search.Sought

@@ -26,3 +26,8 @@ Differs subject name fact = (fact.subject ≢ subject) ⊎ (fact.name.now ≢ na
 -- no fact answers this question
 abbrev pub IsOpen : List Fact → ℕ → List ℕ → Type 0
 IsOpen facts subject name = All (Differs subject name) facts
+
+-- the fact answers this question, by the name that it asks about
+abbrev pub IsFactOf : List Fact → ℕ → List ℕ → Fact → Type 0
+IsFactOf facts subject name fact = (fact.name.now ≡ name)
+    × ((system : System) → AreTrueIn system facts → system subject name ≡ answer_of fact)

@@ -1,6 +1,7 @@
 //! Facts, and the questions that they answer.
 ghost use Rattle.std.specs.Prelude.{◌≡◌, true, false, MatchResult, MatchOption, is_some, option_copied};
-ghost use Rattle.config_search.specs.System.{System, AreTrueIn, Differs, IsOpen, answer_of};
+ghost use Rattle.config_search.specs.System.{System, AreTrueIn, Differs, IsFactOf, IsOpen};
+ghost use Rattle.config_search.specs.System as system;
 ghost use Rattle.config_search.specs.Shown.{IsNew};
 ghost use Rattle.config_search.specs.Names.{inside};
 ghost use Rattle.config_search.specs.Rule as rule;
@@ -84,8 +85,7 @@ fn is_about(fact: &Fact<'_>, subject: u32, folder: &[u8], name: &[u8]) -> bool
 /// The fact that answers a question, if there is one.
 fn fact_among<'t>(facts: &[Fact<'t>], subject: u32, folder: &[u8], name: &[u8]) -> Option<Fact<'t>>
     ensures { MatchOption result (IsOpen facts.now subject (inside folder.now name.now))
-        (λ fact. (system : System) → AreTrueIn system facts.now
-        → system subject (inside folder.now name.now) ≡ answer_of fact) }
+        (IsFactOf facts.now subject (inside folder.now name.now)) }
 {
     for fact in facts {
         if is_about(fact, subject, folder, name) {
@@ -98,8 +98,7 @@ fn fact_among<'t>(facts: &[Fact<'t>], subject: u32, folder: &[u8], name: &[u8]) 
 /// The fact that answers a question, if there is one: most often the next.
 fn fact_of<'t>(asked: &Asked<'_, 't>, subject: u32, folder: &[u8], name: &[u8]) -> Option<Fact<'t>>
     ensures { MatchOption result (IsOpen asked.now.facts.now subject (inside folder.now name.now))
-        (λ fact. (system : System) → AreTrueIn system asked.now.facts.now
-        → system subject (inside folder.now name.now) ≡ answer_of fact) }
+        (IsFactOf asked.now.facts.now subject (inside folder.now name.now)) }
 {
     let at = asked.next.get();
     let facts = asked.facts;
@@ -120,9 +119,7 @@ pub(crate) fn fact_in<'t>(
     folder: &[u8],
     name: &[u8],
 ) -> Result<Fact<'t>, Stop>
-    ensures { MatchResult result
-        (λ fact. (system : System) → AreTrueIn system asked.now.facts.now
-        → system subject (inside folder.now name.now) ≡ answer_of fact)
+    ensures { MatchResult result (IsFactOf asked.now.facts.now subject (inside folder.now name.now))
         (IsNew asked.now.facts.now) }
 {
     match fact_of(asked, subject, folder, name) {
@@ -132,6 +129,16 @@ pub(crate) fn fact_in<'t>(
             Err(Stop::Ask(Question { subject, name }))
         }
     }
+}
+
+/// The answer that a fact gives.
+pub(crate) fn answer_of<'t>(fact: &Fact<'t>) -> Option<&'t [u8]>
+    ensures { option_copied result ≡ system.answer_of fact.now }
+{
+    if fact.has == 0 {
+        return None;
+    }
+    Some(fact.text)
 }
 
 /// The text of the answer to a question about the file of this name in a folder, or a stop with the question.
@@ -147,10 +154,7 @@ pub(crate) fn told_in<'t>(
         (IsNew asked.now.facts.now) }
 {
     let fact = fact_in(asked, subject, folder, name)?;
-    if fact.has == 0 {
-        return Ok(None);
-    }
-    Ok(Some(fact.text))
+    Ok(answer_of(&fact))
 }
 
 /// The text of the answer to a question about this name, or a stop with the question.

@@ -42,7 +42,7 @@ pub(crate) fn inside(alloc: Global, folder: &[u8], name: &[u8]) -> Result<Vec<u8
 }
 
 /// What follows these bytes in a text, or `None` if it does not begin with them.
-fn after<'a>(front: &[u8], text: &'a [u8]) -> Option<&'a [u8]>
+pub(crate) fn after<'a>(front: &[u8], text: &'a [u8]) -> Option<&'a [u8]>
     ensures { MatchOption result ((rest : List ℕ) → text.now ≢ front.now ++ rest)
         (λ rest. text.now ≡ front.now ++ rest.now) }
 {
@@ -50,6 +50,14 @@ fn after<'a>(front: &[u8], text: &'a [u8]) -> Option<&'a [u8]>
         Some(rest) => Some(rest),
         None => None,
     }
+}
+
+/// What precedes these bytes in a text, or `None` if it does not end with them.
+pub(crate) fn before<'a>(end: &[u8], text: &'a [u8]) -> Option<&'a [u8]>
+    ensures { IfSome result (λ front. text.now ≡ front.now ++ end.now) }
+{
+    let (front, back) = text.split_at(text.len().saturating_sub(end.len()));
+    if back == end { Some(front) } else { None }
 }
 
 /// Whether a text is these three, one after the other.

@@ -1,22 +1,33 @@
 //! Which repositories Git trusts: those of the same owner, and those that settings name which no repository can change.
-ghost use Rattle.std.specs.Prelude.{◌≡◌, IfErr, IfSome, MatchBool, MatchResult};
+ghost use Rattle.std.specs.Prelude.{◌≡◌, ◌≤◌, ◌⊎◌, ◌++◌, ℕ, List, Some, true, codes, length, IfErr, IfOk, IfSome, MatchBool, MatchOption, MatchResult, map};
+ghost use Rattle.std.specs.List.{prefix_len};
+ghost use Rattle.config_file.specs.Listing.{IsListed};
+ghost use Rattle.config_file.specs.Settings.{AreListed, path_bytes};
+ghost use Rattle.config_file.specs.Views.{entry_of};
+ghost use Rattle.config_file.specs.declared.settings.Setting.{Setting as SettingOf};
 ghost use Rattle.config_search.specs.System.{System, AreTrueIn};
 ghost use Rattle.config_search.specs.Rule.{IsBelow};
+ghost use Rattle.config_search.specs.Names as names;
 ghost use Rattle.config_search.specs.Search.{Inside};
 ghost use Rattle.config_search.specs.Owner as rule;
+ghost use Rattle.config_search.specs.Protected.{AreProtected};
+ghost use Rattle.config_search.specs.Trust as trust;
+ghost use Rattle.config_search.specs.declared.TheConstants.{REAL};
 ghost use Rattle.config_search.specs.Answers.{IsOfBareOne, IsOfOtherOne, RefusesIt};
-ghost use Rattle.config_search.specs.Shown.{IsNew, IsNewHalt, form_of, git_dir_of};
+ghost use Rattle.config_search.specs.Shown.{AsksNothing, IsNew, IsNewHalt, IsSafeAfter, form_of, git_dir_of};
+ghost use Rattle.config_file.specs.KeyView.{key_of};
 
 use crate::answer::{FaultKind, Refusal};
 use crate::fact::{Asked, Stop, is_word, told};
 use crate::halt::{Halt, fault};
-use crate::name::{inside, joined, opened};
-use crate::protected::{Said, of_user, protected_settings};
+use crate::name::{after, before, inside, joined, opened};
+use crate::protected::{protected_settings, sources_of};
 use crate::seek::{Folder, Form, GitDir, is_on, is_same};
-use crate::{OWNER, REAL, USER, VARIABLE};
+use crate::{HOME, OWNER, REAL, USER, VARIABLE};
 use bstr::ByteSlice;
-use config_file::Directories;
 use config_file::path::expand;
+use config_file::{Directories, Key, Setting};
+use std::alloc::Global;
 
 /// Whether the file of this name, which may be a link, belongs to the user. To root it also belongs if its owner became
 /// root by sudo.
@@ -84,9 +95,38 @@ fn is_own(asked: &Asked<'_, '_>, folder: &[u8], git_dir: &GitDir) -> Result<bool
     Ok(false)
 }
 
+/// How many bytes a name has before its first slash.
+fn first_length(name: &[u8]) -> usize
+    ensures count { result ≡ prefix_len names.is_no_slash name.now }
+    ensures within { result ≤ length name.now }
+{
+    name.iter().take_while(|byte| **byte != b'/').count()
+}
+
+/// The path that a value of `safe.directory` spells below the home folder of another user, if it begins with one that
+/// the system knows.
+fn of_user(asked: &Asked<'_, '_>, value: &[u8]) -> Result<Option<Vec<u8>>, Stop>
+    ensures { MatchResult result
+        (λ found. (system : System) → AreTrueIn system asked.now.facts.now
+        → IfSome found (λ path. trust.Spells system value.now path.items))
+        (IsNew asked.now.facts.now) }
+{
+    let Some(rest) = after(b"~", value) else {
+        return Ok(None);
+    };
+    let (user, below) = rest.split_at(first_length(rest));
+    match told(asked, HOME, user)? {
+        Some(home) => Ok(Some(joined(asked.alloc, home, below, b"")?)),
+        None => Ok(None),
+    }
+}
+
 /// The path that a value of `safe.directory` spells, or `None` if it begins with a folder that is not known.
 fn spelled(asked: &Asked<'_, '_>, value: &[u8]) -> Result<Option<Vec<u8>>, Stop>
-    ensures { IfErr result (IsNew asked.now.facts.now) }
+    ensures { MatchResult result
+        (λ found. (system : System) → AreTrueIn system asked.now.facts.now
+        → IfSome found (λ path. trust.Spells system value.now path.items))
+        (IsNew asked.now.facts.now) }
 {
     let directories = Directories {
         home: told(asked, VARIABLE, b"HOME")?,
@@ -94,94 +134,209 @@ fn spelled(asked: &Asked<'_, '_>, value: &[u8]) -> Result<Option<Vec<u8>>, Stop>
     };
     match expand(value, directories) {
         Some(parts) => Ok(Some(joined(asked.alloc, parts.directory, parts.rest, b"")?)),
-        None => of_user(asked, value),
+        None => Ok(of_user(asked, value)?),
     }
 }
 
-/// Whether the folder is below the one of this name, whose links are resolved.
-fn is_below(asked: &Asked<'_, '_>, name: &[u8], folder: &[u8]) -> Result<bool, Stop>
-    ensures { IfErr result (IsNew asked.now.facts.now) }
+/// A name without one slash at its end.
+fn without_slash(name: &[u8]) -> &[u8]
+    ensures { (name.now ≡ result.now) ⊎ (name.now ≡ result.now ++ codes "/") }
+{
+    match before(b"/", name) {
+        Some(front) => front,
+        None => name,
+    }
+}
+
+/// Whether the folder is below another one.
+fn is_below(top: &[u8], folder: &[u8]) -> bool
+    ensures { result ≡ true → trust.IsBelow top.now folder.now }
+{
+    let Some(rest) = after(without_slash(top), folder) else {
+        return false;
+    };
+    match after(b"/", rest) {
+        Some(_) => true,
+        None => false,
+    }
+}
+
+/// Whether the folder is below the one of this name, of which an empty one is the root.
+fn is_above(asked: &Asked<'_, '_>, name: &[u8], folder: &[u8]) -> Result<bool, Stop>
+    ensures { MatchResult result
+        (λ is. (system : System) → AreTrueIn system asked.now.facts.now → is ≡ true
+        → (top : List ℕ) × (system REAL (trust.or_root name.now) ≡ Some top) × trust.IsBelow top folder.now)
+        (IsNew asked.now.facts.now) }
 {
     let above = if name.is_empty() { b"/" } else { name };
-    let Some(real) = told(asked, REAL, above)? else {
-        return Ok(false);
-    };
-    match folder.strip_prefix(real.strip_suffix(b"/").unwrap_or(real)) {
-        Some(rest) => Ok(rest.starts_with(b"/")),
+    match told(asked, REAL, above)? {
+        Some(top) => Ok(is_below(top, folder)),
         None => Ok(false),
     }
 }
 
 /// Whether a path from the root is that of a folder, or is one above it that ends with `/*`.
 fn covers(asked: &Asked<'_, '_>, path: &[u8], folder: &[u8]) -> Result<bool, Stop>
-    ensures { IfErr result (IsNew asked.now.facts.now) }
+    ensures { MatchResult result
+        (λ is. (system : System) → AreTrueIn system asked.now.facts.now → is ≡ true
+        → trust.Covers system path.now folder.now)
+        (IsNew asked.now.facts.now) }
 {
-    if let Some(above) = path.strip_suffix(b"/*") {
-        return is_below(asked, above, folder);
+    if let Some(above) = before(b"/*", path) {
+        return Ok(is_above(asked, above, folder)?);
     }
-    Ok(told(asked, REAL, path)? == Some(folder))
+    match told(asked, REAL, path)? {
+        Some(real) => Ok(real == folder),
+        None => Ok(false),
+    }
 }
 
-/// Whether a value of `safe.directory` names this folder: by its path, by `.` if it is the one in which Git starts, or
-/// by a path above it that ends with `/*`.
+/// Whether a value of `safe.directory` names this folder: it is `*`, spells `.` where the search starts in it, or a path
+/// from the root that covers it.
 fn names_folder(
     asked: &Asked<'_, '_>,
     start: &[u8],
     value: &[u8],
     folder: &[u8],
 ) -> Result<bool, Stop>
-    ensures { IfErr result (IsNew asked.now.facts.now) }
+    ensures { MatchResult result
+        (λ is. (system : System) → AreTrueIn system asked.now.facts.now → is ≡ true
+        → trust.NamesFolder system start.now value.now folder.now)
+        (IsNew asked.now.facts.now) }
 {
+    if value == b"*".as_slice() {
+        return Ok(true);
+    }
     let Some(path) = spelled(asked, value)? else {
         return Ok(false);
     };
     if path.as_slice() == b".".as_slice() {
         let here = inside(asked.alloc, start, b".")?;
-        return covers(asked, &here, folder);
+        return Ok(covers(asked, &here, folder)?);
     }
     if path.starts_with(b"/") {
-        return covers(asked, &path, folder);
+        return Ok(covers(asked, &path, folder)?);
     }
     Ok(false)
 }
 
-/// Whether the last settings of `safe.directory` name this folder. An empty value takes back those before it.
-fn name_as_safe(
-    asked: &Asked<'_, '_>,
-    said: &[Said],
-    start: &[u8],
-    folder: &[u8],
-) -> Result<bool, Stop>
-    ensures { IfErr result (IsNew asked.now.facts.now) }
+/// The text of a setting, which is empty for a key alone.
+fn text_of<'s>(setting: &'s Setting<'_>) -> &'s [u8]
+    ensures { result.now ≡ path_bytes setting.now }
 {
-    let mut is_safe = false;
-    for setting in said {
-        if !setting.is_bare {
-            is_safe = match setting.text.as_slice() {
-                b"" => false,
-                b"*" => true,
-                value => is_safe || names_folder(asked, start, value, folder)?,
-            };
-        }
+    match &setting.value {
+        Some(text) => text,
+        None => &[],
     }
-    Ok(is_safe)
 }
 
-/// Whether the last setting of `safe.bareRepository` lets Git find bare repositories, which needs one of two words.
-fn allow_bare(asked: &Asked<'_, '_>, said: &[Said]) -> Result<bool, Halt>
+/// Whether a folder is safe after a setting, before which it was or not. An empty value of this key takes back those
+/// before it.
+fn is_safe_after(
+    asked: &Asked<'_, '_>,
+    start: &[u8],
+    folder: &[u8],
+    key: &Key<'_>,
+    setting: &Setting<'_>,
+    was_safe: bool,
+) -> Result<bool, Stop>
+    ensures asks { IfErr result (IsNew asked.now.facts.now) }
+    ensures safe { (text : List ℕ)
+        → IsListed (entry_of setting.now.entry).section (entry_of setting.now.entry).key text → IfOk result
+        (λ is. (system : System) → AreTrueIn system asked.now.facts.now → is ≡ true
+        → IsSafeAfter system start.now folder.now (key_of key.now) setting.now was_safe) }
+{
+    if !key.is_of(&setting.entry) {
+        return Ok(was_safe);
+    }
+    let value = text_of(setting);
+    if was_safe && !value.is_empty() {
+        return Ok(true);
+    }
+    Ok(names_folder(asked, start, value, folder)?)
+}
+
+/// Whether the last of these settings with this key name the folder.
+fn name_as_safe(
+    asked: &Asked<'_, '_>,
+    start: &[u8],
+    folder: &[u8],
+    key: &Key<'_>,
+    settings: &[Setting<'_>],
+) -> Result<bool, Stop>
+    ensures asks { IfErr result (IsNew asked.now.facts.now) }
+    ensures safe { AreListed settings.now → IfOk result
+        (λ are. (system : System) → AreTrueIn system asked.now.facts.now → are ≡ true
+        → trust.AreSafe system start.now folder.now (key_of key.now) settings.now) }
+{
+    let mut are_safe = false;
+    for setting in settings {
+        are_safe = is_safe_after(asked, start, folder, key, setting, are_safe)?;
+    }
+    Ok(are_safe)
+}
+
+/// Whether these settings say that this folder is safe.
+fn say_safe(
+    asked: &Asked<'_, '_>,
+    start: &[u8],
+    folder: &[u8],
+    settings: &[Setting<'_>],
+) -> Result<bool, Stop>
+    ensures asks { IfErr result (IsNew asked.now.facts.now) }
+    ensures safe { AreListed settings.now → IfOk result
+        (λ say. (system : System) → AreTrueIn system asked.now.facts.now → say ≡ true
+        → trust.SaysSafe system start.now folder.now settings.now) }
+{
+    let Ok(key) = Key::parse(b"safe.directory") else {
+        return Ok(false);
+    };
+    Ok(name_as_safe(asked, start, folder, &key, settings)?)
+}
+
+/// Whether the settings that no repository can change say that this folder is safe.
+fn is_safe(asked: &Asked<'_, '_>, start: &[u8], folder: &[u8]) -> Result<bool, Halt>
+    ensures { MatchResult result
+        (λ is. (system : System) → AreTrueIn system asked.now.facts.now → is ≡ true
+        → (settings : List SettingOf) × AreProtected system start.now settings
+        × trust.SaysSafe system start.now folder.now settings)
+        (IsNewHalt asked.now.facts.now) }
+{
+    let sources = sources_of(asked)?;
+    let settings = protected_settings(asked, start, &sources)?;
+    Ok(say_safe(asked, start, folder, &settings.entries)?)
+}
+
+/// Whether a setting of `safe.bareRepository` lets Git find bare repositories, which needs one of two words.
+fn allows_bare(alloc: Global, setting: &Setting<'_>) -> Result<bool, Halt>
+    ensures { IfErr result AsksNothing }
+{
+    match setting.value.as_deref() {
+        Some(b"explicit") => Ok(false),
+        Some(b"all") => Ok(true),
+        _ => {
+            let why = b"safe.barerepository: neither 'all' nor 'explicit'";
+            let (file, line) = (setting.file, setting.entry.line);
+            Err(fault(alloc, FaultKind::Value, file, line, why)?)
+        }
+    }
+}
+
+/// Whether the last setting of `safe.bareRepository` lets Git find bare repositories.
+fn allow_bare(asked: &Asked<'_, '_>, start: &[u8]) -> Result<bool, Halt>
     ensures { IfErr result (IsNewHalt asked.now.facts.now) }
 {
+    let sources = sources_of(asked)?;
+    let settings = protected_settings(asked, start, &sources)?;
     let mut may_be = true;
-    for setting in said {
-        if setting.is_bare {
-            may_be = match setting.text.as_slice() {
-                b"explicit" => false,
-                b"all" => true,
-                _ => {
-                    let why = b"safe.barerepository: neither 'all' nor 'explicit'";
-                    let (file, line) = (&setting.file, setting.line);
-                    return Err(fault(asked.alloc, FaultKind::Value, file, line, why)?);
-                }
+    let Ok(key) = Key::parse(b"safe.bareRepository") else {
+        return Ok(may_be);
+    };
+    for setting in &settings.entries {
+        if key.is_of(&setting.entry) {
+            may_be = match allows_bare(asked.alloc, setting) {
+                Ok(allows) => allows,
+                Err(halt) => return Err(halt),
             };
         }
     }
@@ -203,7 +358,7 @@ fn refuses_bare(
 ) -> Result<Option<Refusal>, Halt>
     ensures { MatchResult result (λ refusal. IfSome refusal IsOfBareOne) (IsNewHalt asked.now.facts.now) }
 {
-    let may_be = allow_bare(asked, &protected_settings(asked, start)?)?;
+    let may_be = allow_bare(asked, start)?;
     let real = told(asked, REAL, opened(folder.name))?.unwrap_or(folder.path);
     if may_be || is_in_work_tree(real) {
         return Ok(None);
@@ -217,12 +372,15 @@ fn refuses_owner(
     start: &[u8],
     folder: Folder<'_>,
 ) -> Result<Option<Refusal>, Halt>
-    ensures { MatchResult result (λ refusal. IfSome refusal IsOfOtherOne) (IsNewHalt asked.now.facts.now) }
+    ensures { MatchResult result
+        (λ refusal. (system : System) → AreTrueIn system asked.now.facts.now
+        → MatchOption refusal (trust.IsSafe system start.now folder.entry.name.now) IsOfOtherOne)
+        (IsNewHalt asked.now.facts.now) }
 {
     let Some(real) = told(asked, REAL, opened(folder.name))? else {
         return Ok(Some(Refusal::Owner(folder.path.to_vec(asked.alloc)?)));
     };
-    if name_as_safe(asked, &protected_settings(asked, start)?, start, real)? {
+    if is_safe(asked, start, real)? {
         return Ok(None);
     }
     Ok(Some(Refusal::Owner(real.to_vec(asked.alloc)?)))
@@ -237,7 +395,9 @@ pub(crate) fn refuses(
 ) -> Result<Option<Refusal>, Halt>
     ensures { MatchResult result
         (λ refusal. (system : System) → AreTrueIn system asked.now.facts.now
-        → IfSome refusal (RefusesIt system (Inside folder.entry.name.now (git_dir_of git_dir.now))))
+        → MatchOption refusal
+        (trust.IsTrusted system start.now folder.entry.name.now (git_dir_of git_dir.now))
+        (RefusesIt system (Inside folder.entry.name.now (git_dir_of git_dir.now))))
         (IsNewHalt asked.now.facts.now) }
 {
     match git_dir.form {

@@ -1,11 +1,12 @@
 //! The search.
-ghost use Rattle.std.specs.Prelude.{◌≡◌, ◌++◌, List, IfOk, IfErr, OnOk, MatchResult, map, option_map};
+ghost use Rattle.std.specs.Prelude.{◌≡◌, ◌++◌, ℕ, List, IfOk, IfErr, OnOk, MatchResult, map, option_map};
 ghost use Rattle.config_search.specs.System.{System, AreTrueIn};
 ghost use Rattle.config_search.specs.Shown.{AsksNothing, IsNew, IsNewHalt, common_of as common_shown, file_of, found_of, git_dir_of};
 ghost use Rattle.config_search.specs.Rule as rule;
 ghost use Rattle.config_search.specs.Search as search;
 ghost use Rattle.config_search.specs.Files as files;
 ghost use Rattle.config_search.specs.Answers as answers;
+ghost use Rattle.config_search.specs.Trust.{IsTrusted};
 ghost use Rattle.config_search.specs.declared.TheConstants.{REAL};
 
 use crate::ahead::ask_ahead;
@@ -277,7 +278,9 @@ fn located(asked: &Asked<'_, '_>, site: &Site<'_>, format: &Format) -> Result<Pl
     ensures { MatchResult result
         (λ place. (system : System) → AreTrueIn system asked.now.facts.now
         → common_shown site.now.common ≡ rule.common_of system site.now.folder.name.now site.now.git_dir.name.items
-        → answers.Tells system (search.Inside site.now.folder.name.now (git_dir_of site.now.git_dir)) place.outcome)
+        → IsTrusted system site.now.start.name.now site.now.folder.name.now (git_dir_of site.now.git_dir)
+        → answers.Tells system site.now.start.name.now
+        (search.Inside site.now.folder.name.now (git_dir_of site.now.git_dir)) place.outcome)
         (IsNewHalt asked.now.facts.now) }
 {
     if let Some(refusal) = format.refusal(asked.alloc)? {
@@ -311,9 +314,9 @@ fn or_stops(
 ) -> Result<Place, Stop>
     ensures asks { IfErr place (IsNewHalt asked.now.facts.now)
         → IfErr result (IsNew asked.now.facts.now) }
-    ensures tells { (system : System) (sought : search.Sought)
-        → IfOk place (λ p. answers.Tells system sought p.outcome)
-        → IfOk result (λ p. answers.Tells system sought p.outcome) }
+    ensures tells { (system : System) (start : List ℕ) (sought : search.Sought)
+        → IfOk place (λ p. answers.Tells system start sought p.outcome)
+        → IfOk result (λ p. answers.Tells system start sought p.outcome) }
 {
     match place {
         Ok(place) => Ok(place),
@@ -327,7 +330,9 @@ fn used(asked: &Asked<'_, '_>, site: &Site<'_>, given: Option<Store>) -> Result<
     ensures { MatchResult result
         (λ place. (system : System) → AreTrueIn system asked.now.facts.now
         → common_shown site.now.common ≡ rule.common_of system site.now.folder.name.now site.now.git_dir.name.items
-        → answers.Tells system (search.Inside site.now.folder.name.now (git_dir_of site.now.git_dir)) place.outcome)
+        → IsTrusted system site.now.start.name.now site.now.folder.name.now (git_dir_of site.now.git_dir)
+        → answers.Tells system site.now.start.name.now
+        (search.Inside site.now.folder.name.now (git_dir_of site.now.git_dir)) place.outcome)
         (IsNewHalt asked.now.facts.now) }
 {
     let mut format = format_of(asked, &site.git_dir.name, &site.common)?;
@@ -344,7 +349,7 @@ fn site_of<'t>(
     git_dir: GitDir,
 ) -> Result<Site<'t>, Halt>
     ensures { MatchResult result
-        (λ site. (site.folder ≡ folder.entry) × (site.git_dir ≡ git_dir)
+        (λ site. (site.start ≡ start.entry) × (site.folder ≡ folder.entry) × (site.git_dir ≡ git_dir)
         × ((system : System) → AreTrueIn system asked.now.facts.now
         → common_shown site.common ≡ rule.common_of system folder.entry.name.now site.git_dir.name.items))
         (IsNewHalt asked.now.facts.now) }
@@ -368,7 +373,8 @@ fn trusted(asked: &Asked<'_, '_>, site: &Site<'_>) -> Result<Place, Halt>
     ensures { MatchResult result
         (λ place. (system : System) → AreTrueIn system asked.now.facts.now
         → common_shown site.now.common ≡ rule.common_of system site.now.folder.name.now site.now.git_dir.name.items
-        → answers.Tells system (search.Inside site.now.folder.name.now (git_dir_of site.now.git_dir)) place.outcome)
+        → answers.Tells system site.now.start.name.now
+        (search.Inside site.now.folder.name.now (git_dir_of site.now.git_dir)) place.outcome)
         (IsNewHalt asked.now.facts.now) }
 {
     let start = site.start;
@@ -384,7 +390,7 @@ fn trusted(asked: &Asked<'_, '_>, site: &Site<'_>) -> Result<Place, Halt>
 fn place_of<'t>(asked: &Asked<'_, 't>, start: Folder<'t>, found: Found<'t>) -> Result<Place, Halt>
     ensures { MatchResult result
         (λ place. (system : System) → AreTrueIn system asked.now.facts.now
-        → answers.Tells system (found_of found.entry) place.outcome)
+        → answers.Tells system start.entry.name.now (found_of found.entry) place.outcome)
         (IsNewHalt asked.now.facts.now) }
 {
     check_booleans(asked)?;
@@ -444,7 +450,7 @@ fn place_from<'t>(asked: &Asked<'_, 't>, start: Folder<'t>) -> Result<Place, Sto
     ensures { MatchResult result
         (λ place. (system : System) → AreTrueIn system asked.now.facts.now
         → (sought : search.Sought) × search.OnlySeeks system start.entry.name.now sought
-        × answers.Tells system sought place.outcome)
+        × answers.Tells system start.entry.name.now sought place.outcome)
         (IsNew asked.now.facts.now) }
 {
     let found = seek(asked, start)?;

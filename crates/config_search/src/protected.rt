@@ -1,409 +1,101 @@
-//! The settings that no repository can change, as far as they decide whether Git uses one: those of the system, of the
-//! user and of the command. No repository is known to their conditions.
-ghost use Rattle.std.specs.Prelude.{IfOk, IfErr};
-ghost use Rattle.config_search.specs.Shown.{IsNew, IsNewHalt, AsksNothing};
+//! The settings that no repository can change, which decide whether Git uses one: those of the system, of the user and of
+//! the command. No repository is known to their conditions.
+ghost use Rattle.std.specs.Prelude.{◌≡◌, ◌++◌, ◌∷◌, [], ℕ, List, None, Some, IfOk, IfErr, OnOk, MatchResult, option_copied, map, drop, length, ◌-◌, codes};
+ghost use Rattle.std.specs.Fmt.{decimal};
+ghost use Rattle.config_file.specs.Settings.{HoldsContent};
+ghost use Rattle.config_file.specs.Command.{AddsSettings, KeyValue};
+ghost use Rattle.config_search.specs.System.{System, AreTrueIn};
+ghost use Rattle.config_search.specs.Protected as rule;
+ghost use Rattle.config_search.specs.declared.TheConstants.{VARIABLE};
+ghost use Rattle.config_search.specs.Shown.{IsNew, IsNewHalt, AsksNothing, MayHold, AreSources, file_of};
 
 use crate::answer::{FaultKind, Named};
-use crate::fact::{Asked, Stop, fact_in, told, told_in};
+use crate::fact::{Asked, Stop, answer_of, fact_in, told, told_in};
 use crate::files::protected_files;
 use crate::halt::{Halt, fault};
-use crate::name::{folder_of, inside, joined, push};
-use crate::{CURRENT, HOME, INCLUDED, REAL, REFUSAL, SETTINGS, VARIABLE};
+use crate::name::{joined, push};
+use crate::{INCLUDED, REFUSAL, SETTINGS, VARIABLE};
 use config_file::errors::{FileError, FileFault};
-use config_file::path::included_name;
+use config_file::walk::include_of;
 use config_file::{
-    CommandError, Condition, Directories, Entry, FilePlace, Include, IncludeFault, Includes, Known,
-    Scope, Step, Urls, Walk, count_of, is_remote_url, push_parameters, push_setting,
+    AddError, CommandError, Condition, Content, Directories, Entry, FilePlace, Files, Include,
+    IncludeFault, Includes, Known, Scope, Settings, Urls, count_of, is_remote_url, push_parameters,
+    push_setting,
 };
 use std::alloc::{AllocError, Global};
 
-/// A setting that decides whether Git uses a repository.
+/// Where the settings are that no repository can change: the names of files, and the text of those of the command.
 #[derive(Drop)]
-pub(crate) struct Said {
-    /// Whether its key is `safe.bareRepository`. Otherwise it is `safe.directory`.
-    pub is_bare: bool,
-    /// Its text, which is empty for a key alone.
-    pub text: Vec<u8>,
-    /// Where it is.
-    pub file: Vec<u8>,
-    /// The line on which it ends.
-    pub line: usize,
+pub(crate) struct Sources {
+    files: Vec<Named>,
+    command: Vec<u8>,
 }
 
-/// What walks over settings find.
-#[derive(Drop)]
-struct Findings {
-    said: Vec<Said>,
-    /// The URLs of all remotes.
-    urls: Vec<Vec<u8>>,
-    /// Whether there is a condition on them.
-    asks_for_urls: bool,
-}
-
-/// A text that Git reads first.
+/// The files that a text includes, as facts tell them.
 #[derive(Clone, Copy)]
-struct Source<'s> {
-    place: FilePlace<'s>,
-    text: &'s [u8],
-    /// Whether it is the text of a file, so that what it includes may begin in a folder.
+struct Included<'a, 'f, 't> {
+    asked: &'a Asked<'f, 't>,
+    /// The folder in which names begin.
+    start: &'a [u8],
+    /// Whether the text is that of a file, so that what it includes may begin in a folder.
     is_file: bool,
 }
 
-/// Whether a text has a section of conditions. The name of a section follows its `[` at once.
-fn has_conditions(text: &[u8]) -> bool {
-    let mut parts = text.split(|byte| *byte == b'[');
-    parts.any(|part| {
-        part.get(..9)
-            .unwrap_or_default()
-            .eq_ignore_ascii_case(b"includeif")
-    })
+/// The end of a name of this many bytes.
+fn end_of(name: &[u8], count: usize) -> &[u8]
+    ensures { result.now ≡ drop (length name.now - count) name.now }
+{
+    &name[name.len().saturating_sub(count)..]
 }
 
-/// The folder of the file of this name without links, which only conditions ask for.
-fn real_dir<'t>(asked: &Asked<'_, 't>, opened: &[u8], text: &[u8]) -> Result<&'t [u8], Stop>
+impl<'t> Included<'_, '_, 't> {
+    /// What the file of this name holds, or a question.
+    fn content(&self, name: &[u8]) -> Result<Content<'t>, Stop>
+        ensures { MatchResult result (HoldsContent (MayHold self.now.asked.now.facts.now self.now.start.now) name.now)
+            (IsNew self.now.asked.now.facts.now) }
+    {
+        let fact = fact_in(self.asked, INCLUDED, self.start, name)?;
+        if let Some(text) = answer_of(&fact) {
+            let place = FilePlace {
+                name: end_of(fact.name, name.len()),
+                real_dir: b"",
+            };
+            return Ok(Content::Text(place, text));
+        }
+        match told_in(self.asked, REFUSAL, self.start, name)? {
+            None => Ok(Content::Missing),
+            Some(_) => Ok(Content::Unreadable("")),
+        }
+    }
+}
+
+impl<'t> Files<'t> for Included<'_, '_, 't> {
+    ghost contents = { λ it name content. MayHold it.asked.now.facts.now it.start.now name content };
+
+    /// What the file of this name holds. One of which facts do not tell that is taken for one that is not read.
+    fn read(&self, _alloc: Global, name: &[u8]) -> Result<Content<'t>, AllocError> {
+        if !self.is_file && !name.starts_with(b"/") {
+            return Ok(Content::Unreadable(""));
+        }
+        match self.content(name) {
+            Ok(content) => Ok(content),
+            Err(Stop::Ask(_)) => Ok(Content::Unreadable("")),
+            Err(Stop::Memory(error)) => Err(error),
+        }
+    }
+}
+
+/// Why the text of a file in a folder is not read, or `None` if there is no such file.
+fn refusal_in<'t>(
+    asked: &Asked<'_, 't>,
+    folder: &[u8],
+    name: &[u8],
+) -> Result<Option<&'t [u8]>, Stop>
     ensures { IfErr result (IsNew asked.now.facts.now) }
 {
-    if !has_conditions(text) {
-        return Ok(b"");
-    }
-    match told(asked, REAL, opened)? {
-        Some(real) => Ok(without_last(real)),
-        None => Ok(told(asked, CURRENT, b"")?.unwrap_or(b"")),
-    }
-}
-
-/// The folder of a file from the root, without `/` at its end.
-fn without_last(name: &[u8]) -> &[u8] {
-    match folder_of(name) {
-        b"/" => b"",
-        folder => folder,
-    }
-}
-
-/// Why the text of a file is not read, or `None` if there is no such file.
-fn refusal_of<'t>(asked: &Asked<'_, 't>, opened: &[u8]) -> Result<Option<&'t [u8]>, Stop>
-    ensures { IfErr result (IsNew asked.now.facts.now) }
-{
-    match told(asked, REFUSAL, opened)? {
+    match told_in(asked, REFUSAL, folder, name)? {
         Some(b"denied") => Ok(Some(b"Permission denied")),
         refusal => Ok(refusal),
-    }
-}
-
-/// The text of a file that Git reads first, or `None` if it is not read: it is not there, or it is a file of the user
-/// who may not read it.
-fn source_of<'s, 't: 's>(
-    asked: &Asked<'_, 't>,
-    start: &[u8],
-    named: &'s Named,
-) -> Result<Option<Source<'s>>, Halt>
-    ensures { IfErr result (IsNewHalt asked.now.facts.now) }
-{
-    let opened = inside(asked.alloc, start, &named.name)?;
-    if let Some(text) = told(asked, SETTINGS, &opened)? {
-        let place = FilePlace {
-            name: &named.name,
-            real_dir: real_dir(asked, &opened, text)?,
-        };
-        return Ok(Some(Source {
-            place,
-            text,
-            is_file: true,
-        }));
-    }
-    match refusal_of(asked, &opened)? {
-        None => Ok(None),
-        Some(b"Permission denied") if named.scope == Scope::Global => Ok(None),
-        Some(why) => Err(fault(asked.alloc, FaultKind::File, &named.name, 0, why)?),
-    }
-}
-
-/// The refusal of the settings of a command.
-fn of_command(alloc: Global, error: CommandError) -> Result<Halt, AllocError>
-    ensures { IfOk result AsksNothing }
-{
-    match error {
-        CommandError::Memory(error) => Ok(Halt::from(error)),
-        error => {
-            let reason = format!(in alloc; "{error}")?;
-            fault(
-                alloc,
-                FaultKind::Command,
-                b"command line",
-                0,
-                reason.as_bytes(),
-            )
-        }
-    }
-}
-
-/// The value of the variable with this name and this number.
-fn numbered<'t>(asked: &Asked<'_, 't>, name: &str, number: usize) -> Result<Option<&'t [u8]>, Stop>
-    ensures { IfErr result (IsNew asked.now.facts.now) }
-{
-    let name = format!(in asked.alloc; "{name}{number}")?;
-    Ok(told(asked, VARIABLE, name.as_bytes())?)
-}
-
-/// Appends the setting of this number.
-fn push_numbered(asked: &Asked<'_, '_>, text: &mut Vec<u8>, number: usize) -> Result<(), Halt>
-    ensures { IfErr result (IsNewHalt asked.now.facts.now) }
-{
-    let Some(key) = numbered(asked, "GIT_CONFIG_KEY_", number)? else {
-        return Err(of_command(asked.alloc, CommandError::MissingKey(number))?);
-    };
-    let Some(value) = numbered(asked, "GIT_CONFIG_VALUE_", number)? else {
-        return Err(of_command(asked.alloc, CommandError::MissingValue(number))?);
-    };
-    match push_setting(asked.alloc, text, key, Some(value)) {
-        Ok(()) => Ok(()),
-        Err(error) => Err(of_command(asked.alloc, error)?),
-    }
-}
-
-/// The settings of the command as the text of a file: first those of GIT_CONFIG_COUNT, and then those of
-/// GIT_CONFIG_PARAMETERS, in which `git -c` hands them on.
-fn command_text(asked: &Asked<'_, '_>) -> Result<Vec<u8>, Halt>
-    ensures { IfErr result (IsNewHalt asked.now.facts.now) }
-{
-    let mut text = Vec::new(asked.alloc);
-    if let Some(count) = told(asked, VARIABLE, b"GIT_CONFIG_COUNT")? {
-        match count_of(count) {
-            Ok(count) => {
-                for number in 0..count {
-                    push_numbered(asked, &mut text, number)?;
-                }
-            }
-            Err(error) => return Err(of_command(asked.alloc, error)?),
-        }
-    }
-    if let Some(parameters) = told(asked, VARIABLE, b"GIT_CONFIG_PARAMETERS")? {
-        if let Err(error) = push_parameters(asked.alloc, &mut text, parameters) {
-            return Err(of_command(asked.alloc, error)?);
-        }
-    }
-    Ok(text)
-}
-
-/// The home folder of the user with whose name a path begins, and what follows the name, or `None` if it begins with
-/// none that the system knows.
-pub(crate) fn of_user(asked: &Asked<'_, '_>, path: &[u8]) -> Result<Option<Vec<u8>>, Stop>
-    ensures { IfErr result (IsNew asked.now.facts.now) }
-{
-    let Some(rest) = path.strip_prefix(b"~") else {
-        return Ok(None);
-    };
-    let length = rest.iter().take_while(|byte| **byte != b'/').count();
-    let (user, below) = rest.split_at(length);
-    if user.is_empty() {
-        return Ok(None);
-    }
-    match told(asked, HOME, user)? {
-        Some(home) => Ok(Some(joined(asked.alloc, home, below, b"")?)),
-        None => Ok(None),
-    }
-}
-
-/// Where Git stops at an include.
-fn at_include(
-    alloc: Global,
-    kind: FaultKind,
-    at: FilePlace<'_>,
-    line: usize,
-    why: IncludeFault<'_>,
-) -> Result<Halt, AllocError>
-    ensures { IfOk result AsksNothing }
-{
-    fault(alloc, kind, at.name, line, why.text().as_bytes())
-}
-
-/// The text of the value of an entry, which is empty for a key alone.
-fn text_of(alloc: Global, entry: &Entry<'_>) -> Result<Vec<u8>, AllocError> {
-    match &entry.value {
-        Some(value) => value.to_vec(alloc),
-        None => Ok(Vec::new(alloc)),
-    }
-}
-
-/// The name of the file that an entry includes, or `None` if it includes none.
-fn name_in(
-    asked: &Asked<'_, '_>,
-    at: FilePlace<'_>,
-    entry: &Entry<'_>,
-    include: Include,
-) -> Result<Option<Vec<u8>>, Halt>
-    ensures { IfErr result (IsNewHalt asked.now.facts.now) }
-{
-    let (kind, why) = match include {
-        Include::NotFollowed => return Ok(None),
-        Include::Named(name) => return Ok(Some(name)),
-        Include::MissingValue => (FaultKind::NoValue, IncludeFault::MissingValue),
-        Include::ForbiddenUrl => (FaultKind::ForbiddenUrl, IncludeFault::ForbiddenUrl),
-        Include::UnknownDirectory => {
-            if let Some(path) = of_user(asked, &text_of(asked.alloc, entry)?)? {
-                return Ok(Some(included_name(asked.alloc, at.name, &path)?));
-            }
-            (FaultKind::UnknownDirectory, IncludeFault::UnknownDirectory)
-        }
-    };
-    Err(at_include(asked.alloc, kind, at, entry.line, why)?)
-}
-
-/// The place and the text of the file of this name that an entry includes, or `None` if there is no such file.
-fn included<'t>(
-    asked: &Asked<'_, 't>,
-    start: &[u8],
-    at: FilePlace<'_>,
-    line: usize,
-    name: &[u8],
-) -> Result<Option<(FilePlace<'t>, &'t [u8])>, Halt>
-    ensures { IfErr result (IsNewHalt asked.now.facts.now) }
-{
-    let fact = fact_in(asked, INCLUDED, start, name)?;
-    let opened = fact.name;
-    if fact.has != 0 {
-        let (_, shown) = opened.split_at(opened.len().saturating_sub(name.len()));
-        let place = FilePlace {
-            name: shown,
-            real_dir: real_dir(asked, opened, fact.text)?,
-        };
-        return Ok(Some((place, fact.text)));
-    }
-    match refusal_of(asked, opened)? {
-        None => Ok(None),
-        Some(why) => {
-            let front = joined(asked.alloc, b"cannot read ", name, b": ")?;
-            let reason = joined(asked.alloc, &front, why, b"")?;
-            Err(fault(asked.alloc, FaultKind::Unreadable, at.name, line, &reason)?)
-        }
-    }
-}
-
-/// Goes on in the file of this name that an entry includes.
-fn enter<'s, 't: 's>(
-    asked: &Asked<'_, 't>,
-    start: &[u8],
-    walk: &mut Walk<'s>,
-    source: &Source<'_>,
-    at: (FilePlace<'_>, usize, &[u8]),
-) -> Result<(), Halt>
-    ensures { IfErr result (IsNewHalt asked.now.facts.now) }
-{
-    let (place, line, name) = at;
-    if !source.is_file && !name.starts_with(b"/") {
-        let why = b"relative config includes must come from files";
-        return Err(fault(asked.alloc, FaultKind::Relative, place.name, line, why)?);
-    }
-    match included(asked, start, place, line, name)? {
-        Some((inner, text)) if !walk.enter(inner, text) => {
-            let why = IncludeFault::TooDeep;
-            Err(at_include(asked.alloc, FaultKind::TooDeep, place, line, why)?)
-        }
-        _ => Ok(()),
-    }
-}
-
-/// Whether an entry has the URLs of remotes as its condition.
-fn asks_for_urls(alloc: Global, entry: &Entry<'_>) -> Result<bool, AllocError> {
-    let Some(section) = &entry.section else {
-        return Ok(false);
-    };
-    let Some(subsection) = &section.subsection else {
-        return Ok(false);
-    };
-    let mut text = Vec::new(alloc);
-    subsection.push_text(&mut text)?;
-    let is_url = matches!(Condition::parse(&text), Condition::HasRemoteUrl(_));
-    Ok(is_url && section.name.eq_ignore_ascii_case(b"includeif"))
-}
-
-impl Findings {
-    /// Nothing.
-    fn new(alloc: Global) -> Findings {
-        Findings {
-            said: Vec::new(alloc),
-            urls: Vec::new(alloc),
-            asks_for_urls: false,
-        }
-    }
-
-    /// Takes what a setting of this name in the section `safe` says.
-    fn take_said(
-        &mut self,
-        alloc: Global,
-        place: FilePlace<'_>,
-        entry: &Entry<'_>,
-        is_bare: bool,
-    ) -> Result<(), AllocError> {
-        Ok(
-            self.said.push(Said {
-                is_bare,
-                text: text_of(alloc, entry)?,
-                file: place.name.to_vec(alloc)?,
-                line: entry.line,
-            })?,
-        )
-    }
-
-    /// Takes an entry.
-    fn take(
-        &mut self,
-        alloc: Global,
-        place: FilePlace<'_>,
-        entry: &Entry<'_>,
-    ) -> Result<(), AllocError> {
-        let key = entry.key_text(alloc)?;
-        let is_bare = key.as_slice() == b"safe.barerepository".as_slice();
-        if is_bare || key.as_slice() == b"safe.directory".as_slice() {
-            self.take_said(alloc, place, entry, is_bare)?;
-        }
-        self.asks_for_urls = self.asks_for_urls || asks_for_urls(alloc, entry)?;
-        if is_remote_url(entry) && entry.value.is_some() {
-            self.urls.push(text_of(alloc, entry)?)?;
-        }
-        Ok(())
-    }
-
-    /// Takes the next entry of a walk, and goes on in the file that it includes. Returns false at the end.
-    fn take_next<'s, 't: 's>(
-        &mut self,
-        asked: &Asked<'_, 't>,
-        start: &[u8],
-        known: &Known<'_>,
-        source: &Source<'s>,
-        walk: &mut Walk<'s>,
-    ) -> Result<bool, Halt>
-        ensures { IfErr result (IsNewHalt asked.now.facts.now) }
-    {
-        let (place, entry, include) = match walk.next(asked.alloc, known)? {
-            Step::Entry(place, entry, include) => (place, entry, include),
-            Step::Line(place, error) => return Err(at_line(asked.alloc, place.name, error)?),
-            Step::Ends => return Ok(false),
-        };
-        self.take(asked.alloc, place, &entry)?;
-        if let Some(name) = name_in(asked, place, &entry, include)? {
-            enter(asked, start, walk, source, (place, entry.line, &name))?;
-        }
-        Ok(true)
-    }
-
-    /// Takes all entries of a text and of what it includes.
-    fn take_all<'s, 't: 's>(
-        &mut self,
-        asked: &Asked<'_, 't>,
-        start: &[u8],
-        known: &Known<'_>,
-        source: &Source<'s>,
-    ) -> Result<(), Halt>
-        ensures { IfErr result (IsNewHalt asked.now.facts.now) }
-    {
-        let mut walk = Walk::new(source.place, source.text);
-        for _ in 0..u64::MAX {
-            if !self.take_next(asked, start, known, source, &mut walk)? {
-                break;
-            }
-        }
-        Ok(())
     }
 }
 
@@ -418,14 +110,320 @@ pub(crate) fn at_line(alloc: Global, file: &[u8], error: FileError) -> Result<Ha
     fault(alloc, kind, file, error.line, error.fault.text().as_bytes())
 }
 
-/// What walks over these texts find, where the URLs of remotes are these.
-fn walked<'s, 't: 's>(
+/// Where Git stops at an include in this line of a file.
+fn at_include(
+    alloc: Global,
+    file: &[u8],
+    line: usize,
+    why: IncludeFault<'_>,
+) -> Result<Halt, AllocError>
+    ensures { IfOk result AsksNothing }
+{
+    let kind = match why {
+        IncludeFault::MissingValue => FaultKind::NoValue,
+        IncludeFault::UnknownDirectory => FaultKind::UnknownDirectory,
+        IncludeFault::TooDeep => FaultKind::TooDeep,
+        IncludeFault::ForbiddenUrl => FaultKind::ForbiddenUrl,
+        _ => FaultKind::Unreadable,
+    };
+    fault(alloc, kind, file, line, why.text().as_bytes())
+}
+
+/// Why Git stops at an entry that includes the file of this name, which is not read.
+fn not_read(
+    included: &Included<'_, '_, '_>,
+    file: &[u8],
+    line: usize,
+    name: &[u8],
+) -> Result<Halt, Stop>
+    ensures { MatchResult result AsksNothing (IsNew included.now.asked.now.facts.now) }
+{
+    let alloc = included.asked.alloc;
+    if !included.is_file && !name.starts_with(b"/") {
+        let why = b"relative config includes must come from files";
+        return Ok(fault(alloc, FaultKind::Relative, file, line, why)?);
+    }
+    fact_in(included.asked, INCLUDED, included.start, name)?;
+    let why = refusal_in(included.asked, included.start, name)?.unwrap_or_default();
+    let front = joined(alloc, b"cannot read ", name, b": ")?;
+    let reason = joined(alloc, &front, why, b"")?;
+    Ok(fault(alloc, FaultKind::Unreadable, file, line, &reason)?)
+}
+
+/// Why Git stops at the last of these entries, whose file is not read.
+fn at_last(
+    included: &Included<'_, '_, '_>,
+    known: &Known<'_>,
+    settings: &Settings<'_>,
+    why: IncludeFault<'_>,
+) -> Result<Halt, Stop>
+    ensures { MatchResult result AsksNothing (IsNew included.now.asked.now.facts.now) }
+{
+    let alloc = included.asked.alloc;
+    let Some(last) = settings.entries.last() else {
+        return Ok(at_include(alloc, b"", 0, why)?);
+    };
+    let place = FilePlace {
+        name: last.file,
+        real_dir: b"",
+    };
+    match include_of(alloc, known, place, &last.entry)? {
+        Include::Named(name) => not_read(included, last.file, last.entry.line, &name),
+        _ => Ok(at_include(alloc, last.file, last.entry.line, why)?),
+    }
+}
+
+/// Why Git stops in a text, of which these settings are read.
+fn stop_of(
+    included: &Included<'_, '_, '_>,
+    known: &Known<'_>,
+    settings: &Settings<'_>,
+    error: AddError<'_>,
+) -> Result<Halt, Stop>
+    ensures { MatchResult result AsksNothing (IsNew included.now.asked.now.facts.now) }
+{
+    let alloc = included.asked.alloc;
+    match error {
+        AddError::Line { file, error } => Ok(at_line(alloc, file, error)?),
+        AddError::Include {
+            fault: why @ IncludeFault::Unreadable(_),
+            ..
+        } => at_last(included, known, settings, why),
+        AddError::Include { file, line, fault } => Ok(at_include(alloc, file, line, fault)?),
+        _ => Err(Stop::Memory(AllocError)),
+    }
+}
+
+/// Adds the settings of a text of this name, and of what it includes.
+fn add_text<'s, 't: 's>(
+    included: &Included<'_, '_, 't>,
+    known: &Known<'_>,
+    settings: &mut Settings<'s>,
+    scope: Scope,
+    name: &'s [u8],
+    text: &'s [u8],
+) -> Result<(), Halt>
+    ensures { MatchResult result
+        (λ done. (system : System) → AreTrueIn system included.now.asked.now.facts.now
+        → rule.AddsText system included.now.start.now known.now name.now text.now
+        settings.old.entries.items settings.new.entries.items)
+        (IsNewHalt included.now.asked.now.facts.now) }
+{
+    let place = FilePlace {
+        name,
+        real_dir: b"",
+    };
+    let alloc = included.asked.alloc;
+    match settings.add_with_includes(alloc, scope, included, known, place, text) {
+        Ok(()) => Ok(()),
+        Err(error) => Err(stop_of(included, known, settings, error)?),
+    }
+}
+
+/// Adds the settings of a file, and of what it includes, if it is read. One of the user may be denied to him.
+fn add_file<'s, 't: 's>(
     asked: &Asked<'_, 't>,
     start: &[u8],
-    sources: &[Source<'s>],
-    urls: Urls<'_>,
-) -> Result<Findings, Halt>
+    known: &Known<'_>,
+    settings: &mut Settings<'s>,
+    named: &'s Named,
+) -> Result<(), Halt>
+    ensures { MatchResult result
+        (λ done. (system : System) → AreTrueIn system asked.now.facts.now
+        → rule.AddsFile system start.now known.now (file_of named.now)
+        settings.old.entries.items settings.new.entries.items)
+        (IsNewHalt asked.now.facts.now) }
+{
+    let Some(text) = told_in(asked, SETTINGS, start, &named.name)? else {
+        check_unread(asked, start, named)?;
+        return Ok(());
+    };
+    let included = Included {
+        asked,
+        start,
+        is_file: true,
+    };
+    add_text(&included, known, settings, named.scope, &named.name, text)?;
+    Ok(())
+}
+
+/// Stops where Git does at a file that is not read: one that is there, unless it is a file of the user who may not read
+/// it.
+fn check_unread(asked: &Asked<'_, '_>, start: &[u8], named: &Named) -> Result<(), Halt>
     ensures { IfErr result (IsNewHalt asked.now.facts.now) }
+{
+    match refusal_in(asked, start, &named.name)? {
+        None => Ok(()),
+        Some(b"Permission denied") if named.scope == Scope::Global => Ok(()),
+        Some(why) => Err(fault(asked.alloc, FaultKind::File, &named.name, 0, why)?),
+    }
+}
+
+/// The refusal of the settings of a command.
+fn of_command(alloc: Global, error: CommandError) -> Result<Halt, AllocError>
+    ensures { IfOk result AsksNothing }
+{
+    match error {
+        CommandError::Memory(error) => Ok(Halt::from(error)),
+        error => {
+            let reason = format!(in alloc; "{error}")?;
+            let kind = FaultKind::Command;
+            fault(alloc, kind, COMMAND, 0, reason.as_bytes())
+        }
+    }
+}
+
+/// The name of the text of the settings of a command.
+const COMMAND: &[u8] = b"command line";
+
+/// The value of the variable with this name and this number.
+fn numbered<'t>(asked: &Asked<'_, 't>, name: &str, number: usize) -> Result<Option<&'t [u8]>, Stop>
+    ensures { MatchResult result
+        (λ answer. (system : System) → AreTrueIn system asked.now.facts.now
+        → option_copied answer ≡ system VARIABLE (name.now ++ decimal number))
+        (IsNew asked.now.facts.now) }
+{
+    let name = format!(in asked.alloc; "{name}{number}")?;
+    Ok(told(asked, VARIABLE, name.as_bytes())?)
+}
+
+/// Appends the setting of this number.
+fn push_numbered(asked: &Asked<'_, '_>, text: &mut Vec<u8>, number: usize) -> Result<(), Halt>
+    ensures { MatchResult result
+        (λ done. (system : System) → AreTrueIn system asked.now.facts.now
+        → (setting : KeyValue) × (line : List ℕ) × rule.IsNumbered system number setting
+        × AddsSettings line (setting ∷ []) × (text.new.items ≡ text.old.items ++ line))
+        (IsNewHalt asked.now.facts.now) }
+{
+    let Some(key) = numbered(asked, "GIT_CONFIG_KEY_", number)? else {
+        return Err(of_command(asked.alloc, CommandError::MissingKey(number))?);
+    };
+    let Some(value) = numbered(asked, "GIT_CONFIG_VALUE_", number)? else {
+        return Err(of_command(asked.alloc, CommandError::MissingValue(number))?);
+    };
+    match push_setting(asked.alloc, text, key, Some(value)) {
+        Ok(()) => Ok(()),
+        Err(error) => Err(of_command(asked.alloc, error)?),
+    }
+}
+
+/// The settings that GIT_CONFIG_COUNT counts, as the text of a file.
+fn counted_text(asked: &Asked<'_, '_>) -> Result<Vec<u8>, Halt>
+    ensures { MatchResult result
+        (λ text. (system : System) → AreTrueIn system asked.now.facts.now
+        → (settings : List KeyValue) × AddsSettings text.items settings
+        × rule.AreCounted system (system VARIABLE (codes "GIT_CONFIG_COUNT")) settings)
+        (IsNewHalt asked.now.facts.now) }
+{
+    let mut text = Vec::new(asked.alloc);
+    let Some(count) = told(asked, VARIABLE, b"GIT_CONFIG_COUNT")? else {
+        return Ok(text);
+    };
+    let count = match count_of(count) {
+        Ok(count) => count,
+        Err(error) => return Err(of_command(asked.alloc, error)?),
+    };
+    for number in 0..count {
+        push_numbered(asked, &mut text, number)?;
+    }
+    Ok(text)
+}
+
+/// The settings of the command as the text of a file: first those of GIT_CONFIG_COUNT, and then those of
+/// GIT_CONFIG_PARAMETERS, in which `git -c` hands them on.
+fn command_text(asked: &Asked<'_, '_>) -> Result<Vec<u8>, Halt>
+    ensures { MatchResult result
+        (λ text. (system : System) → AreTrueIn system asked.now.facts.now → rule.IsOfCommand system text.items)
+        (IsNewHalt asked.now.facts.now) }
+{
+    let mut text = counted_text(asked)?;
+    let Some(parameters) = told(asked, VARIABLE, b"GIT_CONFIG_PARAMETERS")? else {
+        return Ok(text);
+    };
+    match push_parameters(asked.alloc, &mut text, parameters) {
+        Ok(()) => Ok(text),
+        Err(error) => Err(of_command(asked.alloc, error)?),
+    }
+}
+
+/// Where the settings are that no repository can change.
+pub(crate) fn sources_of(asked: &Asked<'_, '_>) -> Result<Sources, Halt>
+    ensures { MatchResult result
+        (λ sources. (system : System) → AreTrueIn system asked.now.facts.now → AreSources system sources)
+        (IsNewHalt asked.now.facts.now) }
+{
+    let files = protected_files(asked)?;
+    let command = command_text(asked)?;
+    Ok(Sources { files, command })
+}
+
+/// Whether an entry has a condition on the URLs of remotes.
+fn asks_for_urls(alloc: Global, entry: &Entry<'_>) -> Result<bool, AllocError> {
+    let Some(section) = &entry.section else {
+        return Ok(false);
+    };
+    let Some(subsection) = &section.subsection else {
+        return Ok(false);
+    };
+    let mut text = Vec::new(alloc);
+    subsection.push_text(&mut text)?;
+    let is_url = matches!(Condition::parse(&text), Condition::HasRemoteUrl(_));
+    Ok(is_url && section.name.eq_ignore_ascii_case(b"includeif"))
+}
+
+/// Whether one of these settings has such a condition.
+fn ask_for_urls(alloc: Global, settings: &Settings<'_>) -> Result<bool, AllocError> {
+    for setting in &settings.entries {
+        if asks_for_urls(alloc, &setting.entry)? {
+            return Ok(true);
+        }
+    }
+    Ok(false)
+}
+
+/// The URLs of all remotes that these settings have.
+fn urls_in<'s>(alloc: Global, settings: &'s Settings<'_>) -> Result<Vec<&'s [u8]>, AllocError> {
+    let mut urls = Vec::new(alloc);
+    for setting in &settings.entries {
+        if is_remote_url(&setting.entry) {
+            if let Some(url) = setting.value.as_deref() {
+                push(&mut urls, url)?;
+            }
+        }
+    }
+    Ok(urls)
+}
+
+/// The settings of these files and of what they include.
+fn settings_of<'s, 't: 's>(
+    asked: &Asked<'_, 't>,
+    start: &[u8],
+    known: &Known<'_>,
+    files: &'s [Named],
+) -> Result<Settings<'s>, Halt>
+    ensures { MatchResult result
+        (λ settings. (system : System) → AreTrueIn system asked.now.facts.now
+        → rule.AreIn system start.now known.now (map file_of files.now) settings.entries.items)
+        (IsNewHalt asked.now.facts.now) }
+{
+    let mut settings = Settings::new(asked.alloc);
+    for file in files {
+        add_file(asked, start, known, &mut settings, file)?;
+    }
+    Ok(settings)
+}
+
+/// The settings of these sources, where the URLs of remotes are these.
+fn settings_by<'s, 't: 's>(
+    asked: &Asked<'_, 't>,
+    start: &[u8],
+    sources: &'s Sources,
+    urls: Urls<'_>,
+) -> Result<Settings<'s>, Halt>
+    ensures { MatchResult result
+        (λ settings. (system : System) → AreTrueIn system asked.now.facts.now → AreSources system sources.now
+        → rule.AreProtected system start.now settings.entries.items)
+        (IsNewHalt asked.now.facts.now) }
 {
     let directories = Directories {
         home: told(asked, VARIABLE, b"HOME")?,
@@ -435,53 +433,39 @@ fn walked<'s, 't: 's>(
         directories,
         includes: Includes::AsGit(None, urls),
     };
-    let mut findings = Findings::new(asked.alloc);
-    for source in sources {
-        findings.take_all(asked, start, &known, source)?;
-    }
-    Ok(findings)
-}
-
-/// What these texts say. If a condition asks about the URLs of remotes, they are sought first.
-fn said_in<'s, 't: 's>(
-    asked: &Asked<'_, 't>,
-    start: &[u8],
-    sources: &[Source<'s>],
-) -> Result<Vec<Said>, Halt>
-    ensures { IfErr result (IsNewHalt asked.now.facts.now) }
-{
-    let found = walked(asked, start, sources, Urls::Sought)?;
-    if !found.asks_for_urls {
-        return Ok(found.said);
-    }
-    let mut urls = Vec::new(asked.alloc);
-    for url in &found.urls {
-        push(&mut urls, url.as_slice())?;
-    }
-    Ok(walked(asked, start, sources, Urls::Known(&urls))?.said)
-}
-
-/// What the settings say that no repository can change, in order. Names begin in the folder `start`.
-pub(crate) fn protected_settings(asked: &Asked<'_, '_>, start: &[u8]) -> Result<Vec<Said>, Halt>
-    ensures { IfErr result (IsNewHalt asked.now.facts.now) }
-{
-    let names = protected_files(asked)?;
-    let text = command_text(asked)?;
-    let mut sources = Vec::new(asked.alloc);
-    for named in &names {
-        if let Some(source) = source_of(asked, start, named)? {
-            push(&mut sources, source)?;
-        }
-    }
-    let place = FilePlace {
-        name: b"command line",
-        real_dir: b"\0",
-    };
-    let source = Source {
-        place,
-        text: &text,
+    let mut settings = settings_of(asked, start, &known, &sources.files)?;
+    let included = Included {
+        asked,
+        start,
         is_file: false,
     };
-    push(&mut sources, source)?;
-    said_in(asked, start, &sources)
+    add_text(
+        &included,
+        &known,
+        &mut settings,
+        Scope::Command,
+        COMMAND,
+        &sources.command,
+    )?;
+    Ok(settings)
+}
+
+/// The settings that no repository can change, in order. Names begin in the folder `start`. If a condition asks about
+/// the URLs of remotes, these are sought first.
+pub(crate) fn protected_settings<'s, 't: 's>(
+    asked: &Asked<'_, 't>,
+    start: &[u8],
+    sources: &'s Sources,
+) -> Result<Settings<'s>, Halt>
+    ensures { MatchResult result
+        (λ settings. (system : System) → AreTrueIn system asked.now.facts.now → AreSources system sources.now
+        → rule.AreProtected system start.now settings.entries.items)
+        (IsNewHalt asked.now.facts.now) }
+{
+    let settings = settings_by(asked, start, sources, Urls::Sought)?;
+    if !ask_for_urls(asked.alloc, &settings)? {
+        return Ok(settings);
+    }
+    let urls = urls_in(asked.alloc, &settings)?;
+    Ok(settings_by(asked, start, sources, Urls::Known(&urls))?)
 }

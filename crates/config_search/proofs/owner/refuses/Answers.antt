@@ -1,6 +1,8 @@
-use Rattle.std.proofs.Common.{refl, IfSome, None, Option, Some}
+use Rattle.std.proofs.Common.{inl, inr, refl, List, MatchOption, None, Option, Some, ℕ}
 use Rattle.config_search.specs.System.{System}
-use Rattle.config_search.specs.Search.{Inside, Sought}
+use Rattle.config_search.specs.Rule.{GitDir}
+use Rattle.config_search.specs.Search.{Inside}
+use Rattle.config_search.specs.Trust.{IsSafe, IsTrusted}
 use Rattle.config_search.specs.Answers.{IsOfOther, IsOfOtherOne, RefusesIt}
 use Rattle.config_search.specs.Shown.{git_dir_of}
 use Rattle.config_search.specs.declared.answer.Refusal.{Refusal}
@@ -10,12 +12,16 @@ pub returns-in-Some : goal.returns-in-Some
 returns-in-Some c = λ system agrees. (rw c.in-Some.is at c.in_ok-refusal-in-Bare.ensures) system
     (Inside c.args.folder.name.now (git_dir_of c.args.git_dir.now)) (rw c.in-Bare.is refl)
 
-if_other : (refusal : Option Refusal) (system : System) (sought : Sought) → IsOfOther system sought
-    → IfSome refusal IsOfOtherOne → IfSome refusal (RefusesIt system sought)
-if_other None system sought other is = tt
-if_other (Some refusal) system sought other is = is system sought other
+pub returns-then-branch : goal.returns-then-branch
+returns-then-branch c = λ system agrees. inr (inl (rw c.if-branch.true at c.in_ok-is_own.ensures system agrees))
+
+if_other : (refusal : Option Refusal) (system : System) (start folder : List ℕ) (it : GitDir)
+    → IsOfOther system (Inside folder it) → MatchOption refusal (IsSafe system start folder) IsOfOtherOne
+    → MatchOption refusal (IsTrusted system start folder it) (RefusesIt system (Inside folder it))
+if_other None system start folder it other is = inr (inr is)
+if_other (Some refusal) system start folder it other is = is system (Inside folder it) other
 
 pub returns : goal.returns
-returns c = λ system agrees. if_other c.in_ok-refuses_owner.field-0 system
-    (Inside c.args.folder.name.now (git_dir_of c.args.git_dir.now))
-    (rw c.if-branch.false at c.in_ok-is_own.ensures system agrees) c.in_ok-refuses_owner.ensures
+returns c = λ system agrees. if_other c.in_ok-refuses_owner.field-0 system c.args.start.now c.args.folder.name.now
+    (git_dir_of c.args.git_dir.now) (rw c.if-branch.false at c.in_ok-is_own.ensures system agrees)
+    (c.in_ok-refuses_owner.ensures system agrees)

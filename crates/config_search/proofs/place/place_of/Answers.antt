@@ -1,4 +1,4 @@
-use Rattle.std.proofs.Common.{◌≡◌, Err, List, MatchResult, Ok, Result, refl, ℕ}
+use Rattle.std.proofs.Common.{◌≡◌, Err, List, MatchResult, Ok, Result, refl, sym, ℕ}
 use Rattle.config_search.specs.System.{System, AreTrueIn}
 use Rattle.config_search.specs.Rule as rule
 use Rattle.config_search.specs.Search.{Inside, Sought}
@@ -10,20 +10,20 @@ use Rattle.config_search.specs.declared.place.Place.{Place}
 use Rattle.config_search.specs.declared.place.Site.{Site}
 use Rattle.config_search.proofs.place.place_of.Goals as goal
 
-of_site : (facts : List Fact) (site : Site) (folder : List ℕ) (found : Sought) (place : Result Place Halt)
-    → site.folder.name.now ≡ folder → found ≡ Inside site.folder.name.now (git_dir_of site.git_dir)
+of_site : (facts : List Fact) (site : Site) (start folder : List ℕ) (found : Sought) (place : Result Place Halt)
+    → site.start.name.now ≡ start → site.folder.name.now ≡ folder → found ≡ Inside site.folder.name.now (git_dir_of site.git_dir)
     → ((system : System) → AreTrueIn system facts
     → common_of site.common ≡ rule.common_of system folder site.git_dir.name.items)
     → MatchResult place (λ p. (system : System) → AreTrueIn system facts
     → common_of site.common ≡ rule.common_of system site.folder.name.now site.git_dir.name.items
-    → Tells system (Inside site.folder.name.now (git_dir_of site.git_dir)) p.outcome) (IsNewHalt facts)
-    → MatchResult place (λ p. (system : System) → AreTrueIn system facts → Tells system found p.outcome) (IsNewHalt facts)
-of_site facts site folder found (Ok p) at is shared does = λ system agrees.
-    rw is (does system agrees (rw at (shared system agrees)))
-of_site facts site folder found (Err h) at is shared does = does
+    → Tells system site.start.name.now (Inside site.folder.name.now (git_dir_of site.git_dir)) p.outcome) (IsNewHalt facts)
+    → MatchResult place (λ p. (system : System) → AreTrueIn system facts → Tells system start found p.outcome) (IsNewHalt facts)
+of_site facts site start folder found (Ok p) begins at is shared does = λ system agrees.
+    rw (is, sym begins) (does system agrees (rw at (shared system agrees)))
+of_site facts site start folder found (Err h) begins at is shared does = does
 
 pub returns-in-In : goal.returns-in-In
 returns-in-In c =
     let known = c.in_ok-site-in-In.ensures in
-    of_site c.args.asked.now.facts.now c.in_ok-site-in-In.site c.in-In.folder.name.now _ c.trusted.result
-    (rw known.0 refl) (rw (c.in-In.is, known.0, known.1) refl) known.2 c.trusted.ensures
+    of_site c.args.asked.now.facts.now c.in_ok-site-in-In.site c.args.start.name.now c.in-In.folder.name.now _
+    c.trusted.result (rw known.0 refl) (rw known.1 refl) (rw (c.in-In.is, known.1, known.2) refl) known.3 c.trusted.ensures

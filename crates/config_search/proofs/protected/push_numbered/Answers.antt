@@ -1,0 +1,18 @@
+use Rattle.std.proofs.Common.{Some, refl, sym}
+use Rattle.config_search.proofs.protected.push_numbered.Goals as goal
+
+pub returns-in-Ok : goal.returns-in-Ok
+returns-in-Ok c = λ system agrees.
+    let (accepts, (line, adds, is)) = c.in-Ok.ensures in (
+      (c.in-Some.key.now, Some c.in-Some-2.value.now),
+      line,
+      (
+        c.in-Some.key.now,
+        c.in-Some-2.value.now,
+        refl,
+        sym (rw c.in-Some.is at c.in_ok-key.ensures system agrees),
+        sym (rw c.in-Some-2.is at c.in_ok-value.ensures system agrees),
+      ),
+      adds,
+      is,
+    )
