@@ -3,3 +3,6 @@ pub mod Ceilings
 pub mod Lists
 pub mod Names
 pub mod OneAnswer
+pub mod Parts
+pub mod Places
+pub mod Stores

@@ -4,6 +4,7 @@ pub mod Rule
 pub mod Search
 pub mod Files
 pub mod Owner
+pub mod Questions
 pub mod Shown
 pub mod Answers
 pub mod Layouts

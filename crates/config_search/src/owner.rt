@@ -5,6 +5,7 @@ ghost use Rattle.config_search.specs.Rule.{IsBelow};
 ghost use Rattle.config_search.specs.Search.{Inside};
 ghost use Rattle.config_search.specs.Owner as rule;
 ghost use Rattle.config_search.specs.Answers.{IsOfBareOne, IsOfOtherOne, RefusesIt};
+ghost use Rattle.config_search.specs.Questions.{IsPlace};
 ghost use Rattle.config_search.specs.Shown.{IsNew, IsNewHalt, form_of, git_dir_of};
 
 use crate::answer::{FaultKind, Refusal};
@@ -21,9 +22,10 @@ use config_file::path::expand;
 /// Whether the file of this name, which may be a link, belongs to the user. To root it also belongs if its owner became
 /// root by sudo.
 fn is_owned(asked: &Asked<'_, '_>, name: &[u8]) -> Result<bool, Stop>
+    requires { IsPlace asked.now.folder.now asked.now.facts.now name.now }
     ensures { MatchResult result
         (λ is. (system : System) → AreTrueIn system asked.now.facts.now → is ≡ rule.is_owned system name.now)
-        (IsNew asked.now.facts.now) }
+        (IsNew asked.now.folder.now asked.now.facts.now) }
 {
     let owner = told(asked, OWNER, name)?;
     let user = told(asked, USER, b"")?;
@@ -38,10 +40,12 @@ fn is_owned(asked: &Asked<'_, '_>, name: &[u8]) -> Result<bool, Stop>
 
 /// Whether `.git` of a folder, the folder and the git directory belong to the user.
 fn are_owned_below(asked: &Asked<'_, '_>, folder: &[u8], name: &[u8]) -> Result<bool, Stop>
+    requires place { IsPlace asked.now.folder.now asked.now.facts.now folder.now }
+    requires git_dir_place { IsPlace asked.now.folder.now asked.now.facts.now name.now }
     ensures { MatchResult result
         (λ are. (system : System) → AreTrueIn system asked.now.facts.now
         → are ≡ rule.are_owned system folder.now name.now IsBelow)
-        (IsNew asked.now.facts.now) }
+        (IsNew asked.now.folder.now asked.now.facts.now) }
 {
     let link = inside(asked.alloc, folder, b".git")?;
     if !is_owned(asked, &link)? {
@@ -55,10 +59,12 @@ fn are_owned_below(asked: &Asked<'_, '_>, folder: &[u8], name: &[u8]) -> Result<
 
 /// Whether all files that have to belong to the user do.
 fn are_owned(asked: &Asked<'_, '_>, folder: &[u8], git_dir: &GitDir) -> Result<bool, Stop>
+    requires place { IsPlace asked.now.folder.now asked.now.facts.now folder.now }
+    requires git_dir_place { IsPlace asked.now.folder.now asked.now.facts.now git_dir.now.name.items }
     ensures { MatchResult result
         (λ are. (system : System) → AreTrueIn system asked.now.facts.now
         → are ≡ rule.are_owned system folder.now git_dir.now.name.items (form_of git_dir.now.form))
-        (IsNew asked.now.facts.now) }
+        (IsNew asked.now.folder.now asked.now.facts.now) }
 {
     match git_dir.form {
         Form::Given => Ok(true),
@@ -69,11 +75,13 @@ fn are_owned(asked: &Asked<'_, '_>, folder: &[u8], git_dir: &GitDir) -> Result<b
 
 /// Whether the git directory of a folder is the user's own. A variable may say that it is not, which Git has for tests.
 fn is_own(asked: &Asked<'_, '_>, folder: &[u8], git_dir: &GitDir) -> Result<bool, Stop>
+    requires place { IsPlace asked.now.folder.now asked.now.facts.now folder.now }
+    requires git_dir_place { IsPlace asked.now.folder.now asked.now.facts.now git_dir.now.name.items }
     ensures { MatchResult result
         (λ is. (system : System) → AreTrueIn system asked.now.facts.now
         → MatchBool is (rule.IsOwn system folder.now (git_dir_of git_dir.now))
         (¬ (rule.IsOwn system folder.now (git_dir_of git_dir.now))))
-        (IsNew asked.now.facts.now) }
+        (IsNew asked.now.folder.now asked.now.facts.now) }
 {
     if is_on(asked, b"GIT_TEST_ASSUME_DIFFERENT_OWNER")? {
         return Ok(false);
@@ -86,7 +94,7 @@ fn is_own(asked: &Asked<'_, '_>, folder: &[u8], git_dir: &GitDir) -> Result<bool
 
 /// The path that a value of `safe.directory` spells, or `None` if it begins with a folder that is not known.
 fn spelled(asked: &Asked<'_, '_>, value: &[u8]) -> Result<Option<Vec<u8>>, Stop>
-    ensures { IfErr result (IsNew asked.now.facts.now) }
+    ensures { IfErr result (IsNew asked.now.folder.now asked.now.facts.now) }
 {
     let directories = Directories {
         home: told(asked, VARIABLE, b"HOME")?,
@@ -100,7 +108,7 @@ fn spelled(asked: &Asked<'_, '_>, value: &[u8]) -> Result<Option<Vec<u8>>, Stop>
 
 /// Whether the folder is below the one of this name, whose links are resolved.
 fn is_below(asked: &Asked<'_, '_>, name: &[u8], folder: &[u8]) -> Result<bool, Stop>
-    ensures { IfErr result (IsNew asked.now.facts.now) }
+    ensures { IfErr result (IsNew asked.now.folder.now asked.now.facts.now) }
 {
     let above = if name.is_empty() { b"/" } else { name };
     let Some(real) = told(asked, REAL, above)? else {
@@ -114,7 +122,7 @@ fn is_below(asked: &Asked<'_, '_>, name: &[u8], folder: &[u8]) -> Result<bool, S
 
 /// Whether a path from the root is that of a folder, or is one above it that ends with `/*`.
 fn covers(asked: &Asked<'_, '_>, path: &[u8], folder: &[u8]) -> Result<bool, Stop>
-    ensures { IfErr result (IsNew asked.now.facts.now) }
+    ensures { IfErr result (IsNew asked.now.folder.now asked.now.facts.now) }
 {
     if let Some(above) = path.strip_suffix(b"/*") {
         return is_below(asked, above, folder);
@@ -130,7 +138,7 @@ fn names_folder(
     value: &[u8],
     folder: &[u8],
 ) -> Result<bool, Stop>
-    ensures { IfErr result (IsNew asked.now.facts.now) }
+    ensures { IfErr result (IsNew asked.now.folder.now asked.now.facts.now) }
 {
     let Some(path) = spelled(asked, value)? else {
         return Ok(false);
@@ -152,7 +160,7 @@ fn name_as_safe(
     start: &[u8],
     folder: &[u8],
 ) -> Result<bool, Stop>
-    ensures { IfErr result (IsNew asked.now.facts.now) }
+    ensures { IfErr result (IsNew asked.now.folder.now asked.now.facts.now) }
 {
     let mut is_safe = false;
     for setting in said {
@@ -169,7 +177,7 @@ fn name_as_safe(
 
 /// Whether the last setting of `safe.bareRepository` lets Git find bare repositories, which needs one of two words.
 fn allow_bare(asked: &Asked<'_, '_>, said: &[Said]) -> Result<bool, Halt>
-    ensures { IfErr result (IsNewHalt asked.now.facts.now) }
+    ensures { IfErr result (IsNewHalt asked.now.folder.now asked.now.facts.now) }
 {
     let mut may_be = true;
     for setting in said {
@@ -201,7 +209,7 @@ fn refuses_bare(
     start: &[u8],
     folder: Folder<'_>,
 ) -> Result<Option<Refusal>, Halt>
-    ensures { MatchResult result (λ refusal. IfSome refusal IsOfBareOne) (IsNewHalt asked.now.facts.now) }
+    ensures { MatchResult result (λ refusal. IfSome refusal IsOfBareOne) (IsNewHalt asked.now.folder.now asked.now.facts.now) }
 {
     let may_be = allow_bare(asked, &protected_settings(asked, start)?)?;
     let real = told(asked, REAL, opened(folder.name))?.unwrap_or(folder.path);
@@ -217,7 +225,7 @@ fn refuses_owner(
     start: &[u8],
     folder: Folder<'_>,
 ) -> Result<Option<Refusal>, Halt>
-    ensures { MatchResult result (λ refusal. IfSome refusal IsOfOtherOne) (IsNewHalt asked.now.facts.now) }
+    ensures { MatchResult result (λ refusal. IfSome refusal IsOfOtherOne) (IsNewHalt asked.now.folder.now asked.now.facts.now) }
 {
     let Some(real) = told(asked, REAL, opened(folder.name))? else {
         return Ok(Some(Refusal::Owner(folder.path.to_vec(asked.alloc)?)));
@@ -235,10 +243,12 @@ pub(crate) fn refuses(
     folder: Folder<'_>,
     git_dir: &GitDir,
 ) -> Result<Option<Refusal>, Halt>
+    requires place { IsPlace asked.now.folder.now asked.now.facts.now folder.name.now }
+    requires git_dir_place { IsPlace asked.now.folder.now asked.now.facts.now git_dir.now.name.items }
     ensures { MatchResult result
         (λ refusal. (system : System) → AreTrueIn system asked.now.facts.now
         → IfSome refusal (RefusesIt system (Inside folder.entry.name.now (git_dir_of git_dir.now))))
-        (IsNewHalt asked.now.facts.now) }
+        (IsNewHalt asked.now.folder.now asked.now.facts.now) }
 {
     match git_dir.form {
         Form::Given => return Ok(None),

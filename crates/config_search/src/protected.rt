@@ -1,7 +1,9 @@
 //! The settings that no repository can change, as far as they decide whether Git uses one: those of the system, of the
 //! user and of the command. No repository is known to their conditions.
-ghost use Rattle.std.specs.Prelude.{IfOk, IfErr};
+ghost use Rattle.std.specs.Prelude.{◌++◌, decimal, IfOk, IfErr};
+ghost use Rattle.config_search.specs.Questions.{IsNeeded};
 ghost use Rattle.config_search.specs.Shown.{IsNew, IsNewHalt, AsksNothing};
+ghost use Rattle.config_search.specs.declared.TheConstants.{VARIABLE};
 
 use crate::answer::{FaultKind, Named};
 use crate::fact::{Asked, Stop, fact_in, told, told_in};
@@ -15,6 +17,7 @@ use config_file::{
     CommandError, Condition, Directories, Entry, FilePlace, Include, IncludeFault, Includes, Known,
     Scope, Step, Urls, Walk, count_of, is_remote_url, push_parameters, push_setting,
 };
+use itoa::Buffer;
 use std::alloc::{AllocError, Global};
 
 /// A setting that decides whether Git uses a repository.
@@ -61,7 +64,7 @@ fn has_conditions(text: &[u8]) -> bool {
 
 /// The folder of the file of this name without links, which only conditions ask for.
 fn real_dir<'t>(asked: &Asked<'_, 't>, opened: &[u8], text: &[u8]) -> Result<&'t [u8], Stop>
-    ensures { IfErr result (IsNew asked.now.facts.now) }
+    ensures { IfErr result (IsNew asked.now.folder.now asked.now.facts.now) }
 {
     if !has_conditions(text) {
         return Ok(b"");
@@ -82,7 +85,7 @@ fn without_last(name: &[u8]) -> &[u8] {
 
 /// Why the text of a file is not read, or `None` if there is no such file.
 fn refusal_of<'t>(asked: &Asked<'_, 't>, opened: &[u8]) -> Result<Option<&'t [u8]>, Stop>
-    ensures { IfErr result (IsNew asked.now.facts.now) }
+    ensures { IfErr result (IsNew asked.now.folder.now asked.now.facts.now) }
 {
     match told(asked, REFUSAL, opened)? {
         Some(b"denied") => Ok(Some(b"Permission denied")),
@@ -97,7 +100,7 @@ fn source_of<'s, 't: 's>(
     start: &[u8],
     named: &'s Named,
 ) -> Result<Option<Source<'s>>, Halt>
-    ensures { IfErr result (IsNewHalt asked.now.facts.now) }
+    ensures { IfErr result (IsNewHalt asked.now.folder.now asked.now.facts.now) }
 {
     let opened = inside(asked.alloc, start, &named.name)?;
     if let Some(text) = told(asked, SETTINGS, &opened)? {
@@ -138,21 +141,23 @@ fn of_command(alloc: Global, error: CommandError) -> Result<Halt, AllocError>
 }
 
 /// The value of the variable with this name and this number.
-fn numbered<'t>(asked: &Asked<'_, 't>, name: &str, number: usize) -> Result<Option<&'t [u8]>, Stop>
-    ensures { IfErr result (IsNew asked.now.facts.now) }
+fn numbered<'t>(asked: &Asked<'_, 't>, name: &[u8], number: usize) -> Result<Option<&'t [u8]>, Stop>
+    requires { IsNeeded asked.now.folder.now asked.now.facts.now VARIABLE (name.now ++ decimal number) }
+    ensures { IfErr result (IsNew asked.now.folder.now asked.now.facts.now) }
 {
-    let name = format!(in asked.alloc; "{name}{number}")?;
-    Ok(told(asked, VARIABLE, name.as_bytes())?)
+    let mut digits = Buffer::new();
+    let name = joined(asked.alloc, name, digits.format(number).as_bytes(), b"")?;
+    Ok(told(asked, VARIABLE, &name)?)
 }
 
 /// Appends the setting of this number.
 fn push_numbered(asked: &Asked<'_, '_>, text: &mut Vec<u8>, number: usize) -> Result<(), Halt>
-    ensures { IfErr result (IsNewHalt asked.now.facts.now) }
+    ensures { IfErr result (IsNewHalt asked.now.folder.now asked.now.facts.now) }
 {
-    let Some(key) = numbered(asked, "GIT_CONFIG_KEY_", number)? else {
+    let Some(key) = numbered(asked, b"GIT_CONFIG_KEY_", number)? else {
         return Err(of_command(asked.alloc, CommandError::MissingKey(number))?);
     };
-    let Some(value) = numbered(asked, "GIT_CONFIG_VALUE_", number)? else {
+    let Some(value) = numbered(asked, b"GIT_CONFIG_VALUE_", number)? else {
         return Err(of_command(asked.alloc, CommandError::MissingValue(number))?);
     };
     match push_setting(asked.alloc, text, key, Some(value)) {
@@ -164,7 +169,7 @@ fn push_numbered(asked: &Asked<'_, '_>, text: &mut Vec<u8>, number: usize) -> Re
 /// The settings of the command as the text of a file: first those of GIT_CONFIG_COUNT, and then those of
 /// GIT_CONFIG_PARAMETERS, in which `git -c` hands them on.
 fn command_text(asked: &Asked<'_, '_>) -> Result<Vec<u8>, Halt>
-    ensures { IfErr result (IsNewHalt asked.now.facts.now) }
+    ensures { IfErr result (IsNewHalt asked.now.folder.now asked.now.facts.now) }
 {
     let mut text = Vec::new(asked.alloc);
     if let Some(count) = told(asked, VARIABLE, b"GIT_CONFIG_COUNT")? {
@@ -188,7 +193,7 @@ fn command_text(asked: &Asked<'_, '_>) -> Result<Vec<u8>, Halt>
 /// The home folder of the user with whose name a path begins, and what follows the name, or `None` if it begins with
 /// none that the system knows.
 pub(crate) fn of_user(asked: &Asked<'_, '_>, path: &[u8]) -> Result<Option<Vec<u8>>, Stop>
-    ensures { IfErr result (IsNew asked.now.facts.now) }
+    ensures { IfErr result (IsNew asked.now.folder.now asked.now.facts.now) }
 {
     let Some(rest) = path.strip_prefix(b"~") else {
         return Ok(None);
@@ -232,7 +237,7 @@ fn name_in(
     entry: &Entry<'_>,
     include: Include,
 ) -> Result<Option<Vec<u8>>, Halt>
-    ensures { IfErr result (IsNewHalt asked.now.facts.now) }
+    ensures { IfErr result (IsNewHalt asked.now.folder.now asked.now.facts.now) }
 {
     let (kind, why) = match include {
         Include::NotFollowed => return Ok(None),
@@ -257,7 +262,7 @@ fn included<'t>(
     line: usize,
     name: &[u8],
 ) -> Result<Option<(FilePlace<'t>, &'t [u8])>, Halt>
-    ensures { IfErr result (IsNewHalt asked.now.facts.now) }
+    ensures { IfErr result (IsNewHalt asked.now.folder.now asked.now.facts.now) }
 {
     let fact = fact_in(asked, INCLUDED, start, name)?;
     let opened = fact.name;
@@ -287,7 +292,7 @@ fn enter<'s, 't: 's>(
     source: &Source<'_>,
     at: (FilePlace<'_>, usize, &[u8]),
 ) -> Result<(), Halt>
-    ensures { IfErr result (IsNewHalt asked.now.facts.now) }
+    ensures { IfErr result (IsNewHalt asked.now.folder.now asked.now.facts.now) }
 {
     let (place, line, name) = at;
     if !source.is_file && !name.starts_with(b"/") {
@@ -373,7 +378,7 @@ impl Findings {
         source: &Source<'s>,
         walk: &mut Walk<'s>,
     ) -> Result<bool, Halt>
-        ensures { IfErr result (IsNewHalt asked.now.facts.now) }
+        ensures { IfErr result (IsNewHalt asked.now.folder.now asked.now.facts.now) }
     {
         let (place, entry, include) = match walk.next(asked.alloc, known)? {
             Step::Entry(place, entry, include) => (place, entry, include),
@@ -395,7 +400,7 @@ impl Findings {
         known: &Known<'_>,
         source: &Source<'s>,
     ) -> Result<(), Halt>
-        ensures { IfErr result (IsNewHalt asked.now.facts.now) }
+        ensures { IfErr result (IsNewHalt asked.now.folder.now asked.now.facts.now) }
     {
         let mut walk = Walk::new(source.place, source.text);
         for _ in 0..u64::MAX {
@@ -425,7 +430,7 @@ fn walked<'s, 't: 's>(
     sources: &[Source<'s>],
     urls: Urls<'_>,
 ) -> Result<Findings, Halt>
-    ensures { IfErr result (IsNewHalt asked.now.facts.now) }
+    ensures { IfErr result (IsNewHalt asked.now.folder.now asked.now.facts.now) }
 {
     let directories = Directories {
         home: told(asked, VARIABLE, b"HOME")?,
@@ -448,7 +453,7 @@ fn said_in<'s, 't: 's>(
     start: &[u8],
     sources: &[Source<'s>],
 ) -> Result<Vec<Said>, Halt>
-    ensures { IfErr result (IsNewHalt asked.now.facts.now) }
+    ensures { IfErr result (IsNewHalt asked.now.folder.now asked.now.facts.now) }
 {
     let found = walked(asked, start, sources, Urls::Sought)?;
     if !found.asks_for_urls {
@@ -463,7 +468,7 @@ fn said_in<'s, 't: 's>(
 
 /// What the settings say that no repository can change, in order. Names begin in the folder `start`.
 pub(crate) fn protected_settings(asked: &Asked<'_, '_>, start: &[u8]) -> Result<Vec<Said>, Halt>
-    ensures { IfErr result (IsNewHalt asked.now.facts.now) }
+    ensures { IfErr result (IsNewHalt asked.now.folder.now asked.now.facts.now) }
 {
     let names = protected_files(asked)?;
     let text = command_text(asked)?;

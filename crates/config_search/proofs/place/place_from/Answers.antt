@@ -1,4 +1,4 @@
-use Rattle.std.proofs.Common.{List, Result, Ok, Err, MatchResult, IfOk}
+use Rattle.std.proofs.Common.{ℕ, List, Result, Ok, Err, MatchResult, IfOk}
 use Rattle.config_search.specs.System.{System, AreTrueIn}
 use Rattle.config_search.specs.Search.{Sought}
 use Rattle.config_search.specs.Answers.{Tells}
@@ -9,11 +9,11 @@ use Rattle.config_search.specs.declared.place.Place.{Place}
 use Rattle.config_search.proofs.OneAnswer.{seeks-one}
 use Rattle.config_search.proofs.place.place_from.Goals as goal
 
-tells : (facts : List Fact) (system : System) (sought : Sought) (place : Result Place Halt) → AreTrueIn system facts
-    → MatchResult place (λ p. (s : System) → AreTrueIn s facts → Tells s sought p.outcome) (IsNewHalt facts)
+tells : (about : List ℕ) (facts : List Fact) (system : System) (sought : Sought) (place : Result Place Halt) → AreTrueIn system facts
+    → MatchResult place (λ p. (s : System) → AreTrueIn s facts → Tells s sought p.outcome) (IsNewHalt about facts)
     → IfOk place (λ p. Tells system sought p.outcome)
-tells facts system sought (Ok p) agrees is = is system agrees
-tells facts system sought (Err h) agrees is = tt
+tells about facts system sought (Ok p) agrees is = is system agrees
+tells about facts system sought (Err h) agrees is = tt
 
 pub returns : goal.returns
 returns c = λ system agrees. (
@@ -22,5 +22,5 @@ returns c = λ system agrees. (
     c.in_ok-found.ensures system agrees,
     λ other does. seeks-one system c.args.start.name.now does (c.in_ok-found.ensures system agrees),
   ),
-  c.in_ok-or_stops.ensures.tells system _ (tells _ system _ _ agrees c.place_of.ensures),
+  c.in_ok-or_stops.ensures.tells system _ (tells _ _ system _ _ agrees c.place_of.ensures),
 )
