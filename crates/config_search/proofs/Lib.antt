@@ -3,5 +3,8 @@ pub mod Ceilings
 pub mod Lists
 pub mod Names
 pub mod OneAnswer
+pub mod Parts
+pub mod Places
+pub mod Stores
 pub mod Trusted
 pub mod Unchangeable

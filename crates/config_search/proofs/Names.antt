@@ -1,10 +1,11 @@
 -- Texts that begin with others.
-use Rattle.std.proofs.Common.{◌≡◌, ◌∙◌, ℕ, List, ◌++◌, true, false, length, take, drop, sym, ap, append_assoc}
+use Rattle.std.proofs.Common.{◌≡◌, ◌∙◌, ℕ, Bool, List, [], ◌++◌, true, false, if◌then◌else◌, ◌||◌, codes, length, take, drop, refl, sym, ap, append_assoc}
 use Rattle.std.specs.Str.{bytes_eq}
 use Rattle.std.proofs.Math.Seq.{take-append_seam}
 use Rattle.std.proofs.lemmas.Bool.{true≢false}
 use Rattle.std.proofs.lemmas.List.{append_cancel_left, take-append-drop}
 use Rattle.std.proofs.lemmas.Slice.Eq.{bytes_eq-Decides}
+use Rattle.config_search.specs.Names.{begins, inside}
 
 -- a text that begins with these bytes goes on with the others
 pub goes_on : (front text : List ℕ) → bytes_eq (take (length front) text) front ≡ true
@@ -33,3 +34,18 @@ pub other_two : (whole first second third rest : List ℕ) → whole ≡ first +
     → whole ≡ (first ++ second) ++ third → rest ≡ second ++ third
 other_two whole first second third rest is three =
     same_rest first whole rest (second ++ third) is (rw (append_assoc first second third) at three)
+
+or_true : (b : Bool) (x y : List ℕ) → (if b || true then x else y) ≡ x
+or_true true x y = refl
+or_true false x y = refl
+
+-- a name in the current folder stays
+pub inside_here : (name : List ℕ) → inside [] name ≡ name
+inside_here name = or_true (begins (codes "/") name) name _
+
+or_first : (b c : Bool) (x y : List ℕ) → b ≡ true → (if b || c then x else y) ≡ x
+or_first b c x y is = rw is refl
+
+-- and so does a name from the root in any
+pub inside_root : (folder name : List ℕ) → begins (codes "/") name ≡ true → inside folder name ≡ name
+inside_root folder name is = or_first (begins (codes "/") name) _ name _ is

@@ -6,6 +6,7 @@ pub mod Files
 pub mod Owner
 pub mod Protected
 pub mod Trust
+pub mod Questions
 pub mod Shown
 pub mod Answers
 pub mod Layouts

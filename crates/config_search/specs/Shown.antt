@@ -1,5 +1,5 @@
 -- What the rule says of the values of the program.
-use Rattle.std.specs.Prelude.{◌≡◌, ◌⊎◌, ℕ, Bool, true, false, List, [], MatchBool, codes, map, option_copied}
+use Rattle.std.specs.Prelude.{◌≡◌, ◌⊎◌, ℕ, Bool, true, false, List, [], IfSome, MatchBool, codes, map, option_copied}
 use Rattle.config_file.specs.Key.{Key, HasKey}
 use Rattle.config_file.specs.Settings.{path_bytes}
 use Rattle.config_file.specs.Views.{entry_of}
@@ -7,6 +7,7 @@ use Rattle.config_file.specs.Walk.{Content, Unreadable}
 use Rattle.config_file.specs.declared.settings.Setting.{Setting}
 use Rattle.config_search.specs.System.{System, AreTrueIn, IsOpen}
 use Rattle.config_search.specs.Names.{opened}
+use Rattle.config_search.specs.Questions.{IsNeeded, MayName}
 use Rattle.config_search.specs.declared.fact.Fact.{Fact}
 use Rattle.config_search.specs.declared.fact.Stop.{Stop}
 use Rattle.config_search.specs.declared.fact.Stop.TheVariants.{Ask, Memory}
@@ -23,16 +24,18 @@ use Rattle.config_search.specs.declared.protected.Sources.{Sources}
 use Rattle.config_search.specs.declared.seek.Found.{Found}
 use Rattle.config_search.specs.declared.seek.Found.TheVariants.{Nothing, In, Refused}
 use Rattle.config_search.specs.declared.seek.Limits.{Limits}
+use Rattle.config_search.specs.declared.format.Store.{Store}
 use Rattle.config_search.specs.declared.git_dir.Common.{Common}
 use Rattle.config_search.specs.declared.seek.Form.{Form}
 use Rattle.config_search.specs.declared.seek.Form.TheVariants.{Given, Below, Bare}
 use Rattle.config_search.specs.declared.seek.GitDir.{GitDir}
 use Rattle.config_search.specs.declared.git_dir.Common.TheVariants.{Own, Linked, Broken}
 
--- a question that stops a search is one that no fact answers
-abbrev pub IsNew : List Fact → Stop → Type 0
-IsNew facts (Ask question) = IsOpen facts question.subject question.name.items
-IsNew facts (Memory error) = Unit {0}
+-- a question that stops a search in a folder is one that it needs, and that no fact answers
+abbrev pub IsNew : List ℕ → List Fact → Stop → Type 0
+IsNew folder facts (Ask question) = IsOpen facts question.subject question.name.items
+    × IsNeeded folder facts question.subject question.name.items
+IsNew folder facts (Memory error) = Unit {0}
 
 -- a file that the program names
 abbrev pub file_of : Named → File
@@ -59,6 +62,16 @@ common_of Own = rule.Own
 common_of (Linked folder) = rule.Linked folder.items
 common_of Broken = rule.Broken
 
+-- the folder of a git directory that shares it
+abbrev pub folder_in : List ℕ → Common → List ℕ
+folder_in git_dir Own = git_dir
+folder_in git_dir (Linked folder) = folder.items
+folder_in git_dir Broken = git_dir
+
+-- settings or a variable may name the folder of references, if they have one of their own
+abbrev pub IsStore : List Fact → Store → Type 0
+IsStore facts store = IfSome store.place (λ place. (system : System) → AreTrueIn system facts → MayName system)
+
 -- how the program says that a git directory is named
 abbrev pub form_of : Form → rule.Form
 form_of Given = rule.IsGiven
@@ -82,11 +95,11 @@ AreLimits system start limits = (map (λ c. c.now) limits.ceilings.items ≡ sea
     (¬ (search.IsOn system (codes "GIT_DISCOVERY_ACROSS_FILESYSTEM")))
     × (limits.crosses ≡ false → option_copied limits.device ≡ system DEVICE (opened start))
 
--- a question that stops the part of a search that reads settings is one that no fact answers
-abbrev pub IsNewHalt : List Fact → Halt → Type 0
-IsNewHalt facts (Stopped stop) = IsNew facts stop
-IsNewHalt facts (Fault fault) = Unit {0}
+-- so is one that stops the part of a search that reads settings
+abbrev pub IsNewHalt : List ℕ → List Fact → Halt → Type 0
+IsNewHalt folder facts (Stopped stop) = IsNew folder facts stop
+IsNewHalt folder facts (Fault fault) = Unit {0}
 
 -- it is no question that stops the search
 abbrev pub AsksNothing : Halt → Type 0
-AsksNothing halt = (facts : List Fact) → IsNewHalt facts halt
+AsksNothing halt = (folder : List ℕ) (facts : List Fact) → IsNewHalt folder facts halt

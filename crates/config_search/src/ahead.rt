@@ -1,5 +1,7 @@
 //! What a search that climbs asks next, told by the last facts alone, so that it need not begin anew for each of them.
-ghost use Rattle.std.specs.Prelude.{IfErr};
+ghost use Rattle.std.specs.Prelude.{◌≡◌, ◌≢◌, ℕ, List, true, IfErr, IfSome};
+ghost use Rattle.config_search.specs.Names.{inside};
+ghost use Rattle.config_search.specs.Questions.{IsNeeded};
 ghost use Rattle.config_search.specs.Shown.{IsNew};
 
 use crate::fact::{Asked, Fact, Stop, fact_in};
@@ -16,11 +18,18 @@ fn has_no_ceiling(facts: &[Fact<'_>]) -> bool {
     false
 }
 
+/// Whether a fact tells a device.
+fn is_device(fact: &Fact<'_>) -> bool
+    ensures { result ≡ true → (fact.now.subject ≡ DEVICE) × (fact.now.has ≢ 0) }
+{
+    fact.subject == DEVICE && fact.has != 0
+}
+
 /// Whether a fact tells the device of a folder from the root, and it is that on which the search began.
 fn stays_on_device(facts: &[Fact<'_>], device: &Fact<'_>) -> bool {
     for fact in facts {
         if fact.subject == DEVICE {
-            return device.name.starts_with(b"/") && device.has != 0 && fact.text == device.text;
+            return device.name.starts_with(b"/") && fact.text == device.text;
         }
     }
     false
@@ -32,26 +41,26 @@ fn has_none(fact: &Fact<'_>, folder: &[u8], name: &[u8]) -> bool {
 }
 
 /// What comes after the last facts: for each folder its device, then `.git`, and then HEAD.
-fn next_of<'t>(facts: &[Fact<'t>]) -> Option<(u32, &'t [u8], &'t [u8])> {
+fn next_of<'t>(facts: &[Fact<'t>]) -> Option<(u32, &'t [u8], &'t [u8])>
+    ensures { IfSome result (λ next. (folder : List ℕ) → IsNeeded folder facts.now next.0 (inside next.1.now next.2.now)) }
+{
     match facts {
-        [.., device] if device.subject == DEVICE => {
-            stays_on_device(facts, device).then_some((KIND, device.name, b".git".as_slice()))
+        [.., device] if is_device(device) && stays_on_device(facts, device) => {
+            Some((KIND, device.name, b".git"))
         }
-        [.., device, link] if device.subject == DEVICE && has_none(link, device.name, b".git") => {
-            Some((KIND, device.name, b"HEAD".as_slice()))
+        [.., device, link] if is_device(device) && has_none(link, device.name, b".git") => {
+            Some((KIND, device.name, b"HEAD"))
         }
-        [.., device, _, head] if device.subject == DEVICE && has_none(head, device.name, b"HEAD") =>
-            {
-                let above = parent(device.name)?;
-                has_no_ceiling(facts).then_some((DEVICE, b"".as_slice(), above))
-            }
+        [.., device, _, head]
+            if is_device(device) && has_none(head, device.name, b"HEAD") && has_no_ceiling(facts) =>
+            { Some((DEVICE, b"", parent(device.name)?)) }
         _ => None,
     }
 }
 
 /// Asks what plainly comes next, unless a fact tells it already.
 pub(crate) fn ask_ahead(asked: &Asked<'_, '_>) -> Result<(), Stop>
-    ensures { IfErr result (IsNew asked.now.facts.now) }
+    ensures { IfErr result (IsNew asked.now.folder.now asked.now.facts.now) }
 {
     if let Some((subject, folder, name)) = next_of(asked.facts) {
         fact_in(asked, subject, folder, name)?;

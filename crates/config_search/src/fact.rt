@@ -2,6 +2,7 @@
 ghost use Rattle.std.specs.Prelude.{◌≡◌, true, false, MatchResult, MatchOption, is_some, option_copied};
 ghost use Rattle.config_search.specs.System.{System, AreTrueIn, Differs, IsFactOf, IsOpen};
 ghost use Rattle.config_search.specs.System as system;
+ghost use Rattle.config_search.specs.Questions.{IsNeeded};
 ghost use Rattle.config_search.specs.Shown.{IsNew};
 ghost use Rattle.config_search.specs.Names.{inside};
 ghost use Rattle.config_search.specs.Rule as rule;
@@ -56,17 +57,21 @@ impl From<AllocError> for Stop {
 #[derive(Drop)]
 pub(crate) struct Asked<'f, 't> {
     pub alloc: Global,
+    /// The folder about which is asked.
+    pub folder: &'t [u8],
     pub facts: &'f [Fact<'t>],
     next: Cell<usize>,
 }
 
 impl<'f, 't> Asked<'f, 't> {
     /// These facts.
-    pub fn new(alloc: Global, facts: &'f [Fact<'t>]) -> Asked<'f, 't>
-        ensures { result.facts.now ≡ facts.now }
+    pub fn new(alloc: Global, folder: &'t [u8], facts: &'f [Fact<'t>]) -> Asked<'f, 't>
+        ensures same_folder { result.folder.now ≡ folder.now }
+        ensures same_facts { result.facts.now ≡ facts.now }
     {
         Asked {
             alloc,
+            folder,
             facts,
             next: Cell::new(0),
         }
@@ -119,8 +124,9 @@ pub(crate) fn fact_in<'t>(
     folder: &[u8],
     name: &[u8],
 ) -> Result<Fact<'t>, Stop>
+    requires { IsNeeded asked.now.folder.now asked.now.facts.now subject (inside folder.now name.now) }
     ensures { MatchResult result (IsFactOf asked.now.facts.now subject (inside folder.now name.now))
-        (IsNew asked.now.facts.now) }
+        (IsNew asked.now.folder.now asked.now.facts.now) }
 {
     match fact_of(asked, subject, folder, name) {
         Some(fact) => Ok(fact),
@@ -148,10 +154,11 @@ pub(crate) fn told_in<'t>(
     folder: &[u8],
     name: &[u8],
 ) -> Result<Option<&'t [u8]>, Stop>
+    requires { IsNeeded asked.now.folder.now asked.now.facts.now subject (inside folder.now name.now) }
     ensures { MatchResult result
         (λ answer. (system : System) → AreTrueIn system asked.now.facts.now
         → option_copied answer ≡ system subject (inside folder.now name.now))
-        (IsNew asked.now.facts.now) }
+        (IsNew asked.now.folder.now asked.now.facts.now) }
 {
     let fact = fact_in(asked, subject, folder, name)?;
     Ok(answer_of(&fact))
@@ -163,10 +170,11 @@ pub(crate) fn told<'t>(
     subject: u32,
     name: &[u8],
 ) -> Result<Option<&'t [u8]>, Stop>
+    requires { IsNeeded asked.now.folder.now asked.now.facts.now subject name.now }
     ensures { MatchResult result
         (λ answer. (system : System) → AreTrueIn system asked.now.facts.now
         → option_copied answer ≡ system subject name.now)
-        (IsNew asked.now.facts.now) }
+        (IsNew asked.now.folder.now asked.now.facts.now) }
 {
     told_in(asked, subject, b"", name)
 }

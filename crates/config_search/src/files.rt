@@ -31,7 +31,7 @@ fn system_name(asked: &Asked<'_, '_>) -> Result<Vec<u8>, Stop>
     ensures { MatchResult result
         (λ name. (system : System) → AreTrueIn system asked.now.facts.now
         → name.items ≡ files.or_default (codes "/etc/gitconfig") (system VARIABLE (codes "GIT_CONFIG_SYSTEM")))
-        (IsNew asked.now.facts.now) }
+        (IsNew asked.now.folder.now asked.now.facts.now) }
 {
     match told(asked, VARIABLE, b"GIT_CONFIG_SYSTEM")? {
         Some(name) => Ok(name.to_vec(asked.alloc)?),
@@ -45,7 +45,7 @@ fn push_system(asked: &Asked<'_, '_>, names: &mut Vec<Named>) -> Result<(), Stop
         (λ done. (system : System) → AreTrueIn system asked.now.facts.now
         → (first : List files.File) × files.IsOfSystem system first
         × (map file_of names.new.items ≡ map file_of names.old.items ++ first))
-        (IsNew asked.now.facts.now) }
+        (IsNew asked.now.folder.now asked.now.facts.now) }
 {
     if is_on(asked, b"GIT_CONFIG_NOSYSTEM")? {
         return Ok(());
@@ -160,7 +160,7 @@ fn push_own(asked: &Asked<'_, '_>, names: &mut Vec<Named>) -> Result<(), Stop>
     ensures { MatchResult result
         (λ done. (system : System) → AreTrueIn system asked.now.facts.now
         → map file_of names.new.items ≡ map file_of names.old.items ++ files.of_user_by system None)
-        (IsNew asked.now.facts.now) }
+        (IsNew asked.now.folder.now asked.now.facts.now) }
 {
     let own = told(asked, VARIABLE, b"XDG_CONFIG_HOME")?;
     let home = told(asked, VARIABLE, b"HOME")?;
@@ -174,7 +174,7 @@ fn push_user(asked: &Asked<'_, '_>, names: &mut Vec<Named>) -> Result<(), Stop>
     ensures { MatchResult result
         (λ done. (system : System) → AreTrueIn system asked.now.facts.now
         → map file_of names.new.items ≡ map file_of names.old.items ++ files.files_of_user system)
-        (IsNew asked.now.facts.now) }
+        (IsNew asked.now.folder.now asked.now.facts.now) }
 {
     let Some(name) = told(asked, VARIABLE, b"GIT_CONFIG_GLOBAL")? else {
         return push_own(asked, names);
@@ -190,7 +190,7 @@ pub(crate) fn protected_files(asked: &Asked<'_, '_>) -> Result<Vec<Named>, Stop>
         (λ names. (system : System) → AreTrueIn system asked.now.facts.now
         → (first : List files.File) × files.IsOfSystem system first
         × (map file_of names.items ≡ first ++ files.files_of_user system))
-        (IsNew asked.now.facts.now) }
+        (IsNew asked.now.folder.now asked.now.facts.now) }
 {
     let mut names = Vec::new(asked.alloc);
     push_system(asked, &mut names)?;

@@ -1,7 +1,7 @@
 //! The format of a repository: its version, its extensions, and whether it is bare.
-ghost use Rattle.std.specs.Prelude.{IfOk, IfErr, IfSome};
+ghost use Rattle.std.specs.Prelude.{◌≡◌, None, MatchResult, IfOk, IfErr, IfSome};
 ghost use Rattle.config_search.specs.Answers.{IsOfOneThere};
-ghost use Rattle.config_search.specs.Shown.{IsNewHalt, AsksNothing};
+ghost use Rattle.config_search.specs.Shown.{IsNewHalt, IsStore, AsksNothing};
 
 use crate::answer::{FaultKind, Refusal};
 use crate::fact::{Asked, told, told_in};
@@ -116,7 +116,8 @@ fn store_in(alloc: Global, text: &[u8]) -> Result<Option<Store>, AllocError> {
 
 /// What GIT_REFERENCE_BACKEND says of how references are stored, or `None` if it is not set.
 pub(crate) fn given_store(asked: &Asked<'_, '_>) -> Result<Option<Store>, Halt>
-    ensures { IfErr result (IsNewHalt asked.now.facts.now) }
+    ensures { MatchResult result (λ store. IfSome store (IsStore asked.now.facts.now))
+        (IsNewHalt asked.now.folder.now asked.now.facts.now) }
 {
     let Some(given) = told(asked, VARIABLE, b"GIT_REFERENCE_BACKEND")? else {
         return Ok(None);
@@ -221,7 +222,9 @@ fn take_first(first: &mut Option<Vec<u8>>, alloc: Global, name: &[u8]) -> Result
 
 impl Format {
     /// A format of which nothing is said.
-    fn new() -> Format {
+    fn new() -> Format
+        ensures { result.store.place ≡ None }
+    {
         Format {
             is_bare: false,
             work_tree: None,
@@ -308,7 +311,9 @@ impl Format {
         name: &[u8],
         is_own: bool,
     ) -> Result<(), Halt>
-        ensures { IfErr result (IsNewHalt asked.now.facts.now) }
+        requires { IsStore asked.now.facts.now self.old.store }
+        ensures { MatchResult result (λ done. IsStore asked.now.facts.now self.new.store)
+            (IsNewHalt asked.now.folder.now asked.now.facts.now) }
     {
         let Some(text) = told_in(asked, SETTINGS, folder, name)? else {
             return Ok(());
@@ -348,7 +353,7 @@ fn settings_in<'s>(
     file: &'s [u8],
     text: &'s [u8],
 ) -> Result<Settings<'s>, Halt>
-    ensures { IfErr result (IsNewHalt asked.now.facts.now) }
+    ensures { IfErr result (IsNewHalt asked.now.folder.now asked.now.facts.now) }
 {
     let mut settings = Settings::new(asked.alloc);
     match settings.add_file(asked.alloc, Scope::Local, file, text) {
@@ -360,7 +365,8 @@ fn settings_in<'s>(
 
 /// The format that the file of a repository states. A file that states no version states nothing.
 fn stated(asked: &Asked<'_, '_>, common: &[u8]) -> Result<Format, Halt>
-    ensures { IfErr result (IsNewHalt asked.now.facts.now) }
+    ensures { MatchResult result (λ format. IsStore asked.now.facts.now format.store)
+        (IsNewHalt asked.now.folder.now asked.now.facts.now) }
 {
     let mut format = Format::new();
     format.take_file(asked, common, b"config", false)?;
@@ -376,7 +382,8 @@ pub(crate) fn format_of(
     git_dir: &[u8],
     common: &Common,
 ) -> Result<Format, Halt>
-    ensures { IfErr result (IsNewHalt asked.now.facts.now) }
+    ensures { MatchResult result (λ format. IsStore asked.now.facts.now format.store)
+        (IsNewHalt asked.now.folder.now asked.now.facts.now) }
 {
     let mut format = stated(asked, common.or(git_dir))?;
     if format.has_worktree_files {

@@ -1,8 +1,11 @@
 //! What makes a folder a git directory.
 ghost use Rattle.std.specs.Prelude.{◌≡◌, [], codes, MatchResult, IfOk, option_copied, option_map};
 ghost use Rattle.config_search.specs.System.{System, AreTrueIn};
-ghost use Rattle.config_search.specs.Shown.{IsNew, common_of as common_shown};
+ghost use Rattle.config_search.specs.Names.{inside};
+ghost use Rattle.config_search.specs.Questions.{IsNeeded, IsPlace};
+ghost use Rattle.config_search.specs.Shown.{IsNew, common_of as common_shown, folder_in};
 ghost use Rattle.config_search.specs.Rule as rule;
+ghost use Rattle.config_search.specs.declared.TheConstants.{LEADS, TEXT, VARIABLE};
 
 use crate::fact::{Asked, Stop, is_known, is_word, told, told_in};
 use crate::name::{folder_of, inside, line};
@@ -23,7 +26,9 @@ pub(crate) enum Common {
 
 impl Common {
     /// The folder of a git directory.
-    pub fn or<'a>(&'a self, git_dir: &'a [u8]) -> &'a [u8] {
+    pub fn or<'a>(&'a self, git_dir: &'a [u8]) -> &'a [u8]
+        ensures { result.now ≡ folder_in git_dir.now self.now }
+    {
         match self {
             Common::Linked(folder) => folder,
             _ => git_dir,
@@ -38,20 +43,22 @@ impl Common {
 
 /// Whether a name in a folder leads to a folder.
 pub(crate) fn has_folder(asked: &Asked<'_, '_>, folder: &[u8], name: &[u8]) -> Result<bool, Stop>
+    requires { IsNeeded asked.now.folder.now asked.now.facts.now LEADS (inside folder.now name.now) }
     ensures { MatchResult result
         (λ has. (system : System) → AreTrueIn system asked.now.facts.now
         → has ≡ rule.has_folder system folder.now name.now)
-        (IsNew asked.now.facts.now) }
+        (IsNew asked.now.folder.now asked.now.facts.now) }
 {
     Ok(is_word(told_in(asked, LEADS, folder, name)?, b"folder"))
 }
 
 /// Whether there is a folder of this name, or one in which it may be.
 fn may_be_folder(asked: &Asked<'_, '_>, name: &[u8]) -> Result<bool, Stop>
+    requires { IsPlace asked.now.folder.now asked.now.facts.now name.now }
     ensures { MatchResult result
         (λ may. (system : System) → AreTrueIn system asked.now.facts.now
         → may ≡ rule.may_be_folder system name.now)
-        (IsNew asked.now.facts.now) }
+        (IsNew asked.now.folder.now asked.now.facts.now) }
 {
     if has_folder(asked, b"", name)? {
         return Ok(true);
@@ -61,10 +68,12 @@ fn may_be_folder(asked: &Asked<'_, '_>, name: &[u8]) -> Result<bool, Stop>
 
 /// What a text of the file commondir names.
 fn linked_by(asked: &Asked<'_, '_>, git_dir: &[u8], text: Option<&[u8]>) -> Result<Common, Stop>
+    requires place { IsPlace asked.now.folder.now asked.now.facts.now git_dir.now }
+    requires told { (system : System) → AreTrueIn system asked.now.facts.now → option_copied text ≡ system TEXT (inside git_dir.now (codes "commondir")) }
     ensures { MatchResult result
         (λ common. (system : System) → AreTrueIn system asked.now.facts.now
         → common_shown common ≡ rule.linked_by system git_dir.now (option_copied text.entry))
-        (IsNew asked.now.facts.now) }
+        (IsNew asked.now.folder.now asked.now.facts.now) }
 {
     let Some(text) = text else {
         return Ok(Common::Broken);
@@ -81,10 +90,11 @@ fn linked_by(asked: &Asked<'_, '_>, git_dir: &[u8], text: Option<&[u8]>) -> Resu
 
 /// What the file commondir of a git directory names.
 pub(crate) fn linked_folder(asked: &Asked<'_, '_>, git_dir: &[u8]) -> Result<Common, Stop>
+    requires { IsPlace asked.now.folder.now asked.now.facts.now git_dir.now }
     ensures { MatchResult result
         (λ common. (system : System) → AreTrueIn system asked.now.facts.now
         → common_shown common ≡ rule.linked_folder system git_dir.now)
-        (IsNew asked.now.facts.now) }
+        (IsNew asked.now.folder.now asked.now.facts.now) }
 {
     let kind = told_in(asked, KIND, git_dir, b"commondir")?;
     if !is_known(kind) {
@@ -106,10 +116,12 @@ fn given_in(alloc: Global, start: &[u8], name: &[u8]) -> Result<Vec<u8>, AllocEr
 
 /// The folder that a git directory shares: that of GIT_COMMON_DIR, or of its file commondir.
 pub(crate) fn common_of(asked: &Asked<'_, '_>, start: &[u8], git_dir: &[u8]) -> Result<Common, Stop>
+    requires start_place { IsPlace asked.now.folder.now asked.now.facts.now start.now }
+    requires place { IsPlace asked.now.folder.now asked.now.facts.now git_dir.now }
     ensures { MatchResult result
         (λ common. (system : System) → AreTrueIn system asked.now.facts.now
         → common_shown common ≡ rule.common_of system start.now git_dir.now)
-        (IsNew asked.now.facts.now) }
+        (IsNew asked.now.folder.now asked.now.facts.now) }
 {
     match told(asked, VARIABLE, b"GIT_COMMON_DIR")? {
         Some(name) => Ok(Common::Linked(given_in(asked.alloc, start, name)?)),
@@ -124,10 +136,13 @@ fn has_objects_by(
     folder: &[u8],
     given: Option<&[u8]>,
 ) -> Result<bool, Stop>
+    requires start_place { IsPlace asked.now.folder.now asked.now.facts.now start.now }
+    requires place { IsPlace asked.now.folder.now asked.now.facts.now folder.now }
+    requires told { (system : System) → AreTrueIn system asked.now.facts.now → option_copied given ≡ system VARIABLE (codes "GIT_OBJECT_DIRECTORY") }
     ensures { MatchResult result
         (λ has. (system : System) → AreTrueIn system asked.now.facts.now
         → has ≡ rule.has_objects_by system start.now folder.now (option_copied given.entry))
-        (IsNew asked.now.facts.now) }
+        (IsNew asked.now.folder.now asked.now.facts.now) }
 {
     match given {
         None => Ok(has_folder(asked, folder, b"objects")?),
@@ -138,10 +153,12 @@ fn has_objects_by(
 
 /// Whether there are objects, and refs in a folder.
 fn has_folders(asked: &Asked<'_, '_>, start: &[u8], folder: &[u8]) -> Result<bool, Stop>
+    requires start_place { IsPlace asked.now.folder.now asked.now.facts.now start.now }
+    requires place { IsPlace asked.now.folder.now asked.now.facts.now folder.now }
     ensures { MatchResult result
         (λ has. (system : System) → AreTrueIn system asked.now.facts.now
         → has ≡ rule.has_folders system start.now folder.now)
-        (IsNew asked.now.facts.now) }
+        (IsNew asked.now.folder.now asked.now.facts.now) }
 {
     let given = told(asked, VARIABLE, b"GIT_OBJECT_DIRECTORY")?;
     if !has_objects_by(asked, start, folder, given)? {
@@ -152,10 +169,13 @@ fn has_folders(asked: &Asked<'_, '_>, start: &[u8], folder: &[u8]) -> Result<boo
 
 /// Whether a git directory that shares this has objects and refs, or Git stops at it.
 fn shares(asked: &Asked<'_, '_>, start: &[u8], folder: &[u8], common: &Common) -> Result<bool, Stop>
+    requires start_place { IsPlace asked.now.folder.now asked.now.facts.now start.now }
+    requires place { IsPlace asked.now.folder.now asked.now.facts.now folder.now }
+    requires told { (system : System) → AreTrueIn system asked.now.facts.now → common_shown common.now ≡ rule.common_of system start.now folder.now }
     ensures { MatchResult result
         (λ has. (system : System) → AreTrueIn system asked.now.facts.now
         → has ≡ rule.shares system start.now folder.now (common_shown common.now))
-        (IsNew asked.now.facts.now) }
+        (IsNew asked.now.folder.now asked.now.facts.now) }
 {
     match common {
         Common::Own => Ok(has_folders(asked, start, folder)?),
@@ -168,10 +188,12 @@ fn shares(asked: &Asked<'_, '_>, start: &[u8], folder: &[u8], common: &Common) -
 /// file commondir names no folder counts, and Git stops there. A search begins in the folder `start`.
 #[tactic(auto, unfolding(crate::specs::Rule::is_git_dir))]
 pub(crate) fn is_git_dir(asked: &Asked<'_, '_>, start: &[u8], folder: &[u8]) -> Result<bool, Stop>
+    requires start_place { IsPlace asked.now.folder.now asked.now.facts.now start.now }
+    requires place { IsPlace asked.now.folder.now asked.now.facts.now folder.now }
     ensures { MatchResult result
         (λ is. (system : System) → AreTrueIn system asked.now.facts.now
         → is ≡ rule.is_git_dir system start.now folder.now)
-        (IsNew asked.now.facts.now) }
+        (IsNew asked.now.folder.now asked.now.facts.now) }
 {
     if !has_head(asked, folder)? {
         return Ok(false);
@@ -185,7 +207,7 @@ pub(crate) fn resolved(asked: &Asked<'_, '_>, name: &[u8]) -> Result<Vec<u8>, St
     ensures { MatchResult result
         (λ real. (system : System) → AreTrueIn system asked.now.facts.now
         → real.items ≡ rule.resolved system name.now)
-        (IsNew asked.now.facts.now) }
+        (IsNew asked.now.folder.now asked.now.facts.now) }
 {
     match told(asked, REAL, name)? {
         Some(real) => Ok(real.to_vec(asked.alloc)?),
@@ -219,10 +241,11 @@ fn may_link(kind: Option<&[u8]>) -> bool
 
 /// The name to which the line `gitdir: ..` of the file of this name leads, or `None` if it leads to none.
 pub(crate) fn linked(asked: &Asked<'_, '_>, name: &[u8]) -> Result<Option<Vec<u8>>, Stop>
+    requires { IsPlace asked.now.folder.now asked.now.facts.now name.now }
     ensures { MatchResult result
         (λ found. (system : System) → AreTrueIn system asked.now.facts.now
         → option_map (λ n. n.items) found ≡ rule.linked system name.now)
-        (IsNew asked.now.facts.now) }
+        (IsNew asked.now.folder.now asked.now.facts.now) }
 {
     let kind = told(asked, KIND, name)?;
     if !may_link(kind) {

@@ -1,6 +1,7 @@
 //! The branch to which HEAD of a git directory leads.
-ghost use Rattle.std.specs.Prelude.{IfErr};
-ghost use Rattle.config_search.specs.Shown.{IsNew};
+ghost use Rattle.std.specs.Prelude.{◌≡◌, true, IfErr, MatchResult};
+ghost use Rattle.config_search.specs.Questions.{IsKept, IsPlace, StaysBelow};
+ghost use Rattle.config_search.specs.Shown.{IsNew, IsStore};
 
 use crate::fact::{Asked, Stop, told_in};
 use crate::format::Store;
@@ -31,7 +32,9 @@ fn is_part(part: &[u8]) -> bool {
 }
 
 /// Whether a reference may have this name, by the rules of git-check-ref-format(1).
-fn is_reference(name: &[u8]) -> bool {
+fn is_reference(name: &[u8]) -> bool
+    ensures { result ≡ true → StaysBelow name.now }
+{
     for byte in name {
         if !is_allowed(*byte) {
             return false;
@@ -42,7 +45,10 @@ fn is_reference(name: &[u8]) -> bool {
             return false;
         }
     }
-    !name.contains_str(b"..") && !name.contains_str(b"@{") && !name.ends_with(b".")
+    !name.starts_with(b"/")
+        && !name.contains_str(b"..")
+        && !name.contains_str(b"@{")
+        && !name.ends_with(b".")
 }
 
 /// What is kept of a reference.
@@ -72,7 +78,9 @@ fn reference_in(text: &[u8]) -> Reference<'_> {
 
 /// The reference that is kept in the file of this name in a folder, to which a link may lead.
 fn text_at<'t>(asked: &Asked<'_, 't>, folder: &[u8], name: &[u8]) -> Result<Reference<'t>, Stop>
-    ensures { IfErr result (IsNew asked.now.facts.now) }
+    requires kept { IsKept asked.now.folder.now asked.now.facts.now folder.now }
+    requires named { StaysBelow name.now }
+    ensures { IfErr result (IsNew asked.now.folder.now asked.now.facts.now) }
 {
     match told_in(asked, TEXT, folder, name)? {
         Some(text) => Ok(reference_in(text)),
@@ -82,7 +90,9 @@ fn text_at<'t>(asked: &Asked<'_, 't>, folder: &[u8], name: &[u8]) -> Result<Refe
 
 /// The reference that is kept where this link leads.
 fn linked_at<'t>(asked: &Asked<'_, 't>, folder: &[u8], name: &[u8]) -> Result<Reference<'t>, Stop>
-    ensures { IfErr result (IsNew asked.now.facts.now) }
+    requires kept { IsKept asked.now.folder.now asked.now.facts.now folder.now }
+    requires named { StaysBelow name.now }
+    ensures { IfErr result (IsNew asked.now.folder.now asked.now.facts.now) }
 {
     match told_in(asked, LINK, folder, name)? {
         Some(target) if target.starts_with(b"refs/") && is_reference(target) => {
@@ -101,7 +111,9 @@ fn reference_at<'t>(
     folder: &[u8],
     name: &[u8],
 ) -> Result<Reference<'t>, Stop>
-    ensures { IfErr result (IsNew asked.now.facts.now) }
+    requires kept { IsKept asked.now.folder.now asked.now.facts.now folder.now }
+    requires named { StaysBelow name.now }
+    ensures { IfErr result (IsNew asked.now.folder.now asked.now.facts.now) }
 {
     match told_in(asked, KIND, folder, name)? {
         None | Some(b"folder") => Ok(Reference::Last),
@@ -142,7 +154,11 @@ fn references_in(
 
 /// Where a git directory keeps references.
 fn references_of(asked: &Asked<'_, '_>, git_dir: &[u8], store: &Store) -> Result<References, Stop>
-    ensures { IfErr result (IsNew asked.now.facts.now) }
+    requires place { IsPlace asked.now.folder.now asked.now.facts.now git_dir.now }
+    requires stored { IsStore asked.now.facts.now store.now }
+    ensures { MatchResult result (λ references. IsKept asked.now.folder.now asked.now.facts.now references.own.items
+        × IsKept asked.now.folder.now asked.now.facts.now references.shared.items)
+        (IsNew asked.now.folder.now asked.now.facts.now) }
 {
     let linked = linked_folder(asked, git_dir)?;
     if let Some(place) = &store.place {
@@ -158,7 +174,10 @@ fn references_of(asked: &Asked<'_, '_>, git_dir: &[u8], store: &Store) -> Result
 impl References {
     /// The reference of this name.
     fn get<'t>(&self, asked: &Asked<'_, 't>, name: &[u8]) -> Result<Reference<'t>, Stop>
-        ensures { IfErr result (IsNew asked.now.facts.now) }
+        requires own { IsKept asked.now.folder.now asked.now.facts.now self.now.own.items }
+        requires shared { IsKept asked.now.folder.now asked.now.facts.now self.now.shared.items }
+        requires named { StaysBelow name.now }
+        ensures { IfErr result (IsNew asked.now.folder.now asked.now.facts.now) }
     {
         let folder = if name == b"HEAD".as_slice() {
             &self.own
@@ -181,7 +200,9 @@ pub(crate) fn branch_of<'t>(
     git_dir: &[u8],
     store: &Store,
 ) -> Result<Option<&'t [u8]>, Stop>
-    ensures { IfErr result (IsNew asked.now.facts.now) }
+    requires place { IsPlace asked.now.folder.now asked.now.facts.now git_dir.now }
+    requires stored { IsStore asked.now.facts.now store.now }
+    ensures { IfErr result (IsNew asked.now.folder.now asked.now.facts.now) }
 {
     let references = references_of(asked, git_dir, store)?;
     let mut name: &'t [u8] = b"HEAD";

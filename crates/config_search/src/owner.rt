@@ -16,6 +16,7 @@ ghost use Rattle.config_search.specs.declared.TheConstants.{REAL};
 ghost use Rattle.config_search.specs.Answers.{IsOfBareOne, IsOfOtherOne, RefusesIt};
 ghost use Rattle.config_search.specs.Shown.{AsksNothing, IsNew, IsNewHalt, IsSafeAfter, form_of, git_dir_of};
 ghost use Rattle.config_file.specs.KeyView.{key_of};
+ghost use Rattle.config_search.specs.Questions.{IsPlace};
 
 use crate::answer::{FaultKind, Refusal};
 use crate::fact::{Asked, Stop, is_word, told};
@@ -32,9 +33,10 @@ use std::alloc::Global;
 /// Whether the file of this name, which may be a link, belongs to the user. To root it also belongs if its owner became
 /// root by sudo.
 fn is_owned(asked: &Asked<'_, '_>, name: &[u8]) -> Result<bool, Stop>
+    requires { IsPlace asked.now.folder.now asked.now.facts.now name.now }
     ensures { MatchResult result
         (λ is. (system : System) → AreTrueIn system asked.now.facts.now → is ≡ rule.is_owned system name.now)
-        (IsNew asked.now.facts.now) }
+        (IsNew asked.now.folder.now asked.now.facts.now) }
 {
     let owner = told(asked, OWNER, name)?;
     let user = told(asked, USER, b"")?;
@@ -49,10 +51,12 @@ fn is_owned(asked: &Asked<'_, '_>, name: &[u8]) -> Result<bool, Stop>
 
 /// Whether `.git` of a folder, the folder and the git directory belong to the user.
 fn are_owned_below(asked: &Asked<'_, '_>, folder: &[u8], name: &[u8]) -> Result<bool, Stop>
+    requires place { IsPlace asked.now.folder.now asked.now.facts.now folder.now }
+    requires git_dir_place { IsPlace asked.now.folder.now asked.now.facts.now name.now }
     ensures { MatchResult result
         (λ are. (system : System) → AreTrueIn system asked.now.facts.now
         → are ≡ rule.are_owned system folder.now name.now IsBelow)
-        (IsNew asked.now.facts.now) }
+        (IsNew asked.now.folder.now asked.now.facts.now) }
 {
     let link = inside(asked.alloc, folder, b".git")?;
     if !is_owned(asked, &link)? {
@@ -66,10 +70,12 @@ fn are_owned_below(asked: &Asked<'_, '_>, folder: &[u8], name: &[u8]) -> Result<
 
 /// Whether all files that have to belong to the user do.
 fn are_owned(asked: &Asked<'_, '_>, folder: &[u8], git_dir: &GitDir) -> Result<bool, Stop>
+    requires place { IsPlace asked.now.folder.now asked.now.facts.now folder.now }
+    requires git_dir_place { IsPlace asked.now.folder.now asked.now.facts.now git_dir.now.name.items }
     ensures { MatchResult result
         (λ are. (system : System) → AreTrueIn system asked.now.facts.now
         → are ≡ rule.are_owned system folder.now git_dir.now.name.items (form_of git_dir.now.form))
-        (IsNew asked.now.facts.now) }
+        (IsNew asked.now.folder.now asked.now.facts.now) }
 {
     match git_dir.form {
         Form::Given => Ok(true),
@@ -80,11 +86,13 @@ fn are_owned(asked: &Asked<'_, '_>, folder: &[u8], git_dir: &GitDir) -> Result<b
 
 /// Whether the git directory of a folder is the user's own. A variable may say that it is not, which Git has for tests.
 fn is_own(asked: &Asked<'_, '_>, folder: &[u8], git_dir: &GitDir) -> Result<bool, Stop>
+    requires place { IsPlace asked.now.folder.now asked.now.facts.now folder.now }
+    requires git_dir_place { IsPlace asked.now.folder.now asked.now.facts.now git_dir.now.name.items }
     ensures { MatchResult result
         (λ is. (system : System) → AreTrueIn system asked.now.facts.now
         → MatchBool is (rule.IsOwn system folder.now (git_dir_of git_dir.now))
         (¬ (rule.IsOwn system folder.now (git_dir_of git_dir.now))))
-        (IsNew asked.now.facts.now) }
+        (IsNew asked.now.folder.now asked.now.facts.now) }
 {
     if is_on(asked, b"GIT_TEST_ASSUME_DIFFERENT_OWNER")? {
         return Ok(false);
@@ -109,7 +117,7 @@ fn of_user(asked: &Asked<'_, '_>, value: &[u8]) -> Result<Option<Vec<u8>>, Stop>
     ensures { MatchResult result
         (λ found. (system : System) → AreTrueIn system asked.now.facts.now
         → IfSome found (λ path. trust.Spells system value.now path.items))
-        (IsNew asked.now.facts.now) }
+        (IsNew asked.now.folder.now asked.now.facts.now) }
 {
     let Some(rest) = after(b"~", value) else {
         return Ok(None);
@@ -126,7 +134,7 @@ fn spelled(asked: &Asked<'_, '_>, value: &[u8]) -> Result<Option<Vec<u8>>, Stop>
     ensures { MatchResult result
         (λ found. (system : System) → AreTrueIn system asked.now.facts.now
         → IfSome found (λ path. trust.Spells system value.now path.items))
-        (IsNew asked.now.facts.now) }
+        (IsNew asked.now.folder.now asked.now.facts.now) }
 {
     let directories = Directories {
         home: told(asked, VARIABLE, b"HOME")?,
@@ -166,7 +174,7 @@ fn is_above(asked: &Asked<'_, '_>, name: &[u8], folder: &[u8]) -> Result<bool, S
     ensures { MatchResult result
         (λ is. (system : System) → AreTrueIn system asked.now.facts.now → is ≡ true
         → (top : List ℕ) × (system REAL (trust.or_root name.now) ≡ Some top) × trust.IsBelow top folder.now)
-        (IsNew asked.now.facts.now) }
+        (IsNew asked.now.folder.now asked.now.facts.now) }
 {
     let above = if name.is_empty() { b"/" } else { name };
     match told(asked, REAL, above)? {
@@ -180,7 +188,7 @@ fn covers(asked: &Asked<'_, '_>, path: &[u8], folder: &[u8]) -> Result<bool, Sto
     ensures { MatchResult result
         (λ is. (system : System) → AreTrueIn system asked.now.facts.now → is ≡ true
         → trust.Covers system path.now folder.now)
-        (IsNew asked.now.facts.now) }
+        (IsNew asked.now.folder.now asked.now.facts.now) }
 {
     if let Some(above) = before(b"/*", path) {
         return Ok(is_above(asked, above, folder)?);
@@ -202,7 +210,7 @@ fn names_folder(
     ensures { MatchResult result
         (λ is. (system : System) → AreTrueIn system asked.now.facts.now → is ≡ true
         → trust.NamesFolder system start.now value.now folder.now)
-        (IsNew asked.now.facts.now) }
+        (IsNew asked.now.folder.now asked.now.facts.now) }
 {
     if value == b"*".as_slice() {
         return Ok(true);
@@ -240,7 +248,7 @@ fn is_safe_after(
     setting: &Setting<'_>,
     was_safe: bool,
 ) -> Result<bool, Stop>
-    ensures asks { IfErr result (IsNew asked.now.facts.now) }
+    ensures asks { IfErr result (IsNew asked.now.folder.now asked.now.facts.now) }
     ensures safe { (text : List ℕ)
         → IsListed (entry_of setting.now.entry).section (entry_of setting.now.entry).key text → IfOk result
         (λ is. (system : System) → AreTrueIn system asked.now.facts.now → is ≡ true
@@ -264,7 +272,7 @@ fn name_as_safe(
     key: &Key<'_>,
     settings: &[Setting<'_>],
 ) -> Result<bool, Stop>
-    ensures asks { IfErr result (IsNew asked.now.facts.now) }
+    ensures asks { IfErr result (IsNew asked.now.folder.now asked.now.facts.now) }
     ensures safe { AreListed settings.now → IfOk result
         (λ are. (system : System) → AreTrueIn system asked.now.facts.now → are ≡ true
         → trust.AreSafe system start.now folder.now (key_of key.now) settings.now) }
@@ -283,7 +291,7 @@ fn say_safe(
     folder: &[u8],
     settings: &[Setting<'_>],
 ) -> Result<bool, Stop>
-    ensures asks { IfErr result (IsNew asked.now.facts.now) }
+    ensures asks { IfErr result (IsNew asked.now.folder.now asked.now.facts.now) }
     ensures safe { AreListed settings.now → IfOk result
         (λ say. (system : System) → AreTrueIn system asked.now.facts.now → say ≡ true
         → trust.SaysSafe system start.now folder.now settings.now) }
@@ -300,7 +308,7 @@ fn is_safe(asked: &Asked<'_, '_>, start: &[u8], folder: &[u8]) -> Result<bool, H
         (λ is. (system : System) → AreTrueIn system asked.now.facts.now → is ≡ true
         → (settings : List SettingOf) × AreProtected system start.now settings
         × trust.SaysSafe system start.now folder.now settings)
-        (IsNewHalt asked.now.facts.now) }
+        (IsNewHalt asked.now.folder.now asked.now.facts.now) }
 {
     let sources = sources_of(asked)?;
     let settings = protected_settings(asked, start, &sources)?;
@@ -324,7 +332,7 @@ fn allows_bare(alloc: Global, setting: &Setting<'_>) -> Result<bool, Halt>
 
 /// Whether the last setting of `safe.bareRepository` lets Git find bare repositories.
 fn allow_bare(asked: &Asked<'_, '_>, start: &[u8]) -> Result<bool, Halt>
-    ensures { IfErr result (IsNewHalt asked.now.facts.now) }
+    ensures { IfErr result (IsNewHalt asked.now.folder.now asked.now.facts.now) }
 {
     let sources = sources_of(asked)?;
     let settings = protected_settings(asked, start, &sources)?;
@@ -356,7 +364,7 @@ fn refuses_bare(
     start: &[u8],
     folder: Folder<'_>,
 ) -> Result<Option<Refusal>, Halt>
-    ensures { MatchResult result (λ refusal. IfSome refusal IsOfBareOne) (IsNewHalt asked.now.facts.now) }
+    ensures { MatchResult result (λ refusal. IfSome refusal IsOfBareOne) (IsNewHalt asked.now.folder.now asked.now.facts.now) }
 {
     let may_be = allow_bare(asked, start)?;
     let real = told(asked, REAL, opened(folder.name))?.unwrap_or(folder.path);
@@ -375,7 +383,7 @@ fn refuses_owner(
     ensures { MatchResult result
         (λ refusal. (system : System) → AreTrueIn system asked.now.facts.now
         → MatchOption refusal (trust.IsSafe system start.now folder.entry.name.now) IsOfOtherOne)
-        (IsNewHalt asked.now.facts.now) }
+        (IsNewHalt asked.now.folder.now asked.now.facts.now) }
 {
     let Some(real) = told(asked, REAL, opened(folder.name))? else {
         return Ok(Some(Refusal::Owner(folder.path.to_vec(asked.alloc)?)));
@@ -393,12 +401,14 @@ pub(crate) fn refuses(
     folder: Folder<'_>,
     git_dir: &GitDir,
 ) -> Result<Option<Refusal>, Halt>
+    requires place { IsPlace asked.now.folder.now asked.now.facts.now folder.name.now }
+    requires git_dir_place { IsPlace asked.now.folder.now asked.now.facts.now git_dir.now.name.items }
     ensures { MatchResult result
         (λ refusal. (system : System) → AreTrueIn system asked.now.facts.now
         → MatchOption refusal
         (trust.IsTrusted system start.now folder.entry.name.now (git_dir_of git_dir.now))
         (RefusesIt system (Inside folder.entry.name.now (git_dir_of git_dir.now))))
-        (IsNewHalt asked.now.facts.now) }
+        (IsNewHalt asked.now.folder.now asked.now.facts.now) }
 {
     match git_dir.form {
         Form::Given => return Ok(None),

@@ -1,13 +1,14 @@
 //! The search.
-ghost use Rattle.std.specs.Prelude.{◌≡◌, ◌++◌, ℕ, List, IfOk, IfErr, OnOk, MatchResult, map, option_map};
+ghost use Rattle.std.specs.Prelude.{◌≡◌, ◌++◌, ℕ, List, IfOk, IfErr, IfSome, OnOk, MatchResult, map, option_map};
 ghost use Rattle.config_search.specs.System.{System, AreTrueIn};
-ghost use Rattle.config_search.specs.Shown.{AsksNothing, IsNew, IsNewHalt, common_of as common_shown, file_of, found_of, git_dir_of};
+ghost use Rattle.config_search.specs.Questions.{IsNeeded, IsPlace};
+ghost use Rattle.config_search.specs.Shown.{AsksNothing, IsNew, IsNewHalt, IsStore, common_of as common_shown, file_of, found_of, git_dir_of};
 ghost use Rattle.config_search.specs.Rule as rule;
 ghost use Rattle.config_search.specs.Search as search;
 ghost use Rattle.config_search.specs.Files as files;
 ghost use Rattle.config_search.specs.Answers as answers;
 ghost use Rattle.config_search.specs.Trust.{IsTrusted};
-ghost use Rattle.config_search.specs.declared.TheConstants.{REAL};
+ghost use Rattle.config_search.specs.declared.TheConstants.{REAL, VARIABLE};
 
 use crate::ahead::ask_ahead;
 use crate::answer::{Answer, Fault, FaultKind, Named, Outcome, Refusal, Repository};
@@ -19,7 +20,7 @@ use crate::halt::{Halt, fault};
 use crate::head::branch_of;
 use crate::name::{inside, opened};
 use crate::owner::refuses;
-use crate::seek::{Folder, Form, Found, GitDir, folder_of_name, seek};
+use crate::seek::{Folder, Form, Found, GitDir, first_folder, seek};
 use crate::{REAL, VARIABLE};
 use config_text::readers::TryRead;
 use gix_config_value::Boolean;
@@ -52,7 +53,8 @@ fn is_boolean(value: Option<&[u8]>) -> bool {
 
 /// Stops where Git does if a variable is no boolean.
 fn check_boolean(asked: &Asked<'_, '_>, name: &[u8]) -> Result<(), Halt>
-    ensures { IfErr result (IsNewHalt asked.now.facts.now) }
+    requires { IsNeeded asked.now.folder.now asked.now.facts.now VARIABLE name.now }
+    ensures { IfErr result (IsNewHalt asked.now.folder.now asked.now.facts.now) }
 {
     if is_boolean(told(asked, VARIABLE, name)?) {
         return Ok(());
@@ -62,7 +64,7 @@ fn check_boolean(asked: &Asked<'_, '_>, name: &[u8]) -> Result<(), Halt>
 
 /// Stops where Git does at a variable that has to be a boolean. One of them counts only for a search upwards.
 fn check_booleans(asked: &Asked<'_, '_>) -> Result<(), Halt>
-    ensures { IfErr result (IsNewHalt asked.now.facts.now) }
+    ensures { IfErr result (IsNewHalt asked.now.folder.now asked.now.facts.now) }
 {
     check_boolean(asked, b"GIT_CONFIG_NOSYSTEM")?;
     if told(asked, VARIABLE, b"GIT_DIR")?.is_some() {
@@ -85,7 +87,7 @@ fn named_top(
     site: &Site<'_>,
     format: &Format,
 ) -> Result<Option<Vec<u8>>, Halt>
-    ensures { IfErr result (IsNewHalt asked.now.facts.now) }
+    ensures { IfErr result (IsNewHalt asked.now.folder.now asked.now.facts.now) }
 {
     let top = match told(asked, VARIABLE, b"GIT_WORK_TREE")? {
         Some(b"") => return Err(of_variable(
@@ -116,7 +118,7 @@ fn name_here(asked: &Asked<'_, '_>, site: &Site<'_>) -> Result<Vec<u8>, Stop>
     ensures { MatchResult result
         (λ name. (system : System) → AreTrueIn system asked.now.facts.now
         → answers.IsNamed system (git_dir_of site.now.git_dir) name.items)
-        (IsNew asked.now.facts.now) }
+        (IsNew asked.now.folder.now asked.now.facts.now) }
 {
     if site.folder.name == site.start.name {
         return Ok(site.git_dir.named.to_vec(asked.alloc)?);
@@ -151,7 +153,7 @@ fn named_folder(asked: &Asked<'_, '_>, site: &Site<'_>, top: &[u8]) -> Result<Wo
     ensures { MatchResult result
         (λ place. (system : System) → AreTrueIn system asked.now.facts.now
         → answers.IsNamed system (git_dir_of site.now.git_dir) place.named_dir.items)
-        (IsNew asked.now.facts.now) }
+        (IsNew asked.now.folder.now asked.now.facts.now) }
 {
     let start = site.start;
     let real = told(asked, REAL, opened(start.name))?.unwrap_or(start.path);
@@ -173,7 +175,7 @@ fn plain_folder(asked: &Asked<'_, '_>, site: &Site<'_>, is_bare: bool) -> Result
     ensures { MatchResult result
         (λ place. (system : System) → AreTrueIn system asked.now.facts.now
         → answers.IsNamed system (git_dir_of site.now.git_dir) place.named_dir.items)
-        (IsNew asked.now.facts.now) }
+        (IsNew asked.now.folder.now asked.now.facts.now) }
 {
     if site.git_dir.form == Form::Below && !is_bare {
         let named_dir = site.git_dir.named.to_vec(asked.alloc)?;
@@ -188,7 +190,7 @@ fn work_folder(asked: &Asked<'_, '_>, site: &Site<'_>, format: &Format) -> Resul
     ensures { MatchResult result
         (λ place. (system : System) → AreTrueIn system asked.now.facts.now
         → answers.IsNamed system (git_dir_of site.now.git_dir) place.named_dir.items)
-        (IsNewHalt asked.now.facts.now) }
+        (IsNewHalt asked.now.folder.now asked.now.facts.now) }
 {
     match named_top(asked, site, format)? {
         Some(top) => Ok(named_folder(asked, site, &top)?),
@@ -201,7 +203,7 @@ fn given_or_resolved(asked: &Asked<'_, '_>, folder: &[u8]) -> Result<Vec<u8>, St
     ensures { MatchResult result
         (λ name. (system : System) → AreTrueIn system asked.now.facts.now
         → name.items ≡ answers.shown_linked system folder.now)
-        (IsNew asked.now.facts.now) }
+        (IsNew asked.now.folder.now asked.now.facts.now) }
 {
     match told(asked, VARIABLE, b"GIT_COMMON_DIR")? {
         Some(given) => Ok(given.to_vec(asked.alloc)?),
@@ -214,7 +216,7 @@ fn shown_common(asked: &Asked<'_, '_>, common: &Common, named_dir: &[u8]) -> Res
     ensures { MatchResult result
         (λ name. (system : System) → AreTrueIn system asked.now.facts.now
         → name.items ≡ answers.shown_common system named_dir.now (common_shown common.now))
-        (IsNew asked.now.facts.now) }
+        (IsNew asked.now.folder.now asked.now.facts.now) }
 {
     match common {
         Common::Linked(folder) => Ok(given_or_resolved(asked, folder)?),
@@ -227,7 +229,7 @@ fn real_or(asked: &Asked<'_, '_>, name: &[u8], other: &[u8]) -> Result<Vec<u8>, 
     ensures { MatchResult result
         (λ real. (system : System) → AreTrueIn system asked.now.facts.now
         → real.items ≡ rule.or_itself other.now (system REAL name.now))
-        (IsNew asked.now.facts.now) }
+        (IsNew asked.now.folder.now asked.now.facts.now) }
 {
     match told(asked, REAL, name)? {
         Some(real) => Ok(real.to_vec(asked.alloc)?),
@@ -237,7 +239,9 @@ fn real_or(asked: &Asked<'_, '_>, name: &[u8], other: &[u8]) -> Result<Vec<u8>, 
 
 /// The branch of a git directory.
 fn branch_in(asked: &Asked<'_, '_>, git_dir: &[u8], store: &Store) -> Result<Option<Vec<u8>>, Stop>
-    ensures { IfErr result (IsNew asked.now.facts.now) }
+    requires place { IsPlace asked.now.folder.now asked.now.facts.now git_dir.now }
+    requires stored { IsStore asked.now.facts.now store.now }
+    ensures { IfErr result (IsNew asked.now.folder.now asked.now.facts.now) }
 {
     match branch_of(asked, git_dir, store)? {
         Some(branch) => Ok(Some(branch.to_vec(asked.alloc)?)),
@@ -252,12 +256,14 @@ fn repository_in(
     place: &WorkFolder,
     format: &Format,
 ) -> Result<Repository, Stop>
+    requires place { IsPlace asked.now.folder.now asked.now.facts.now site.now.git_dir.name.items }
+    requires stored { IsStore asked.now.facts.now format.now.store }
     ensures { MatchResult result
         (λ repository. (system : System) → AreTrueIn system asked.now.facts.now
         → common_shown site.now.common ≡ rule.common_of system site.now.folder.name.now site.now.git_dir.name.items
         → answers.IsNamed system (git_dir_of site.now.git_dir) place.now.named_dir.items
         → answers.IsOf system site.now.folder.name.now (git_dir_of site.now.git_dir) repository)
-        (IsNew asked.now.facts.now) }
+        (IsNew asked.now.folder.now asked.now.facts.now) }
 {
     let path = inside(asked.alloc, &place.path, &place.named_dir)?;
     let real = real_or(asked, &site.git_dir.name, &path)?;
@@ -275,13 +281,15 @@ fn repository_in(
 
 /// Where Git works with this git directory, if it may have this format.
 fn located(asked: &Asked<'_, '_>, site: &Site<'_>, format: &Format) -> Result<Place, Halt>
+    requires place { IsPlace asked.now.folder.now asked.now.facts.now site.now.git_dir.name.items }
+    requires stored { IsStore asked.now.facts.now format.now.store }
     ensures { MatchResult result
         (λ place. (system : System) → AreTrueIn system asked.now.facts.now
         → common_shown site.now.common ≡ rule.common_of system site.now.folder.name.now site.now.git_dir.name.items
         → IsTrusted system site.now.start.name.now site.now.folder.name.now (git_dir_of site.now.git_dir)
         → answers.Tells system site.now.start.name.now
         (search.Inside site.now.folder.name.now (git_dir_of site.now.git_dir)) place.outcome)
-        (IsNewHalt asked.now.facts.now) }
+        (IsNewHalt asked.now.folder.now asked.now.facts.now) }
 {
     if let Some(refusal) = format.refusal(asked.alloc)? {
         return Ok(Place::new(asked.alloc, site.folder, Outcome::Refuses(refusal))?);
@@ -312,8 +320,8 @@ fn or_stops(
     folder: Folder<'_>,
     place: Result<Place, Halt>,
 ) -> Result<Place, Stop>
-    ensures asks { IfErr place (IsNewHalt asked.now.facts.now)
-        → IfErr result (IsNew asked.now.facts.now) }
+    ensures asks { IfErr place (IsNewHalt asked.now.folder.now asked.now.facts.now)
+        → IfErr result (IsNew asked.now.folder.now asked.now.facts.now) }
     ensures tells { (system : System) (start : List ℕ) (sought : search.Sought)
         → IfOk place (λ p. answers.Tells system start sought p.outcome)
         → IfOk result (λ p. answers.Tells system start sought p.outcome) }
@@ -327,13 +335,15 @@ fn or_stops(
 
 /// Where Git works with this git directory, in which references are stored as it is given.
 fn used(asked: &Asked<'_, '_>, site: &Site<'_>, given: Option<Store>) -> Result<Place, Halt>
+    requires place { IsPlace asked.now.folder.now asked.now.facts.now site.now.git_dir.name.items }
+    requires stored { IfSome given (IsStore asked.now.facts.now) }
     ensures { MatchResult result
         (λ place. (system : System) → AreTrueIn system asked.now.facts.now
         → common_shown site.now.common ≡ rule.common_of system site.now.folder.name.now site.now.git_dir.name.items
         → IsTrusted system site.now.start.name.now site.now.folder.name.now (git_dir_of site.now.git_dir)
         → answers.Tells system site.now.start.name.now
         (search.Inside site.now.folder.name.now (git_dir_of site.now.git_dir)) place.outcome)
-        (IsNewHalt asked.now.facts.now) }
+        (IsNewHalt asked.now.folder.now asked.now.facts.now) }
 {
     let mut format = format_of(asked, &site.git_dir.name, &site.common)?;
     format.store = given.unwrap_or(format.store);
@@ -348,11 +358,13 @@ fn site_of<'t>(
     folder: Folder<'t>,
     git_dir: GitDir,
 ) -> Result<Site<'t>, Halt>
+    requires place { IsPlace asked.now.folder.now asked.now.facts.now folder.name.now }
+    requires git_dir_place { IsPlace asked.now.folder.now asked.now.facts.now git_dir.name.items }
     ensures { MatchResult result
         (λ site. (site.start ≡ start.entry) × (site.folder ≡ folder.entry) × (site.git_dir ≡ git_dir)
         × ((system : System) → AreTrueIn system asked.now.facts.now
         → common_shown site.common ≡ rule.common_of system folder.entry.name.now site.git_dir.name.items))
-        (IsNewHalt asked.now.facts.now) }
+        (IsNewHalt asked.now.folder.now asked.now.facts.now) }
 {
     let common = common_of(asked, folder.name, &git_dir.name)?;
     if matches!(common, Common::Broken) {
@@ -370,12 +382,14 @@ fn site_of<'t>(
 
 /// What Git does with this git directory, if it trusts it.
 fn trusted(asked: &Asked<'_, '_>, site: &Site<'_>) -> Result<Place, Halt>
+    requires folder_place { IsPlace asked.now.folder.now asked.now.facts.now site.now.folder.name.now }
+    requires place { IsPlace asked.now.folder.now asked.now.facts.now site.now.git_dir.name.items }
     ensures { MatchResult result
         (λ place. (system : System) → AreTrueIn system asked.now.facts.now
         → common_shown site.now.common ≡ rule.common_of system site.now.folder.name.now site.now.git_dir.name.items
         → answers.Tells system site.now.start.name.now
         (search.Inside site.now.folder.name.now (git_dir_of site.now.git_dir)) place.outcome)
-        (IsNewHalt asked.now.facts.now) }
+        (IsNewHalt asked.now.folder.now asked.now.facts.now) }
 {
     let start = site.start;
     if let Some(refusal) = refuses(asked, start.name, site.folder, &site.git_dir)? {
@@ -388,10 +402,12 @@ fn trusted(asked: &Asked<'_, '_>, site: &Site<'_>) -> Result<Place, Halt>
 
 /// What Git does where it starts in this folder and finds this.
 fn place_of<'t>(asked: &Asked<'_, 't>, start: Folder<'t>, found: Found<'t>) -> Result<Place, Halt>
+    requires place { IsPlace asked.now.folder.now asked.now.facts.now start.name.now }
+    requires sought { (system : System) → AreTrueIn system asked.now.facts.now → search.Seeks system start.name.now (found_of found) }
     ensures { MatchResult result
         (λ place. (system : System) → AreTrueIn system asked.now.facts.now
         → answers.Tells system start.entry.name.now (found_of found.entry) place.outcome)
-        (IsNewHalt asked.now.facts.now) }
+        (IsNewHalt asked.now.folder.now asked.now.facts.now) }
 {
     check_booleans(asked)?;
     let outcome = match found {
@@ -423,7 +439,7 @@ fn files_of(asked: &Asked<'_, '_>, outcome: &Outcome) -> Result<Vec<Named>, Stop
     ensures { MatchResult result
         (λ names. (system : System) → AreTrueIn system asked.now.facts.now
         → files.AreFiles system (answers.files_of outcome.now) (map file_of names.items))
-        (IsNew asked.now.facts.now) }
+        (IsNew asked.now.folder.now asked.now.facts.now) }
 {
     let mut names = protected_files(asked)?;
     push_used(asked.alloc, &mut names, outcome)?;
@@ -447,38 +463,39 @@ fn nowhere(alloc: Global, folder: &[u8]) -> Result<Place, AllocError>
 
 /// What Git does where it starts in this folder.
 fn place_from<'t>(asked: &Asked<'_, 't>, start: Folder<'t>) -> Result<Place, Stop>
+    requires { IsPlace asked.now.folder.now asked.now.facts.now start.name.now }
     ensures { MatchResult result
         (λ place. (system : System) → AreTrueIn system asked.now.facts.now
         → (sought : search.Sought) × search.OnlySeeks system start.entry.name.now sought
         × answers.Tells system start.entry.name.now sought place.outcome)
-        (IsNew asked.now.facts.now) }
+        (IsNew asked.now.folder.now asked.now.facts.now) }
 {
     let found = seek(asked, start)?;
     Ok(or_stops(asked, start, place_of(asked, start, found))?)
 }
 
-/// What Git does in a folder.
-fn place_in<'t>(asked: &Asked<'_, 't>, folder: &'t [u8]) -> Result<Place, Stop>
+/// What Git does in the folder about which is asked.
+fn place_in(asked: &Asked<'_, '_>) -> Result<Place, Stop>
     ensures { MatchResult result
         (λ place. (system : System) → AreTrueIn system asked.now.facts.now
-        → answers.Does system (search.start_of folder.now)
-        (search.path_of system (search.start_of folder.now)) place.outcome)
-        (IsNew asked.now.facts.now) }
+        → answers.Does system (search.start_of asked.now.folder.now)
+        (search.path_of system (search.start_of asked.now.folder.now)) place.outcome)
+        (IsNew asked.now.folder.now asked.now.facts.now) }
 {
-    match folder_of_name(asked, folder)? {
+    match first_folder(asked)? {
         Some(start) => Ok(place_from(asked, start)?),
-        None => Ok(nowhere(asked.alloc, folder)?),
+        None => Ok(nowhere(asked.alloc, asked.folder)?),
     }
 }
 
-/// What Git reads in a folder, or the question that no fact answers yet.
-fn answer_by<'t>(asked: &Asked<'_, 't>, folder: &'t [u8]) -> Result<Answer, Stop>
+/// What Git reads in the folder about which is asked, or the question that no fact answers yet.
+fn answer_by(asked: &Asked<'_, '_>) -> Result<Answer, Stop>
     ensures { MatchResult result
         (λ answer. (system : System) → AreTrueIn system asked.now.facts.now
-        → answers.Answers system folder.now answer)
-        (IsNew asked.now.facts.now) }
+        → answers.Answers system asked.now.folder.now answer)
+        (IsNew asked.now.folder.now asked.now.facts.now) }
 {
-    let place = place_in(asked, folder)?;
+    let place = place_in(asked)?;
     let files = files_of(asked, &place.outcome)?;
     Ok(Answer {
         folder: place.folder,
@@ -502,9 +519,9 @@ fn answer_by<'t>(asked: &Asked<'_, 't>, folder: &'t [u8]) -> Result<Answer, Stop
 pub fn search<'t>(alloc: Global, folder: &'t [u8], facts: &[Fact<'t>]) -> Result<Answer, Stop>
     ensures { MatchResult result
         (λ answer. (system : System) → AreTrueIn system facts.now → answers.Answers system folder.now answer)
-        (IsNew facts.now) }
+        (IsNew folder.now facts.now) }
 {
-    let asked = Asked::new(alloc, facts);
+    let asked = Asked::new(alloc, folder, facts);
     ask_ahead(&asked)?;
-    Ok(answer_by(&asked, folder)?)
+    Ok(answer_by(&asked)?)
 }

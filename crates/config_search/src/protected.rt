@@ -7,6 +7,7 @@ ghost use Rattle.config_file.specs.Command.{AddsSettings, KeyValue};
 ghost use Rattle.config_search.specs.System.{System, AreTrueIn};
 ghost use Rattle.config_search.specs.Protected as rule;
 ghost use Rattle.config_search.specs.declared.TheConstants.{VARIABLE};
+ghost use Rattle.config_search.specs.Questions.{IsNeeded};
 ghost use Rattle.config_search.specs.Shown.{IsNew, IsNewHalt, AsksNothing, MayHold, AreSources, file_of};
 
 use crate::answer::{FaultKind, Named};
@@ -22,6 +23,7 @@ use config_file::{
     IncludeFault, Includes, Known, Scope, Settings, Urls, count_of, is_remote_url, push_parameters,
     push_setting,
 };
+use itoa::Buffer;
 use std::alloc::{AllocError, Global};
 
 /// Where the settings are that no repository can change: the names of files, and the text of those of the command.
@@ -52,7 +54,7 @@ impl<'t> Included<'_, '_, 't> {
     /// What the file of this name holds, or a question.
     fn content(&self, name: &[u8]) -> Result<Content<'t>, Stop>
         ensures { MatchResult result (HoldsContent (MayHold self.now.asked.now.facts.now self.now.start.now) name.now)
-            (IsNew self.now.asked.now.facts.now) }
+            (IsNew self.now.asked.now.folder.now self.now.asked.now.facts.now) }
     {
         let fact = fact_in(self.asked, INCLUDED, self.start, name)?;
         if let Some(text) = answer_of(&fact) {
@@ -91,7 +93,7 @@ fn refusal_in<'t>(
     folder: &[u8],
     name: &[u8],
 ) -> Result<Option<&'t [u8]>, Stop>
-    ensures { IfErr result (IsNew asked.now.facts.now) }
+    ensures { IfErr result (IsNew asked.now.folder.now asked.now.facts.now) }
 {
     match told_in(asked, REFUSAL, folder, name)? {
         Some(b"denied") => Ok(Some(b"Permission denied")),
@@ -136,7 +138,7 @@ fn not_read(
     line: usize,
     name: &[u8],
 ) -> Result<Halt, Stop>
-    ensures { MatchResult result AsksNothing (IsNew included.now.asked.now.facts.now) }
+    ensures { MatchResult result AsksNothing (IsNew included.now.asked.now.folder.now included.now.asked.now.facts.now) }
 {
     let alloc = included.asked.alloc;
     if !included.is_file && !name.starts_with(b"/") {
@@ -157,7 +159,7 @@ fn at_last(
     settings: &Settings<'_>,
     why: IncludeFault<'_>,
 ) -> Result<Halt, Stop>
-    ensures { MatchResult result AsksNothing (IsNew included.now.asked.now.facts.now) }
+    ensures { MatchResult result AsksNothing (IsNew included.now.asked.now.folder.now included.now.asked.now.facts.now) }
 {
     let alloc = included.asked.alloc;
     let Some(last) = settings.entries.last() else {
@@ -180,7 +182,7 @@ fn stop_of(
     settings: &Settings<'_>,
     error: AddError<'_>,
 ) -> Result<Halt, Stop>
-    ensures { MatchResult result AsksNothing (IsNew included.now.asked.now.facts.now) }
+    ensures { MatchResult result AsksNothing (IsNew included.now.asked.now.folder.now included.now.asked.now.facts.now) }
 {
     let alloc = included.asked.alloc;
     match error {
@@ -207,7 +209,7 @@ fn add_text<'s, 't: 's>(
         (λ done. (system : System) → AreTrueIn system included.now.asked.now.facts.now
         → rule.AddsText system included.now.start.now known.now name.now text.now
         settings.old.entries.items settings.new.entries.items)
-        (IsNewHalt included.now.asked.now.facts.now) }
+        (IsNewHalt included.now.asked.now.folder.now included.now.asked.now.facts.now) }
 {
     let place = FilePlace {
         name,
@@ -232,7 +234,7 @@ fn add_file<'s, 't: 's>(
         (λ done. (system : System) → AreTrueIn system asked.now.facts.now
         → rule.AddsFile system start.now known.now (file_of named.now)
         settings.old.entries.items settings.new.entries.items)
-        (IsNewHalt asked.now.facts.now) }
+        (IsNewHalt asked.now.folder.now asked.now.facts.now) }
 {
     let Some(text) = told_in(asked, SETTINGS, start, &named.name)? else {
         check_unread(asked, start, named)?;
@@ -250,7 +252,7 @@ fn add_file<'s, 't: 's>(
 /// Stops where Git does at a file that is not read: one that is there, unless it is a file of the user who may not read
 /// it.
 fn check_unread(asked: &Asked<'_, '_>, start: &[u8], named: &Named) -> Result<(), Halt>
-    ensures { IfErr result (IsNewHalt asked.now.facts.now) }
+    ensures { IfErr result (IsNewHalt asked.now.folder.now asked.now.facts.now) }
 {
     match refusal_in(asked, start, &named.name)? {
         None => Ok(()),
@@ -277,14 +279,16 @@ fn of_command(alloc: Global, error: CommandError) -> Result<Halt, AllocError>
 const COMMAND: &[u8] = b"command line";
 
 /// The value of the variable with this name and this number.
-fn numbered<'t>(asked: &Asked<'_, 't>, name: &str, number: usize) -> Result<Option<&'t [u8]>, Stop>
+fn numbered<'t>(asked: &Asked<'_, 't>, name: &[u8], number: usize) -> Result<Option<&'t [u8]>, Stop>
+    requires { IsNeeded asked.now.folder.now asked.now.facts.now VARIABLE (name.now ++ decimal number) }
     ensures { MatchResult result
         (λ answer. (system : System) → AreTrueIn system asked.now.facts.now
         → option_copied answer ≡ system VARIABLE (name.now ++ decimal number))
-        (IsNew asked.now.facts.now) }
+        (IsNew asked.now.folder.now asked.now.facts.now) }
 {
-    let name = format!(in asked.alloc; "{name}{number}")?;
-    Ok(told(asked, VARIABLE, name.as_bytes())?)
+    let mut digits = Buffer::new();
+    let name = joined(asked.alloc, name, digits.format(number).as_bytes(), b"")?;
+    Ok(told(asked, VARIABLE, &name)?)
 }
 
 /// Appends the setting of this number.
@@ -293,12 +297,12 @@ fn push_numbered(asked: &Asked<'_, '_>, text: &mut Vec<u8>, number: usize) -> Re
         (λ done. (system : System) → AreTrueIn system asked.now.facts.now
         → (setting : KeyValue) × (line : List ℕ) × rule.IsNumbered system number setting
         × AddsSettings line (setting ∷ []) × (text.new.items ≡ text.old.items ++ line))
-        (IsNewHalt asked.now.facts.now) }
+        (IsNewHalt asked.now.folder.now asked.now.facts.now) }
 {
-    let Some(key) = numbered(asked, "GIT_CONFIG_KEY_", number)? else {
+    let Some(key) = numbered(asked, b"GIT_CONFIG_KEY_", number)? else {
         return Err(of_command(asked.alloc, CommandError::MissingKey(number))?);
     };
-    let Some(value) = numbered(asked, "GIT_CONFIG_VALUE_", number)? else {
+    let Some(value) = numbered(asked, b"GIT_CONFIG_VALUE_", number)? else {
         return Err(of_command(asked.alloc, CommandError::MissingValue(number))?);
     };
     match push_setting(asked.alloc, text, key, Some(value)) {
@@ -313,7 +317,7 @@ fn counted_text(asked: &Asked<'_, '_>) -> Result<Vec<u8>, Halt>
         (λ text. (system : System) → AreTrueIn system asked.now.facts.now
         → (settings : List KeyValue) × AddsSettings text.items settings
         × rule.AreCounted system (system VARIABLE (codes "GIT_CONFIG_COUNT")) settings)
-        (IsNewHalt asked.now.facts.now) }
+        (IsNewHalt asked.now.folder.now asked.now.facts.now) }
 {
     let mut text = Vec::new(asked.alloc);
     let Some(count) = told(asked, VARIABLE, b"GIT_CONFIG_COUNT")? else {
@@ -334,7 +338,7 @@ fn counted_text(asked: &Asked<'_, '_>) -> Result<Vec<u8>, Halt>
 fn command_text(asked: &Asked<'_, '_>) -> Result<Vec<u8>, Halt>
     ensures { MatchResult result
         (λ text. (system : System) → AreTrueIn system asked.now.facts.now → rule.IsOfCommand system text.items)
-        (IsNewHalt asked.now.facts.now) }
+        (IsNewHalt asked.now.folder.now asked.now.facts.now) }
 {
     let mut text = counted_text(asked)?;
     let Some(parameters) = told(asked, VARIABLE, b"GIT_CONFIG_PARAMETERS")? else {
@@ -350,7 +354,7 @@ fn command_text(asked: &Asked<'_, '_>) -> Result<Vec<u8>, Halt>
 pub(crate) fn sources_of(asked: &Asked<'_, '_>) -> Result<Sources, Halt>
     ensures { MatchResult result
         (λ sources. (system : System) → AreTrueIn system asked.now.facts.now → AreSources system sources)
-        (IsNewHalt asked.now.facts.now) }
+        (IsNewHalt asked.now.folder.now asked.now.facts.now) }
 {
     let files = protected_files(asked)?;
     let command = command_text(asked)?;
@@ -404,7 +408,7 @@ fn settings_of<'s, 't: 's>(
     ensures { MatchResult result
         (λ settings. (system : System) → AreTrueIn system asked.now.facts.now
         → rule.AreIn system start.now known.now (map file_of files.now) settings.entries.items)
-        (IsNewHalt asked.now.facts.now) }
+        (IsNewHalt asked.now.folder.now asked.now.facts.now) }
 {
     let mut settings = Settings::new(asked.alloc);
     for file in files {
@@ -423,7 +427,7 @@ fn settings_by<'s, 't: 's>(
     ensures { MatchResult result
         (λ settings. (system : System) → AreTrueIn system asked.now.facts.now → AreSources system sources.now
         → rule.AreProtected system start.now settings.entries.items)
-        (IsNewHalt asked.now.facts.now) }
+        (IsNewHalt asked.now.folder.now asked.now.facts.now) }
 {
     let directories = Directories {
         home: told(asked, VARIABLE, b"HOME")?,
@@ -460,7 +464,7 @@ pub(crate) fn protected_settings<'s, 't: 's>(
     ensures { MatchResult result
         (λ settings. (system : System) → AreTrueIn system asked.now.facts.now → AreSources system sources.now
         → rule.AreProtected system start.now settings.entries.items)
-        (IsNewHalt asked.now.facts.now) }
+        (IsNewHalt asked.now.folder.now asked.now.facts.now) }
 {
     let settings = settings_by(asked, start, sources, Urls::Sought)?;
     if !ask_for_urls(asked.alloc, &settings)? {

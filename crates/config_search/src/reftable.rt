@@ -1,7 +1,10 @@
 //! References that are in a reftable, which is a stack of tables in the folder `reftable`. Git's technical/reftable
 //! has the format of a table: the names of its first block come in order, HEAD among the first of them.
 ghost use Rattle.std.specs.Prelude.{IfErr};
+ghost use Rattle.config_search.specs.Names.{inside};
+ghost use Rattle.config_search.specs.Questions.{IsKept, IsNeeded};
 ghost use Rattle.config_search.specs.Shown.{IsNew};
+ghost use Rattle.config_search.specs.declared.TheConstants.{TEXT, BLOCK};
 
 use crate::fact::{Asked, Stop, told_in};
 use crate::name::{inside, line};
@@ -124,7 +127,9 @@ fn first_block<'t>(
     table: &[u8],
     left: usize,
 ) -> Result<Option<&'t [u8]>, Stop>
-    ensures { IfErr result (IsNew asked.now.facts.now) }
+    requires text_of { IsNeeded asked.now.folder.now asked.now.facts.now TEXT (inside folder.now table.now) }
+    requires block_of { IsNeeded asked.now.folder.now asked.now.facts.now BLOCK (inside folder.now table.now) }
+    ensures { IfErr result (IsNew asked.now.folder.now asked.now.facts.now) }
 {
     let Some(start) = told_in(asked, TEXT, folder, table)? else {
         return Ok(None);
@@ -147,7 +152,9 @@ fn target_in_table<'t>(
     name: &[u8],
     left: &mut usize,
 ) -> Result<Option<Option<&'t [u8]>>, Stop>
-    ensures { IfErr result (IsNew asked.now.facts.now) }
+    requires text_of { IsNeeded asked.now.folder.now asked.now.facts.now TEXT (inside folder.now table.now) }
+    requires block_of { IsNeeded asked.now.folder.now asked.now.facts.now BLOCK (inside folder.now table.now) }
+    ensures { IfErr result (IsNew asked.now.folder.now asked.now.facts.now) }
 {
     let Some(block) = first_block(asked, folder, table, *left)? else {
         return Ok(None);
@@ -166,7 +173,8 @@ pub(crate) fn target_in<'t>(
     folder: &[u8],
     name: &[u8],
 ) -> Result<Option<&'t [u8]>, Stop>
-    ensures { IfErr result (IsNew asked.now.facts.now) }
+    requires { IsKept asked.now.folder.now asked.now.facts.now folder.now }
+    ensures { IfErr result (IsNew asked.now.folder.now asked.now.facts.now) }
 {
     let folder = inside(asked.alloc, folder, b"reftable")?;
     let Some(tables) = told_in(asked, TEXT, &folder, b"tables.list")? else {

@@ -2,6 +2,7 @@
 
 ghost use Rattle.std.specs.Prelude.{◌≡◌, ℕ, List, [], true, false, None, Contains, codes, map, MatchBool, MatchResult, IfSome, option_copied, option_map};
 ghost use Rattle.config_search.specs.System.{System, AreTrueIn};
+ghost use Rattle.config_search.specs.Questions.{IsNeeded, IsPlace};
 ghost use Rattle.config_search.specs.Shown.{IsNew, AreLimits, form_of, found_of, git_dir_of};
 ghost use Rattle.config_search.specs.Rule as rule;
 ghost use Rattle.config_search.specs.Search as search;
@@ -71,10 +72,11 @@ fn is_true(value: Option<&[u8]>) -> bool
 
 /// Whether a variable has a boolean text that is true.
 pub(crate) fn is_on(asked: &Asked<'_, '_>, name: &[u8]) -> Result<bool, Stop>
+    requires { IsNeeded asked.now.folder.now asked.now.facts.now VARIABLE name.now }
     ensures { MatchResult result
         (λ is. (system : System) → AreTrueIn system asked.now.facts.now
         → MatchBool is (search.IsOn system name.now) (¬ (search.IsOn system name.now)))
-        (IsNew asked.now.facts.now) }
+        (IsNew asked.now.folder.now asked.now.facts.now) }
 {
     let value = told(asked, VARIABLE, name)?;
     Ok(is_true(value))
@@ -82,10 +84,11 @@ pub(crate) fn is_on(asked: &Asked<'_, '_>, name: &[u8]) -> Result<bool, Stop>
 
 /// The path of a folder without links, or `None` if there is no such folder.
 pub(crate) fn real_folder<'t>(asked: &Asked<'_, 't>, name: &[u8]) -> Result<Option<&'t [u8]>, Stop>
+    requires { IsPlace asked.now.folder.now asked.now.facts.now name.now }
     ensures { MatchResult result
         (λ found. (system : System) → AreTrueIn system asked.now.facts.now
         → option_copied found ≡ rule.real_folder system name.now)
-        (IsNew asked.now.facts.now) }
+        (IsNew asked.now.folder.now asked.now.facts.now) }
 {
     if name.is_empty() {
         return Ok(told(asked, CURRENT, b"")?);
@@ -108,10 +111,12 @@ pub(crate) fn is_same(first: Option<&[u8]>, second: Option<&[u8]>) -> bool
 
 /// Whether this name begins at the root, and is one of the folder.
 fn is_path_of(asked: &Asked<'_, '_>, path: &[u8], folder: &[u8]) -> Result<bool, Stop>
+    requires place { IsPlace asked.now.folder.now asked.now.facts.now folder.now }
+    requires told { (system : System) → AreTrueIn system asked.now.facts.now → system VARIABLE (codes "PWD") ≡ Some path.now }
     ensures { MatchResult result
         (λ is. (system : System) → AreTrueIn system asked.now.facts.now
         → is ≡ search.is_path_of system path.now folder.now)
-        (IsNew asked.now.facts.now) }
+        (IsNew asked.now.folder.now asked.now.facts.now) }
 {
     if !path.starts_with(b"/") {
         return Ok(false);
@@ -126,10 +131,12 @@ fn path_by<'t>(
     name: &[u8],
     given: Option<&'t [u8]>,
 ) -> Result<Option<&'t [u8]>, Stop>
+    requires place { IsPlace asked.now.folder.now asked.now.facts.now name.now }
+    requires told { (system : System) → AreTrueIn system asked.now.facts.now → option_copied given ≡ system VARIABLE (codes "PWD") }
     ensures { MatchResult result
         (λ path. (system : System) → AreTrueIn system asked.now.facts.now
         → option_copied path ≡ search.path_by system name.now (option_copied given.entry))
-        (IsNew asked.now.facts.now) }
+        (IsNew asked.now.folder.now asked.now.facts.now) }
 {
     let Some(path) = given else {
         return Ok(real_folder(asked, name)?);
@@ -142,10 +149,11 @@ fn path_by<'t>(
 
 /// The path of a folder: the text of PWD if that is the same folder, and otherwise its path without links.
 fn named_path<'t>(asked: &Asked<'_, 't>, name: &[u8]) -> Result<Option<&'t [u8]>, Stop>
+    requires { IsPlace asked.now.folder.now asked.now.facts.now name.now }
     ensures { MatchResult result
         (λ path. (system : System) → AreTrueIn system asked.now.facts.now
         → option_copied path ≡ search.path_of system name.now)
-        (IsNew asked.now.facts.now) }
+        (IsNew asked.now.folder.now asked.now.facts.now) }
 {
     let path = told(asked, VARIABLE, b"PWD")?;
     Ok(path_by(asked, name, path)?)
@@ -158,18 +166,15 @@ fn start_of(name: &[u8]) -> &[u8]
     if name == b".".as_slice() { b"" } else { name }
 }
 
-/// The folder of this name, or `None` if there is no such folder: an empty name, or `.`, is the current one.
-pub(crate) fn folder_of_name<'t>(
-    asked: &Asked<'_, 't>,
-    name: &'t [u8],
-) -> Result<Option<Folder<'t>>, Stop>
+/// The folder about which is asked, or `None` if there is no such folder: an empty name, or `.`, is the current one.
+pub(crate) fn first_folder<'t>(asked: &Asked<'_, 't>) -> Result<Option<Folder<'t>>, Stop>
     ensures { MatchResult result
         (λ folder. (system : System) → AreTrueIn system asked.now.facts.now
-        → (option_map (λ f. f.path.now) folder ≡ search.path_of system (search.start_of name.now))
-        × IfSome folder (λ f. f.name.now ≡ search.start_of name.now))
-        (IsNew asked.now.facts.now) }
+        → (option_map (λ f. f.path.now) folder ≡ search.path_of system (search.start_of asked.now.folder.now))
+        × IfSome folder (λ f. f.name.now ≡ search.start_of asked.now.folder.now))
+        (IsNew asked.now.folder.now asked.now.facts.now) }
 {
-    let name = start_of(name);
+    let name = start_of(asked.folder);
     match named_path(asked, name)? {
         Some(path) => Ok(Some(Folder { name, path })),
         None => Ok(None),
@@ -178,11 +183,12 @@ pub(crate) fn folder_of_name<'t>(
 
 /// The git directory of this name, or to which the file of this name links. In its folder it has the other name.
 fn linked_or(asked: &Asked<'_, '_>, name: Vec<u8>, named: &[u8], form: Form) -> Result<GitDir, Stop>
+    requires { IsPlace asked.now.folder.now asked.now.facts.now name.items }
     ensures { MatchResult result
         (λ found. (system : System) → AreTrueIn system asked.now.facts.now
         → git_dir_of found
         ≡ rule.linked_or name.items named.now (form_of form) (rule.linked system name.items))
-        (IsNew asked.now.facts.now) }
+        (IsNew asked.now.folder.now asked.now.facts.now) }
 {
     match linked(asked, &name)? {
         Some(target) => Ok(GitDir {
@@ -200,10 +206,12 @@ fn linked_or(asked: &Asked<'_, '_>, name: Vec<u8>, named: &[u8], form: Form) -> 
 
 /// The git directory of a folder that has the name `.git` there, or that a file of that name links to.
 fn find_below(asked: &Asked<'_, '_>, start: &[u8], folder: &[u8]) -> Result<Option<GitDir>, Stop>
+    requires start_place { IsPlace asked.now.folder.now asked.now.facts.now start.now }
+    requires place { IsPlace asked.now.folder.now asked.now.facts.now folder.now }
     ensures { MatchResult result
         (λ found. (system : System) → AreTrueIn system asked.now.facts.now
         → option_map git_dir_of found ≡ rule.find_below system start.now folder.now)
-        (IsNew asked.now.facts.now) }
+        (IsNew asked.now.folder.now asked.now.facts.now) }
 {
     let kind = told_in(asked, KIND, folder, b".git")?;
     if !is_known(kind) {
@@ -220,10 +228,12 @@ fn find_below(asked: &Asked<'_, '_>, start: &[u8], folder: &[u8]) -> Result<Opti
 /// The git directory that a folder itself is.
 #[tactic(auto, unfolding(crate::specs::Rule::find_bare))]
 fn find_bare(asked: &Asked<'_, '_>, start: &[u8], folder: &[u8]) -> Result<Option<GitDir>, Stop>
+    requires start_place { IsPlace asked.now.folder.now asked.now.facts.now start.now }
+    requires place { IsPlace asked.now.folder.now asked.now.facts.now folder.now }
     ensures { MatchResult result
         (λ found. (system : System) → AreTrueIn system asked.now.facts.now
         → option_map git_dir_of found ≡ rule.find_bare system start.now folder.now)
-        (IsNew asked.now.facts.now) }
+        (IsNew asked.now.folder.now asked.now.facts.now) }
 {
     if !is_git_dir(asked, start, folder)? {
         return Ok(None);
@@ -237,10 +247,12 @@ fn find_bare(asked: &Asked<'_, '_>, start: &[u8], folder: &[u8]) -> Result<Optio
 
 /// The git directory of a folder, if it has one or is one.
 fn find_in(asked: &Asked<'_, '_>, start: &[u8], folder: &[u8]) -> Result<Option<GitDir>, Stop>
+    requires start_place { IsPlace asked.now.folder.now asked.now.facts.now start.now }
+    requires place { IsPlace asked.now.folder.now asked.now.facts.now folder.now }
     ensures { MatchResult result
         (λ found. (system : System) → AreTrueIn system asked.now.facts.now
         → option_map git_dir_of found ≡ rule.find_in system start.now folder.now)
-        (IsNew asked.now.facts.now) }
+        (IsNew asked.now.folder.now asked.now.facts.now) }
 {
     if let Some(git_dir) = find_below(asked, start, folder)? {
         return Ok(Some(git_dir));
@@ -264,7 +276,7 @@ fn ceiling<'t>(asked: &Asked<'_, 't>, folder: &'t [u8], is_resolved: bool) -> Re
     ensures { MatchResult result
         (λ at. (system : System) → AreTrueIn system asked.now.facts.now
         → at.now ≡ search.ceiling system is_resolved folder.now)
-        (IsNew asked.now.facts.now) }
+        (IsNew asked.now.folder.now asked.now.facts.now) }
 {
     if !is_resolved || !folder.starts_with(b"/") {
         return Ok(without_slash(folder));
@@ -288,7 +300,7 @@ fn ceilings_in<'t>(asked: &Asked<'_, 't>, text: &'t [u8]) -> Result<Vec<&'t [u8]
     ensures { MatchResult result
         (λ found. (system : System) → AreTrueIn system asked.now.facts.now
         → map (λ c. c.now) found.items ≡ search.ceilings_in system true [] text.now)
-        (IsNew asked.now.facts.now) }
+        (IsNew asked.now.folder.now asked.now.facts.now) }
 {
     let mut found = Vec::new(asked.alloc);
     let mut is_resolved = true;
@@ -313,7 +325,7 @@ fn ceilings<'t>(asked: &Asked<'_, 't>) -> Result<Vec<&'t [u8]>, Stop>
     ensures { MatchResult result
         (λ found. (system : System) → AreTrueIn system asked.now.facts.now
         → map (λ c. c.now) found.items ≡ search.ceilings system)
-        (IsNew asked.now.facts.now) }
+        (IsNew asked.now.folder.now asked.now.facts.now) }
 {
     match told(asked, VARIABLE, b"GIT_CEILING_DIRECTORIES")? {
         Some(text) => Ok(ceilings_in(asked, text)?),
@@ -340,10 +352,11 @@ fn device_of<'t>(
     crosses: bool,
     folder: &[u8],
 ) -> Result<Option<&'t [u8]>, Stop>
+    requires { IsPlace asked.now.folder.now asked.now.facts.now folder.now }
     ensures { MatchResult result
         (λ device. (system : System) → AreTrueIn system asked.now.facts.now
         → crosses ≡ false → option_copied device ≡ system DEVICE (names.opened folder.now))
-        (IsNew asked.now.facts.now) }
+        (IsNew asked.now.folder.now asked.now.facts.now) }
 {
     if crosses {
         return Ok(None);
@@ -363,10 +376,11 @@ struct Limits<'t> {
 impl<'t> Limits<'t> {
     /// What the environment says of a search that begins in this folder.
     fn new(asked: &Asked<'_, 't>, folder: &[u8]) -> Result<Limits<'t>, Stop>
+        requires { IsPlace asked.now.folder.now asked.now.facts.now folder.now }
         ensures { MatchResult result
             (λ limits. (system : System) → AreTrueIn system asked.now.facts.now
             → AreLimits system folder.now limits)
-            (IsNew asked.now.facts.now) }
+            (IsNew asked.now.folder.now asked.now.facts.now) }
     {
         let crosses = is_on(asked, b"GIT_DISCOVERY_ACROSS_FILESYSTEM")?;
         let device = device_of(asked, crosses, folder)?;
@@ -380,11 +394,12 @@ impl<'t> Limits<'t> {
 
     /// Whether the search ends before this folder.
     fn end_at(&self, asked: &Asked<'_, '_>, folder: &[u8]) -> Result<bool, Stop>
+        requires { IsPlace asked.now.folder.now asked.now.facts.now folder.now }
         ensures { MatchResult result
             (λ ends. (system : System) (start : List ℕ) → AreTrueIn system asked.now.facts.now
             → AreLimits system start self.now
             → MatchBool ends (search.Ends system start folder.now) (¬ (search.Ends system start folder.now)))
-            (IsNew asked.now.facts.now) }
+            (IsNew asked.now.folder.now asked.now.facts.now) }
     {
         if is_among(&self.ceilings, folder) {
             return Ok(true);
@@ -407,10 +422,12 @@ fn find_above<'t>(
     limits: &Limits<'t>,
     lowest: &'t [u8],
 ) -> Result<Found<'t>, Stop>
+    requires start_place { IsPlace asked.now.folder.now asked.now.facts.now start.now }
+    requires place { IsPlace asked.now.folder.now asked.now.facts.now lowest.now }
     ensures { MatchResult result
         (λ found. (system : System) → AreTrueIn system asked.now.facts.now
         → AreLimits system start.now limits.now → search.Above system start.now lowest.now (found_of found))
-        (IsNew asked.now.facts.now) }
+        (IsNew asked.now.folder.now asked.now.facts.now) }
 {
     let mut folder = lowest;
     'up: loop {
@@ -437,10 +454,12 @@ fn find_given<'t>(
     start: Folder<'t>,
     given: &'t [u8],
 ) -> Result<Found<'t>, Stop>
+    requires place { IsPlace asked.now.folder.now asked.now.facts.now start.name.now }
+    requires told { (system : System) → AreTrueIn system asked.now.facts.now → system VARIABLE (codes "GIT_DIR") ≡ Some given.now }
     ensures { MatchResult result
         (λ found. (system : System) → AreTrueIn system asked.now.facts.now
         → found_of found ≡ search.given_in system start.entry.name.now given.now)
-        (IsNew asked.now.facts.now) }
+        (IsNew asked.now.folder.now asked.now.facts.now) }
 {
     // an empty text would become the name of the folder
     if given.is_empty() {
@@ -456,10 +475,11 @@ fn find_given<'t>(
 
 /// The git directory of a folder: that of the folder itself, or of the first one above it.
 fn find_upwards<'t>(asked: &Asked<'_, 't>, start: Folder<'t>) -> Result<Found<'t>, Stop>
+    requires { IsPlace asked.now.folder.now asked.now.facts.now start.name.now }
     ensures { MatchResult result
         (λ found. (system : System) → AreTrueIn system asked.now.facts.now
         → system VARIABLE (codes "GIT_DIR") ≡ None → search.Seeks system start.entry.name.now (found_of found))
-        (IsNew asked.now.facts.now) }
+        (IsNew asked.now.folder.now asked.now.facts.now) }
 {
     if let Some(git_dir) = find_in(asked, start.name, start.name)? {
         return Ok(Found::In(start, git_dir));
@@ -473,10 +493,11 @@ fn find_upwards<'t>(asked: &Asked<'_, 't>, start: Folder<'t>) -> Result<Found<'t
 
 /// The git directory of a folder: GIT_DIR, or the first one upwards.
 pub(crate) fn seek<'t>(asked: &Asked<'_, 't>, start: Folder<'t>) -> Result<Found<'t>, Stop>
+    requires { IsPlace asked.now.folder.now asked.now.facts.now start.name.now }
     ensures { MatchResult result
         (λ found. (system : System) → AreTrueIn system asked.now.facts.now
         → search.Seeks system start.entry.name.now (found_of found))
-        (IsNew asked.now.facts.now) }
+        (IsNew asked.now.folder.now asked.now.facts.now) }
 {
     match told(asked, VARIABLE, b"GIT_DIR")? {
         Some(given) => Ok(find_given(asked, start, given)?),

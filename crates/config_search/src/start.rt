@@ -2,6 +2,7 @@
 ghost use Rattle.std.specs.Prelude.{◌≡◌, ◌≤◌, length, take, codes, MatchResult, option_copied};
 ghost use Rattle.std.specs.List.{prefix_len};
 ghost use Rattle.config_search.specs.System.{System, AreTrueIn};
+ghost use Rattle.config_search.specs.Questions.{IsPlace};
 ghost use Rattle.config_search.specs.Shown.{IsNew};
 ghost use Rattle.config_search.specs.Rule as rule;
 
@@ -88,9 +89,10 @@ fn is_reference_link(target: Option<&[u8]>) -> bool
 /// Whether HEAD of a folder is Git's.
 #[tactic(auto, unfolding(crate::specs::Rule::has_head))]
 pub(crate) fn has_head(asked: &Asked<'_, '_>, folder: &[u8]) -> Result<bool, Stop>
+    requires { IsPlace asked.now.folder.now asked.now.facts.now folder.now }
     ensures { MatchResult result
         (λ has. (system : System) → AreTrueIn system asked.now.facts.now → has ≡ rule.has_head system folder.now)
-        (IsNew asked.now.facts.now) }
+        (IsNew asked.now.folder.now asked.now.facts.now) }
 {
     let kind = told_in(asked, KIND, folder, b"HEAD")?;
     if is_word(kind, b"link") {

@@ -3,6 +3,7 @@ use Rattle.config_search.specs.System.{System}
 use Rattle.config_search.specs.Names.{folder_of}
 use Rattle.config_search.specs.Rule.{linked, may_link, resolved, resolved_target, target}
 use Rattle.config_search.specs.declared.TheConstants.{KIND, TEXT}
+use Rattle.config_search.specs.Questions.{of_place}
 use Rattle.config_search.proofs.git_dir.linked.Goals as goal
 
 none : (system : System) (name : List ℕ) (kind : Option (List ℕ)) → kind ≡ system KIND name
@@ -33,3 +34,9 @@ pub returns-in-None : goal.returns-in-None
 returns-in-None c = λ system agrees. leads system c.args.name.now _ _ _ None
     (c.in_ok-kind.ensures system agrees) (sym c.may_link.ensures ∙ c.if-not-may_link.false)
     c.folder_of.ensures (c.in_ok-text.ensures system agrees) (rw c.in-None.is at c.in_ok-target.ensures)
+
+pub told-requires : goal.told-requires
+told-requires c = λ system agrees. of_place refl (c.requires system agrees)
+
+pub told-requires-2 : goal.told-requires-2
+told-requires-2 c = λ system agrees. of_place refl (c.requires system agrees)

@@ -3,6 +3,7 @@ use Rattle.config_search.specs.System.{System}
 use Rattle.config_search.specs.Names.{inside}
 use Rattle.config_search.specs.Rule.{linked_folder, linked_by, Own}
 use Rattle.config_search.specs.declared.TheConstants.{KIND, TEXT}
+use Rattle.config_search.specs.Questions.{of_part}
 use Rattle.config_search.proofs.git_dir.linked_folder.Goals as goal
 
 own : (system : System) (folder : List ℕ) (kind : Option (List ℕ))
@@ -26,3 +27,9 @@ pub returns : goal.returns
 returns c = λ system agrees. c.in_ok-linked_by.ensures system agrees ∙ named system c.args.git_dir.now _ _
     (c.in_ok-kind.ensures system agrees) (sym c.is_known.ensures ∙ c.if-not-is_known.false)
     (c.in_ok-text.ensures system agrees)
+
+pub told_in-requires : goal.told_in-requires
+told_in-requires c = λ system agrees. of_part (codes "commondir") refl (c.requires system agrees)
+
+pub told_in-requires-2 : goal.told_in-requires-2
+told_in-requires-2 c = λ system agrees. of_part (codes "commondir") refl (c.requires system agrees)

@@ -1,8 +1,10 @@
-use Rattle.std.proofs.Common.{◌≡◌, ◌∙◌, List, ℕ, Option, None, Some, true, false, is_some, sym, refl, codes}
+use Rattle.std.proofs.Common.{◌≡◌, ◌∙◌, List, ℕ, Option, None, Some, true, false, is_some, sym, refl, subst, codes}
 use Rattle.config_search.specs.System.{System}
 use Rattle.config_search.specs.Names.{inside}
 use Rattle.config_search.specs.Rule.{GitDir, IsBelow, find_below, is_git_dir, linked, linked_or}
+use Rattle.config_search.specs.Questions.{Comes, in_dot_git, of_place}
 use Rattle.config_search.specs.declared.TheConstants.{KIND}
+use Rattle.config_search.proofs.Places.{leads_place}
 use Rattle.config_search.proofs.seek.find_below.Goals as goal
 
 nothing : (system : System) (start folder : List ℕ) (kind : Option (List ℕ))
@@ -43,3 +45,14 @@ returns c = λ system agrees.
     wrong system c.args.start.now c.args.folder.now _ _ _ (c.in_ok-kind.ensures system agrees)
     (sym c.is_known.ensures ∙ c.if-not-is_known.false) c.in_ok-link.ensures (c.in_ok-git_dir.ensures system agrees)
     (sym is ∙ c.if-branch.false)
+
+pub told_in-requires : goal.told_in-requires
+told_in-requires c = λ system agrees. of_place refl (in_dot_git (c.requires.place system agrees))
+
+pub linked_or-requires : goal.linked_or-requires
+linked_or-requires c = λ system agrees. rw c.in_ok-link.ensures (in_dot_git (c.requires.place system agrees))
+
+pub is_git_dir-requires-clause-place : goal.is_git_dir-requires-clause-place
+is_git_dir-requires-clause-place c = λ system agrees. rw c.deref.ensures.value
+    (subst (λ (it : GitDir). Comes system c.args.asked.now.folder.now it.name) (sym (c.in_ok-git_dir.ensures system agrees))
+    (leads_place system _ _ _ IsBelow (rw c.in_ok-link.ensures (in_dot_git (c.requires.place system agrees)))))

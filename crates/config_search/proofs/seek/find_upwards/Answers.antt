@@ -1,6 +1,7 @@
 use Rattle.std.proofs.Common.{sym, refl}
 use Rattle.config_search.specs.Search.{in_start, in_above, without_path}
 use Rattle.config_search.specs.Shown.{git_dir_of}
+use Rattle.config_search.proofs.Places.{real_place}
 use Rattle.config_search.proofs.seek.find_upwards.Goals as goal
 
 pub returns-in-Some : goal.returns-in-Some
@@ -17,3 +18,7 @@ pub returns : goal.returns
 returns c = λ system agrees unset. without_path unset
     (sym (rw c.in_default.is at c.in_ok-git_dir.ensures system agrees))
     (sym (rw c.in-None.is at c.in_ok-lowest.ensures system agrees)) refl
+
+pub find_above-requires-clause-place : goal.find_above-requires-clause-place
+find_above-requires-clause-place c = λ system agrees. real_place system _ _ _ (c.requires system agrees)
+    (sym (rw c.in-Some-2.is at c.in_ok-lowest.ensures system agrees))

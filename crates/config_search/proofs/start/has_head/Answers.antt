@@ -4,6 +4,7 @@ use Rattle.config_search.specs.System.{System}
 use Rattle.config_search.specs.Names.{inside}
 use Rattle.config_search.specs.Rule.{has_head, is_head, is_word}
 use Rattle.config_search.specs.declared.TheConstants.{KIND, TEXT}
+use Rattle.config_search.specs.Questions.{of_part}
 use Rattle.config_search.proofs.start.has_head.Goals as goal
 
 -- a file that is no link
@@ -26,3 +27,12 @@ returns c = λ system agrees.
     let known = c.in_ok-kind.ensures system agrees in
     sym (cond-false _ _ false (sym c.is_word-2.ensures ∙ c.if-is_word-2.false))
     ∙ sym (no_link system c.args.folder.now _ known (sym c.is_word.ensures ∙ c.if-is_word.false))
+
+pub told_in-requires : goal.told_in-requires
+told_in-requires c = λ system agrees. of_part (codes "HEAD") refl (c.requires system agrees)
+
+pub told_in-requires-then-is_word : goal.told_in-requires-then-is_word
+told_in-requires-then-is_word c = λ system agrees. of_part (codes "HEAD") refl (c.requires system agrees)
+
+pub told_in-requires-then-is_word-2 : goal.told_in-requires-then-is_word-2
+told_in-requires-then-is_word-2 c = λ system agrees. of_part (codes "HEAD") refl (c.requires system agrees)

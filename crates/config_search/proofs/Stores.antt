@@ -1,0 +1,26 @@
+-- How references are stored, where settings or a variable may say it.
+use Rattle.std.proofs.Common.{List, Option, None, Some, IfSome}
+use Rattle.std.specs.Prelude.{unwrap_or}
+use Rattle.config_search.specs.System.{System, AreTrueIn}
+use Rattle.config_search.specs.Questions.{MayName}
+use Rattle.config_search.specs.Shown.{IsStore}
+use Rattle.config_search.specs.declared.fact.Fact.{Fact}
+use Rattle.config_search.specs.declared.format.Store.{Store}
+
+pub if_some : {A : Type 0} {P : Type 0} (it : Option A) → P → IfSome it (λ a. P)
+if_some None holds = tt
+if_some (Some a) holds = holds
+
+pub any_store : (facts : List Fact) (store : Store) → ((system : System) → AreTrueIn system facts → MayName system)
+    → IsStore facts store
+any_store facts store named = if_some store.place named
+
+pub any_given : (facts : List Fact) (store : Option Store) → ((system : System) → AreTrueIn system facts → MayName system)
+    → IfSome store (IsStore facts)
+any_given facts None named = tt
+any_given facts (Some store) named = any_store facts store named
+
+pub either_store : (facts : List Fact) (given : Option Store) (own : Store) → IfSome given (IsStore facts)
+    → IsStore facts own → IsStore facts (unwrap_or given own)
+either_store facts None own given is = is
+either_store facts (Some store) own given is = given
