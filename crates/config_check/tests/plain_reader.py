@@ -639,13 +639,26 @@ def has_other_end(one, other):
     return count >= 6 and max(len(one), len(other)) - count <= 3
 
 
+# what people write for words of rows
+OTHER_WORDS = {b"added": b"new", b"branches": b"branch", b"command": b"cmd", b"removed": b"old", b"textconvert": b"textconv",
+               b"username": b"name"}
+
+
+def near_or_like(one, other, is_like, long=5):
+    """How many edits lead from the word of a row to another one, if they are few; none if people write that for it, and
+    three if the other is only like it."""
+    if OTHER_WORDS.get(other) == one:
+        return 0
+    edits = few_edits(one, other, long)
+    return 3 if edits is None and is_like else edits
+
+
 def last_apart(pattern, key):
-    """How far the last parts of two keys are apart; a missing run of bytes, or another end, is three edits in a key of
-    two parts."""
+    """How far the last parts of two keys are apart; in a key of two parts they are alike if one has a run of bytes more,
+    or another end."""
     one, other = pattern.last, key.last
-    edits = few_edits(one, other)
     is_alike = lacks_word(one, other) or lacks_word(other, one) or has_other_end(one, other)
-    return 3 if edits is None and key.middle is None and is_alike else edits
+    return near_or_like(one, other, key.middle is None and is_alike)
 
 
 def apart(pattern, key):
@@ -653,7 +666,7 @@ def apart(pattern, key):
     is_middle = pattern.middle == key.middle or pattern.middle == b"*" and key.middle is not None
     is_last = pattern.last in (b"*", key.last)
     if pattern.first != key.first:
-        return few_edits(pattern.first, key.first, 8) if is_middle and is_last else None
+        return near_or_like(pattern.first, key.first, False, 8) if is_middle and is_last else None
     if is_middle:
         return None if is_last else last_apart(pattern, key)
     if None in (pattern.middle, key.middle):

@@ -477,7 +477,7 @@ UNKNOWN_KEYS = [
     b"middle.x.lasttt", b"middle.Exact.Other-word", b"an-lats.x", b"other.key",
 ]
 # keys that the built-in rows, which the second reader does not have, do not report either
-UNKNOWN_BUILT_IN = [b"color.diff-highlight.oldNormal", b"color.Status.add", b"pretty.a.b", b"gui.x.y", b"lfs.url", b"core.crlf", b"user.nickname", b"user.home", b"user.username", b"branch.x.base", b"branch.x.rebase-merges",
+UNKNOWN_BUILT_IN = [b"color.diff-highlight.oldNormal", b"color.Status.add", b"pretty.a.b", b"gui.x.y", b"lfs.url", b"core.crlf", b"user.nickname", b"user.home", b"branch.x.base", b"branch.x.rebase-merges", b"branches.main.rebse",
                     b"gitlab.url", b"alien.x"]
 
 # which row decides: key, value, and the reason
@@ -501,6 +501,10 @@ MISSPELLED_BUILT_IN = [
     (b"core.email", b"user.email"), (b"maintainance.auto", b"maintenance.auto"), (b"diff.renam", b"diff.renames"), (b"core.longpath", b"core.longpaths"),
     (b"grep.color", b"color.grep"), (b"showbranch.color", b"color.showBranch"), (b"log.color", None),
     (b"color.diff.colormoved", b"diff.colorMoved"),
+    # another word for that of a row
+    (b"color.diff.removed", b"color.diff.old"), (b"color.diff.added", b"color.diff.new"), (b"user.username", b"user.name"),
+    (b"mergetool.kdiff3.command", b"mergetool.kdiff3.cmd"), (b"difftool.kdiff3.command", b"difftool.kdiff3.cmd"),
+    (b"diff.x.textconvert", b"diff.x.textconv"), (b"branches.main.remote", b"branch.main.remote"),
 ]
 
 # built-in rows: key, value, and a prefix of the line's severity and reason

@@ -7,6 +7,7 @@ mod RunLemmas
 mod WordLemmas
 mod ShownLemmas
 mod ShapeLemmas
+mod AlikeLemmas
 mod SuggestionLemmas
 mod MarkLemmas
 mod CheckLemmas

@@ -1,6 +1,6 @@
 -- The edits between the keys of rows and a key.
 use Rattle.std.proofs.Common.{◌≡◌, ◌<◌, ◌≤◌, ℕ, zero, suc, Result, Ok, Err, IfOk, List, [], ◌∷◌, Option, None, Some, MatchOption}
-use Rattle.std.proofs.Common.{◌∙◌, sym, ap, subst, arith, length, get_or, Bool, IsTrue, ◌↔◌, codes}
+use Rattle.std.proofs.Common.{◌∙◌, refl, sym, ap, subst, arith, length, get_or, Bool, IsTrue, ◌↔◌, codes}
 use Rattle.std.proofs.lemmas.List.{length-map}
 use Rattle.std.specs.Char.{to_ascii_lowercase}
 use Rattle.std.specs.List.{AllZip}
@@ -11,12 +11,12 @@ use Rattle.config_checks.specs.declared.suggestion.Relation.{Relation}
 use Rattle.config_checks.specs.declared.suggestion.Relation.TheVariants as relations
 use Rattle.config_checks.specs.Nearest.{Edits, FewEdits, most_edits, AreFar}
 use Rattle.config_checks.specs.Nearest.Edits.{swapped, counted}
-use Rattle.config_checks.specs.Reading.Steps.{IsFew, IsRelation}
+use Rattle.config_checks.specs.Reading.Steps.{IsFew, IsRelation, IsUnlike}
 use Rattle.config_text.specs.SameWord.{SameWord}
 use Rattle.config_file.specs.Key.{Key, IsCut}
 use Rattle.config_checks.specs.Keys.{CoversSubsection, CoversName}
-use Rattle.config_checks.specs.Suggestions.{AreAlike, NameEdits, EditsAfter, OnePartEdits, RowEdits, SectionEdits, SubsectionEdits, HasSlots, IsOwn}
-use Rattle.config_checks.specs.Suggestions.NameEdits.{few, by_run}
+use Rattle.config_checks.specs.Suggestions.{AreAlike, IsOtherWord, NearEdits, NameEdits, EditsAfter, OnePartEdits, RowEdits, SectionEdits, SubsectionEdits, HasSlots, IsOwn}
+use Rattle.config_checks.specs.Suggestions.NearEdits.{other_word, few, alike}
 use Rattle.config_checks.specs.Suggestions.EditsAfter.{in_name, in_subsection}
 use Rattle.config_checks.specs.Suggestions.IsOwn.{alone, slot}
 use Rattle.config_checks.specs.Suggestions.IsPassed.{foreign}
@@ -70,16 +70,24 @@ same_edits : (a b c : List ℕ) (n : ℕ) → SameWord a b → Edits b c n → E
 same_edits a b c n same (swapped swap is) = swapped (rw same swap) is
 same_edits a b c n same (counted not is) = counted (rw same not) (rw same is)
 
-same_few : (a b c : List ℕ) (n : ℕ) → SameWord a b → SectionEdits b c n → SectionEdits a c n
+same_few : (a b c : List ℕ) (n : ℕ) → SameWord a b → FewEdits 8 b c n → FewEdits 8 a c n
 same_few a b c n same edits = (same_edits a b c n same edits.0, rw (same_length a b same) edits.1)
+
+same_other : (a b c : List ℕ) → SameWord a b → IsOtherWord b c → IsOtherWord a c
+same_other a b c same is = rw same is
+
+same_near : (a b c : List ℕ) (n : ℕ) → SameWord a b → SectionEdits b c n → SectionEdits a c n
+same_near a b c n same (other_word is none) = other_word (same_other a b c same is) none
+same_near a b c n same (few not is) = few (λ other. not (same_other b a c (sym same) other)) (same_few a b c n same is)
+same_near a b c n same (alike not far none three) = absurd none
 
 -- sections of the same word are related alike
 pub same_relation : (a b c : List ℕ) (r : Relation) → SameWord a b → IsRelation b c r → IsRelation a c r
 same_relation a b c relations.Same same is = same ∙ is
 same_relation a b c (relations.Near n) same is =
-    ((λ s. is.0 (sym same ∙ s)), (same_few a b c n same is.1.0, is.1.1))
+    ((λ s. is.0 (sym same ∙ s)), (same_near a b c n same is.1.0, is.1.1))
 same_relation a b c relations.Far same is =
-    ((λ s. is.0 (sym same ∙ s)), (λ n edits. is.1 n (same_few b a c n (sym same) edits)))
+    ((λ s. is.0 (sym same ∙ s)), (λ n edits. is.1 n (same_near b a c n (sym same) edits)))
 
 uncovered : (row key : Key) (n : ℕ) → IsRelation row.section key.section (relations.Near n)
     → ¬ (CoversSubsection row.subsection key.subsection × CoversName row.name key.name) → (m : ℕ) → OnePartEdits row key m
@@ -147,30 +155,42 @@ of_text rows t key cut unknown (Ok r) is = of_key rows t key cut unknown r is
 one_subsection : (S : Type 0) (a b : Option (List ℕ)) (m n : ℕ) → SubsectionEdits S a b m → SubsectionEdits S a b n → m ≡ n
 one_subsection S a b m n is also = grind (arith, one_count)
 
-one_name : (row key : Key) (m n : ℕ) → NameEdits row key m → NameEdits row key n → m ≡ n
-one_name row key m n is also = grind (arith, one_count)
+one_near : (long : ℕ) (A : Type 0) (a b : List ℕ) (m n : ℕ) → NearEdits long A a b m → NearEdits long A a b n → m ≡ n
+one_near long A a b m n is also = grind (arith, one_count)
 
 one_after : (row key : Key) (m n : ℕ) → EditsAfter row key m → EditsAfter row key n → m ≡ n
-one_after row key m n is also = grind (arith, one_name, one_subsection)
+one_after row key m n is also = grind (arith, one_near, one_subsection)
 
 pub one_number : (row key : Key) (m n : ℕ) → OnePartEdits row key m → OnePartEdits row key n → m ≡ n
-one_number row key m n is also = grind (arith, one_after, one_count)
+one_number row key m n is also = grind (arith, one_after, one_near)
 
--- ---- names that are not near
+-- ---- texts that are not near
 
-nowhere : (a b : List ℕ) → IsFew (FewEdits 5 a b) None → (m : ℕ) → ¬ (FewEdits 5 a b m)
-nowhere a b far m near =
-    let most : most_edits 5 a b ≤ 2 = grind arith in
+nowhere : (long : ℕ) (a b : List ℕ) → IsFew (FewEdits long a b) None → (m : ℕ) → ¬ (FewEdits long a b m)
+nowhere long a b far m near =
+    let most : most_edits long a b ≤ 2 = grind arith in
     let more = far m near in
     let less = near.1 in
     omega (arith, more, less, most)
 
-pub of_run : (row key : Key) → IsFew (FewEdits 5 row.name key.name) None → key.subsection ≡ None → (r : Option ℕ)
-    → MatchOption r (¬ (AreAlike row.name key.name)) (λ n. AreAlike row.name key.name × (n ≡ 3)) → IsFew (NameEdits row key) r
-of_run row key far lone None unlike = λ n edits. elim edits [
-  | few is ↦ far n is
-  | by_run far_off sub like three ↦ absurd (unlike like)
-]
-of_run row key far lone (Some n) alike =
-    let three : n ≡ 3 = alike.1 in
-    (by_run (nowhere row.name key.name far) lone alike.0 three, omega (arith, three))
+module _ (long : ℕ) (A : Type 0) (a b : List ℕ) where
+  pub few_near : (n : ℕ) → ¬ (IsOtherWord a b) → FewEdits long a b n × (n ≤ 3) → NearEdits long A a b n × (n ≤ 3)
+  few_near n not edits = (few not edits.0, edits.1)
+
+  pub other_near : IsOtherWord a b → NearEdits long A a b 0 × (0 ≤ 3)
+  other_near is = (other_word is refl, omega arith)
+
+  pub alike_near : ¬ (IsOtherWord a b) → IsFew (FewEdits long a b) None → A → NearEdits long A a b 3 × (3 ≤ 3)
+  alike_near not far is = (alike not (nowhere long a b far) is refl, omega arith)
+
+  pub none_near : ¬ (IsOtherWord a b) → IsFew (FewEdits long a b) None → ¬ A → IsFew (NearEdits long A a b) None
+  none_near not far unlike n edits = elim edits [
+    | other_word is none ↦ absurd (not is)
+    | few other is ↦ far n is
+    | alike other beyond is three ↦ absurd (unlike is)
+  ]
+
+-- a name that is unlike that of the row is not near it
+pub of_unlike : (row key : Key) → IsUnlike row.name key.name → IsFew (NameEdits row key) None
+of_unlike row key is = none_near 5 ((key.subsection ≡ None) × AreAlike row.name key.name) row.name key.name is.no_word
+    (λ n edits. absurd (is.far n edits)) (λ also. is.unlike also.1)

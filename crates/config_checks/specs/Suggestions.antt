@@ -33,12 +33,27 @@ SubsectionEdits same_name None None n = ⊥
 pub record AreAlike (a b : List ℕ) : Type 0 where
   pub how : LacksRun a b ⊎ (LacksRun b a ⊎ HasOtherEnd a b)
 
--- the names are near, `n` edits apart; otherwise, in a key without a subsection, one of them may only lack a run
--- of bytes of the other, or end otherwise, which counts as three edits
-pub data NameEdits (row key : Key) (n : ℕ) : Type 0 where
-  few : FewEdits 5 row.name key.name n → NameEdits row key n
-  by_run : ((m : ℕ) → ¬ (FewEdits 5 row.name key.name m)) → key.subsection ≡ None
-      → AreAlike row.name key.name → n ≡ 3 → NameEdits row key n
+-- people write `other` for this word of a row, ignoring ASCII case
+abbrev pub IsFor : (word other row t : List ℕ) → Type 0
+IsFor word other row t = SameWord word row × SameWord other t
+
+-- the text is what people write for a word of a row that is not near it
+abbrev pub IsOtherWord : (row t : List ℕ) → Type 0
+IsOtherWord row t = IsFor (codes "branch") (codes "branches") row t ⊎ (IsFor (codes "cmd") (codes "command") row t
+    ⊎ (IsFor (codes "name") (codes "username") row t ⊎ (IsFor (codes "new") (codes "added") row t
+    ⊎ (IsFor (codes "old") (codes "removed") row t ⊎ IsFor (codes "textconv") (codes "textconvert") row t))))
+
+-- the texts are `n` edits apart: none if the second one is another word for the first, or so many as near texts are, or
+-- three if they are only alike
+pub data NearEdits (long : ℕ) (Alike : Type 0) (a b : List ℕ) (n : ℕ) : Type 0 where
+  other_word : IsOtherWord a b → n ≡ 0 → NearEdits long Alike a b n
+  few : ¬ (IsOtherWord a b) → FewEdits long a b n → NearEdits long Alike a b n
+  alike : ¬ (IsOtherWord a b) → ((m : ℕ) → ¬ (FewEdits long a b m)) → Alike → n ≡ 3 → NearEdits long Alike a b n
+
+-- how many edits lead from one name to the other; in a key without a subsection one of them may only lack a run of bytes
+-- of the other, or end otherwise
+abbrev pub NameEdits : (row key : Key) → ℕ → Type 0
+NameEdits row key = NearEdits 5 ((key.subsection ≡ None) × AreAlike row.name key.name) row.name key.name
 
 -- after their sections, the two keys differ either in the name or in the subsection, by `n` edits
 pub data EditsAfter (row key : Key) (n : ℕ) : Type 0 where
@@ -47,9 +62,9 @@ pub data EditsAfter (row key : Key) (n : ℕ) : Type 0 where
   in_subsection : ¬ (CoversSubsection row.subsection key.subsection) → CoversName row.name key.name
       → SubsectionEdits (SameWord row.name key.name) row.subsection key.subsection n → EditsAfter row key n
 
--- the sections are near, `n` edits apart: two edits need eight bytes
-abbrev pub SectionEdits : List ℕ → List ℕ → ℕ → Type 0
-SectionEdits = FewEdits 8
+-- how many edits lead from one section to the other, of which two need eight bytes
+abbrev pub SectionEdits : (row section : List ℕ) → ℕ → Type 0
+SectionEdits = NearEdits 8 ⊥
 
 -- the two keys differ in exactly one part, by `n` edits
 pub data OnePartEdits (row key : Key) (n : ℕ) : Type 0 where

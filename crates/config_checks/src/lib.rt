@@ -1,6 +1,7 @@
 //! Finds wrong values, unknown keys and invalid lines in Git configuration files.
 #![tactic(auto)]
 
+mod alike;
 pub mod check;
 pub mod code;
 mod edits;

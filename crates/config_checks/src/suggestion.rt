@@ -14,8 +14,9 @@ ghost use Rattle.config_checks.specs.Suggestions.{nearest_of, HasSection, IsPass
 ghost use Rattle.config_checks.specs.Suggestions.{subsection_shown, after_shown, key_shown, asked};
 ghost use Rattle.config_checks.specs.Suggestions.{unknown_severity, unknown_text};
 ghost use Rattle.config_checks.specs.Rows.{IsUnknown, rows_of};
-ghost use Rattle.config_checks.specs.Reading.Steps.{IsFew, IsRelation, AreRelations, IsSection, AreMarked};
+ghost use Rattle.config_checks.specs.Reading.Steps.{IsFew, IsName, IsRelation, AreRelations, IsSection, AreMarked};
 
+use crate::alike::{NameFacts, is_other_word, name_facts};
 use crate::edits::{LONG, MOST_EDITS, are_alike, few_edits};
 use crate::finding::push_shown;
 use crate::key::{ANY, covers_name, covers_subsection, is_same_word};
@@ -57,38 +58,54 @@ fn subsection_edits(
     }
 }
 
-/// Three edits if one name is long and only lacks a run of bytes of the other, or both differ only in how they end,
-/// and otherwise `None`.
-fn edits_of_run(row: &[u8], name: &[u8]) -> Option<usize>
-    ensures { MatchOption result (¬ (AreAlike row.now name.now)) (λ n. AreAlike row.now name.now × (n ≡ 3)) }
+/// Whether one of the names only lacks a run of bytes of the other, or ends otherwise, and the key has no subsection.
+fn are_alike_alone(row: &Key<'_>, key: &Key<'_>) -> bool
+    ensures { IsTrue result ↔ (((key_of key.now).subsection ≡ None) × AreAlike (key_of row.now).name (key_of key.now).name) }
 {
-    if are_alike(row, name) {
-        return Some(MOST_EDITS);
-    }
-    None
+    key.subsection().is_none() && are_alike(row.name(), key.name())
 }
 
-/// How many edits lead from one name to the other, if they are near. If they are not, a missing run of
-/// bytes, or another end, counts as three edits in a key without a subsection. `None` in all other cases.
-fn name_edits(alloc: Global, row: &Key<'_>, key: &Key<'_>) -> Result<Option<usize>, AllocError>
+/// How many edits lead from one name to the other: none if it is another word for it, or three if they are not near but
+/// alike. `None` in all other cases. `name` is what is known of the name of the key.
+// Most names are told to be unlike at once.
+fn name_edits(
+    alloc: Global,
+    name: &NameFacts,
+    row: &Key<'_>,
+    key: &Key<'_>,
+) -> Result<Option<usize>, AllocError>
+    requires { IsName (key_of key.now).name name.now }
     ensures { IfOk result (λ r. IsFew (NameEdits (key_of row.now) (key_of key.now)) r) }
 {
+    if name.are_unlike(row.name(), key.name()) {
+        return Ok(None);
+    }
+    if name.is_other_word(row.name(), key.name()) {
+        return Ok(Some(0));
+    }
     if let Some(edits) = few_edits(alloc, LONG, row.name(), key.name())? {
         return Ok(Some(edits));
     }
-    match key.subsection() {
-        Some(_) => Ok(None),
-        None => Ok(edits_of_run(row.name(), key.name())),
+    if are_alike_alone(row, key) {
+        Ok(Some(MOST_EDITS))
+    } else {
+        Ok(None)
     }
 }
 
 /// How many edits lead from the key of a row to a key with the same section. `None` unless the two keys are
 /// near, and so differ in exactly one part.
-fn edits_after(alloc: Global, row: &Key<'_>, key: &Key<'_>) -> Result<Option<usize>, AllocError>
+fn edits_after(
+    alloc: Global,
+    name: &NameFacts,
+    row: &Key<'_>,
+    key: &Key<'_>,
+) -> Result<Option<usize>, AllocError>
+    requires { IsName (key_of key.now).name name.now }
     ensures { IfOk result (λ r. IsFew (EditsAfter (key_of row.now) (key_of key.now)) r) }
 {
     match (covers_subsection(row, key), covers_name(row, key)) {
-        (true, false) => name_edits(alloc, row, key),
+        (true, false) => name_edits(alloc, name, row, key),
         (false, true) => subsection_edits(alloc, row, key),
         _ => Ok(None),
     }
@@ -112,9 +129,28 @@ fn relation_between(alloc: Global, row: &[u8], section: &[u8]) -> Result<Relatio
     if is_same_word(row, section) {
         return Ok(Relation::Same);
     }
+    if is_other_word(row, section) {
+        return Ok(Relation::Near(0));
+    }
     match few_edits(alloc, LONG_SECTION, row, section)? {
         Some(edits) => Ok(Relation::Near(edits)),
         None => Ok(Relation::Far),
+    }
+}
+
+/// How the section of rows is related to a section. It is known already if the rows before them have the same section.
+fn relation_after(
+    alloc: Global,
+    last: Option<(&[u8], Relation)>,
+    row: &[u8],
+    section: &[u8],
+) -> Result<Relation, AllocError>
+    requires { IfSome last (λ known. IsRelation known.0.now section.now known.1) }
+    ensures { IfOk result (IsRelation row.now section.now) }
+{
+    match last {
+        Some((other, relation)) if is_same_word(row, other) => Ok(relation),
+        _ => relation_between(alloc, row, section),
     }
 }
 
@@ -127,8 +163,11 @@ fn relations_of(
     ensures { IfOk result (λ v. AreRelations runs.now section.now v.items) }
 {
     let mut relations = Vec::new(alloc);
+    let mut last = None;
     for run in runs {
-        relations.push(relation_between(alloc, run.section, section)?)?;
+        let relation = relation_after(alloc, last, run.section, section)?;
+        relations.push(relation)?;
+        last = Some((run.section, relation));
     }
     Ok(relations)
 }
@@ -186,18 +225,20 @@ fn edits_if_covered(edits: usize, row: &Key<'_>, key: &Key<'_>) -> Option<usize>
 }
 
 /// How many edits lead from the key of a row to a key. `None` unless the two keys are near, and so differ in
-/// exactly one part. `relation` is that of their sections.
+/// exactly one part. `relation` is that of their sections, and `name` what is known of the name of the key.
 fn one_part_edits(
     alloc: Global,
     relation: Relation,
+    name: &NameFacts,
     row: &Key<'_>,
     key: &Key<'_>,
 ) -> Result<Option<usize>, AllocError>
-    requires { IsRelation (key_of row.now).section (key_of key.now).section relation }
+    requires name { IsName (key_of key.now).name name.now }
+    requires relation { IsRelation (key_of row.now).section (key_of key.now).section relation }
     ensures { IfOk result (λ r. IsFew (OnePartEdits (key_of row.now) (key_of key.now)) r) }
 {
     match relation {
-        Relation::Same => edits_after(alloc, row, key),
+        Relation::Same => edits_after(alloc, name, row, key),
         Relation::Near(edits) => Ok(edits_if_covered(edits, row, key)),
         Relation::Far => Ok(None),
     }
@@ -216,6 +257,7 @@ fn nearest<'r, 't>(
     ensures { IfOk result (λ r. MatchOption r (AreFar (RowEdits (key_of key.now)) (rows_of runs.now))
         (λ row. IsNearest (RowEdits (key_of key.now)) (rows_of runs.now) row.now)) }
 {
+    let name = name_facts(key.name());
     let mut best = None;
     let mut least = MOST_EDITS + 1;
     'runs: for (place, run) in runs.iter().enumerate() {
@@ -224,7 +266,7 @@ fn nearest<'r, 't>(
             continue;
         }
         'rows: for row in run.rows {
-            if let Some(edits) = one_part_edits(alloc, relation, &row.key, key)? {
+            if let Some(edits) = one_part_edits(alloc, relation, &name, &row.key, key)? {
                 if edits < least {
                     least = edits;
                     best = Some(row);
@@ -455,9 +497,9 @@ pub struct UnknownKey<'k> {
 /// Returns what is said of a key that no row covers, if a check should report it: it is near the key of a row,
 /// or a row has its name in another section, or only rows have settings where it is: in its section if it has
 /// no subsection, and in its subsection of `color`. Two keys are near if they differ in exactly one part: by one
-/// edit, by two if the part is long in both or, in the name of a key without a subsection, by a missing
-/// run of bytes or another end. Returns an error if there is no memory. `marks` are those of the rows, and `section` is
-/// that of the key.
+/// edit, by two if the part is long in both, by another word such as `command` for `cmd` or, in the name of a key without a
+/// subsection, by a missing run of bytes or another end. Returns an error if there is no memory. `marks` are those of the
+/// rows, and `section` is that of the key.
 pub(crate) fn unknown_in<'k>(
     alloc: Global,
     runs: &[Run<'_, 'k>],

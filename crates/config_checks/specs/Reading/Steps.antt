@@ -3,6 +3,7 @@ use Rattle.std.specs.Prelude.{◌≡◌, ◌≢◌, ⊤, ℕ, ◌+◌, ◌^◌, 
 use Rattle.std.specs.Prelude.{Bool, true, false, not, IsTrue, ◌↔◌, IfSome, ◌==◌, ◌*◌, ◌%◌, slice_index_or, All, codes}
 use Rattle.std.specs.List.{AllZip, list_any, fold}
 use Rattle.std.specs.Char.{to_ascii_lowercase}
+use denote.Ref.{Bor}
 use Rattle.config_text.specs.SameWord.{SameWord}
 use Rattle.config_file.specs.Key.{Key, IsCut}
 use Rattle.config_file.specs.KeyView.{key_of}
@@ -14,13 +15,15 @@ use Rattle.config_checks.specs.declared.setting.Setting.{Setting}
 use Rattle.config_checks.specs.declared.check.Counts.{Counts}
 use Rattle.config_checks.specs.Findings.{Finding}
 use Rattle.config_checks.specs.declared.check.Said.{Said}
+use Rattle.config_checks.specs.declared.alike.NameFacts.{NameFacts}
 use Rattle.config_checks.specs.declared.suggestion.UnknownKey.{UnknownKey}
 use Rattle.config_checks.specs.declared.suggestion.Relation.{Relation}
 use Rattle.config_checks.specs.declared.suggestion.Relation.TheVariants as relations
 use Rattle.config_checks.specs.declared.suggestion.SectionFacts.{SectionFacts}
 use Rattle.config_checks.specs.declared.row.Run.{Run}
 use Rattle.config_checks.specs.Rows.{rows_of}
-use Rattle.config_checks.specs.Suggestions.{IsPassed, IsUnknownKey, unknown_severity, unknown_text, SectionEdits, HasSection}
+use Rattle.config_checks.specs.Nearest.{FewEdits}
+use Rattle.config_checks.specs.Suggestions.{AreAlike, IsOtherWord, IsPassed, IsUnknownKey, unknown_severity, unknown_text, SectionEdits, HasSection}
 use Rattle.config_checks.specs.Report.{ReportsSetting, Report, EndsReport, HasSettings, Receives, key_meant}
 
 -- the texts do not begin with the same byte
@@ -128,6 +131,28 @@ pub data Turn : (color : Bool) → List (List ℕ) → Type 0 where
 abbrev pub IsFew : (ℕ → Type 0) → Option ℕ → Type 0
 IsFew AreEdits None = (n : ℕ) → AreEdits n → 3 < n
 IsFew AreEdits (Some n) = AreEdits n × (n ≤ 3)
+
+-- ---- what is known of the name of a key
+
+-- the byte is marked, ignoring ASCII case
+abbrev pub IsMarkedByte : List Bool → ℕ → Type 0
+IsMarkedByte marks byte = slice_index_or marks (to_ascii_lowercase byte) false ≡ true
+
+-- the word of rows for which people write the text, or `None` if they write it for no word
+abbrev pub IsOtherFor : List ℕ → Option (Bor (List ℕ)) → Type 0
+IsOtherFor t None = (row : List ℕ) → ¬ (IsOtherWord row t)
+IsOtherFor t (Some word) = (row : List ℕ) → SameWord word.now row ↔ IsOtherWord row t
+
+-- what is known of a name holds for this one
+pub record IsName (t : List ℕ) (name : NameFacts) : Type 0 where
+  pub bytes : All (IsMarkedByte name.bytes) t
+  pub word : IsOtherFor t name.word
+
+-- the name of a row is neither near the name of a key nor like it
+pub record IsUnlike (row t : List ℕ) : Type 0 where
+  pub far : (n : ℕ) → ¬ (FewEdits 5 row t n)
+  pub unlike : ¬ (AreAlike row t)
+  pub no_word : ¬ (IsOtherWord row t)
 
 -- ---- marks of names
 

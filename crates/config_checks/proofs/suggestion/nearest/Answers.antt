@@ -84,8 +84,8 @@ returns c =
     whole (RowEdits key) (rows_of c.args.runs.now) c.runs.least c.runs.best
     (rw (take_all c.runs.place c.args.runs.now (omega (arith, c.runs-test.false))) at c.runs.invariant)
 
-pub one_part_edits-requires : goal.one_part_edits-requires
-one_part_edits-requires c =
+pub one_part_edits-requires-clause-relation : goal.one_part_edits-requires-clause-relation
+one_part_edits-requires-clause-relation c =
     let key = key_of c.args.key.now in
     let run = c.index-runs-place.result in
     let is = zipped_at (λ (run : Run) (r : Relation). IsRelation run.section.now key.section r) c.args.runs.now c.args.relations.now
