@@ -17,4 +17,6 @@ mod OneSuggestion
 mod OneReport
 mod OneLine
 mod FixLemmas
+mod RenamedLemmas
+mod MendLemmas
 mod StandardFacts

@@ -14,6 +14,7 @@ pub mod kind;
 pub mod laws;
 pub mod lookup;
 mod marks;
+pub mod mending;
 pub mod options;
 pub mod outcome;
 pub mod paths;
