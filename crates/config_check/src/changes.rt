@@ -1,12 +1,14 @@
 //! Changes the entries of a file that have findings with one suggestion.
 
-use crate::diff::{Span, lines_after};
+use crate::diff::{Span, lines_after, spans};
+use config_checks::code::Code;
 use config_checks::finding::Finding;
-use config_checks::fix::{Fix, Judge, Safety, mend};
+use config_checks::fix::{Safety, other_name};
+use config_checks::mending::{MendedText, Proposal, mend_text};
 use config_checks::options::Options;
 use config_checks::row::Row;
 use config_checks::setting::Setting;
-use config_edit::{Change, EditError, change_entries};
+use config_edit::EditError;
 use config_file::key::Key;
 use config_file::{FileError, Walk};
 use config_host::reading::next_entry;
@@ -20,10 +22,6 @@ use thiserror::Error;
 pub(crate) struct Mended {
     pub(crate) entry: usize,
     pub(crate) span: Span,
-    pub(crate) name: Option<Vec<u8>>,
-    pub(crate) value: Option<Vec<u8>>,
-    /// The key that it has from now on, as Git lists it, if its last part changes.
-    pub(crate) key: Option<Vec<u8>>,
     pub(crate) safety: Safety,
     /// Its lines after the change, without their last end, if they are asked for.
     pub(crate) lines: Option<Vec<u8>>,
@@ -36,6 +34,69 @@ impl Mended {
     }
 }
 
+/// The changes of a text, in the order of the entries, and what they turn it into.
+#[derive(Drop)]
+pub(crate) struct Changed {
+    pub(crate) changes: Vec<Mended>,
+    pub(crate) text: Vec<u8>,
+}
+
+/// Keeps what the findings of one file suggest.
+#[derive(Drop)]
+pub(crate) struct Mender<'d, 't> {
+    disk: &'d Disk<'t>,
+    /// What is suggested so far, in the order of the entries. Nothing mends a file that Git does not read to its end.
+    pub(crate) proposals: Vec<Proposal<'t>>,
+}
+
+impl<'d, 't> Mender<'d, 't> {
+    /// Keeps texts in this room.
+    pub(crate) fn new(alloc: Global, disk: &'d Disk<'t>) -> Mender<'d, 't> {
+        Mender {
+            disk,
+            proposals: Vec::new(alloc),
+        }
+    }
+
+    /// A text that is kept.
+    fn kept(&self, text: Option<&[u8]>) -> Result<Option<&'t [u8]>, AllocError> {
+        match text {
+            Some(text) => Ok(Some(self.disk.kept(text)?)),
+            None => Ok(None),
+        }
+    }
+
+    /// Takes note of what a finding about a setting suggests, if it suggests anything.
+    pub(crate) fn propose(
+        &mut self,
+        setting: &Setting<'_>,
+        finding: &Finding<'_>,
+    ) -> Result<(), AllocError> {
+        if finding.suggested_key.is_none() && finding.suggested_value.is_none() {
+            return Ok(());
+        }
+        let finding = Finding {
+            file: "",
+            line: finding.line,
+            entry: finding.entry,
+            code: finding.code,
+            severity: finding.severity,
+            key: self.kept(Some(&setting.key))?,
+            row: None,
+            value: None,
+            reason: b"",
+            fault: None,
+            suggested_key: self.kept(finding.suggested_key)?,
+            suggested_value: self.kept(finding.suggested_value)?,
+        };
+        self.proposals.push(Proposal {
+            finding,
+            is_guess: false,
+        })?;
+        Ok(())
+    }
+}
+
 /// The key of this text as Git lists it.
 fn listed(alloc: Global, text: &[u8]) -> Result<Vec<u8>, AllocError> {
     let mut listed = Vec::new(alloc);
@@ -45,97 +106,40 @@ fn listed(alloc: Global, text: &[u8]) -> Result<Vec<u8>, AllocError> {
     Ok(listed)
 }
 
-/// Looks for the changes that mend the findings of one file.
-#[derive(Drop)]
-pub(crate) struct Mender<'r, 'w, 't> {
-    judge: Judge<'r, 'w>,
-    options: Options<'t>,
-    /// The changes so far, in the order of the entries. None mends a file that Git does not read to its end.
-    pub(crate) changes: Vec<Mended>,
-}
-
-impl<'r, 'w, 't> Mender<'r, 'w, 't> {
-    /// Judges changes by these rows.
-    pub(crate) fn new(
-        alloc: Global,
-        rows: &'r [Row<'w>],
-        options: Options<'t>,
-    ) -> Result<Mender<'r, 'w, 't>, AllocError> {
-        Ok(Mender {
-            judge: Judge::new(alloc, rows)?,
-            options,
-            changes: Vec::new(alloc),
-        })
-    }
-
-    /// The change that mends a finding about a setting, if there is one.
-    fn change_for(
-        &self,
-        setting: &Setting<'_>,
-        finding: &Finding<'_>,
-    ) -> Result<Option<Mended>, AllocError> {
-        let alloc = *self.changes.allocator();
-        let Some(before) = finding.entry else {
-            return Ok(None);
-        };
-        let mut mended = Mended {
-            entry: before as usize,
-            span: Span {
-                first: setting.line,
-                last: setting.last,
-            },
-            name: None,
-            value: None,
-            key: None,
-            safety: Safety::Unsafe,
-            lines: None,
-        };
-        let Some((change, safety)) = mend(alloc, &self.judge, &self.options, setting, finding)?
-        else {
-            return Ok(None);
-        };
-        mended.safety = safety;
-        match change {
-            Fix::Name(name) => {
-                mended.name = Some(name.to_vec(alloc)?);
-                mended.key = Some(listed(alloc, finding.suggested_key.unwrap_or(b""))?);
-            }
-            Fix::Value(value) => mended.value = Some(value.to_vec(alloc)?),
+/// The key that an entry gets, as Git lists it, if its last part is to change.
+fn given(alloc: Global, proposal: &Proposal<'_>) -> Result<Option<Vec<u8>>, AllocError> {
+    let finding = &proposal.finding;
+    match (
+        finding.code,
+        finding.key,
+        finding.suggested_key,
+        finding.suggested_value,
+    ) {
+        (Code::UnknownKey, Some(key), Some(other), None) if other_name(key, other).is_some() => {
+            Ok(Some(listed(alloc, other)?))
         }
-        Ok(Some(mended))
-    }
-
-    /// Takes note of the change that mends a finding about a setting, if there is one.
-    pub(crate) fn mend(
-        &mut self,
-        setting: &Setting<'_>,
-        finding: &Finding<'_>,
-    ) -> Result<(), AllocError> {
-        if let Some(change) = self.change_for(setting, finding)? {
-            self.changes.push(change)?;
-        }
-        Ok(())
+        _ => Ok(None),
     }
 }
 
-/// The keys that these changes give, and those that several of them give.
+/// The keys that are to be given, and those that several entries are to get.
 fn given_twice(
     alloc: Global,
-    changes: &[Mended],
+    proposals: &[Proposal<'_>],
 ) -> Result<(BTreeSet<Vec<u8>>, BTreeSet<Vec<u8>>), AllocError> {
-    let mut given = BTreeSet::new(alloc);
+    let mut once = BTreeSet::new(alloc);
     let mut twice = BTreeSet::new(alloc);
-    for change in changes {
-        let Some(key) = &change.key else {
+    for proposal in proposals {
+        let Some(key) = given(alloc, proposal)? else {
             continue;
         };
-        if given.contains(key) {
-            twice.insert(key.as_slice().to_vec(alloc)?)?;
+        if once.contains(&key) {
+            twice.insert(key)?;
         } else {
-            given.insert(key.as_slice().to_vec(alloc)?)?;
+            once.insert(key)?;
         }
     }
-    Ok((given, twice))
+    Ok((once, twice))
 }
 
 /// Calls those of these changes guesses by which an entry gets a key that this file, what it includes, or another of
@@ -146,10 +150,10 @@ pub(crate) fn heed_rivals<'t>(
     surroundings: &Surroundings<'t>,
     file: &[u8],
     text: &'t [u8],
-    changes: &mut Vec<Mended>,
+    proposals: &mut Vec<Proposal<'t>>,
 ) -> Result<(), AllocError> {
-    let (given, mut rivals) = given_twice(alloc, changes)?;
-    if given.is_empty() {
+    let (once, mut rivals) = given_twice(alloc, proposals)?;
+    if once.is_empty() {
         return Ok(());
     }
     let mut walk = Walk::new(disk.place(file)?, text);
@@ -157,7 +161,7 @@ pub(crate) fn heed_rivals<'t>(
         match next_entry(disk, &surroundings.known(), &mut walk) {
             Ok(Some(taken)) => {
                 let key = taken.entry.key_text(alloc)?;
-                if given.contains(&key) {
+                if once.contains(&key) {
                     rivals.insert(key)?;
                 }
             }
@@ -165,42 +169,61 @@ pub(crate) fn heed_rivals<'t>(
             _ => break,
         }
     }
-    for change in changes.iter_mut() {
-        let has_rival = match &change.key {
-            Some(key) => rivals.contains(key),
-            None => false,
-        };
-        if has_rival {
-            change.safety = Safety::Unsafe;
+    for proposal in proposals.iter_mut() {
+        if let Some(key) = given(alloc, proposal)? {
+            proposal.is_guess = rivals.contains(&key);
         }
     }
     Ok(())
 }
 
-/// Those of these changes that are safe.
-pub(crate) fn safe_ones(alloc: Global, changes: Vec<Mended>) -> Result<Vec<Mended>, AllocError> {
-    let mut safe = Vec::new(alloc);
-    for change in changes {
-        if change.is_safe() {
-            safe.push(change)?;
-        }
-    }
-    Ok(safe)
-}
-
-/// Keeps with each change what its lines become, unless one of them is none that a file can have.
-pub(crate) fn keep_lines(
+/// The entries of these changes, with their lines in the text before.
+fn with_lines(
     alloc: Global,
     text: &[u8],
-    changes: &mut Vec<Mended>,
-) -> Result<(), AllocError> {
-    let new = match changed(alloc, text, changes) {
-        Ok(new) => new,
-        Err(Unchanged::Memory) => return Err(AllocError),
-        Err(_) => return Ok(()),
-    };
-    let lines = lines_after(alloc, &new, changes)?;
-    for (change, lines) in changes.iter_mut().zip(lines) {
+    mended: &MendedText<'_>,
+) -> Result<Vec<Mended>, AllocError> {
+    let mut entries = Vec::new(alloc);
+    for mend in &mended.mends {
+        entries.push(mend.entry)?;
+    }
+    let mut changes = Vec::new(alloc);
+    for (mend, span) in mended.mends.iter().zip(spans(alloc, text, &entries)?) {
+        changes.push(Mended {
+            entry: mend.entry,
+            span,
+            safety: mend.safety,
+            lines: None,
+        })?;
+    }
+    Ok(changes)
+}
+
+/// What becomes of a text by what is proposed for it: by all of it if guesses are wanted, and else by what is safe.
+pub(crate) fn changed(
+    alloc: Global,
+    rows: &[Row<'_>],
+    options: &Options<'_>,
+    guesses: bool,
+    file: &str,
+    text: &[u8],
+    proposals: &[Proposal<'_>],
+) -> Result<Result<Changed, Unchanged>, AllocError> {
+    match mend_text(alloc, rows, options, guesses, file, text, proposals) {
+        Ok(mended) => Ok(Ok(Changed {
+            changes: with_lines(alloc, text, &mended)?,
+            text: mended.text,
+        })),
+        Err(EditError::Memory(error)) => Err(error),
+        Err(EditError::File(error)) => Ok(Err(Unchanged::File(error))),
+        Err(_) => Ok(Err(Unchanged::Change)),
+    }
+}
+
+/// Keeps with each change what its lines become.
+pub(crate) fn keep_lines(alloc: Global, changed: &mut Changed) -> Result<(), AllocError> {
+    let lines = lines_after(alloc, &changed.text, &changed.changes)?;
+    for (change, lines) in changed.changes.iter_mut().zip(lines) {
         change.lines = Some(lines);
     }
     Ok(())
@@ -217,40 +240,15 @@ pub(crate) enum Unchanged {
     File(FileError),
     #[error("a change that no configuration file can have")]
     Change,
-    #[error("no memory")]
-    Memory,
 }
 
-/// The text after these changes.
-pub(crate) fn changed(alloc: Global, text: &[u8], mended: &[Mended]) -> Result<Vec<u8>, Unchanged> {
-    let mut changes = Vec::new(alloc);
-    for one in mended {
-        let change = Change {
-            entry: one.entry,
-            name: one.name.as_deref(),
-            value: one.value.as_deref(),
-            comment: None,
-        };
-        if changes.push(change).is_err() {
-            return Err(Unchanged::Memory);
-        }
-    }
-    match change_entries(alloc, text, &changes) {
-        Ok(new) => Ok(new),
-        Err(EditError::Memory(_)) => Err(Unchanged::Memory),
-        Err(EditError::File(error)) => Err(Unchanged::File(error)),
-        Err(_) => Err(Unchanged::Change),
-    }
-}
-
-/// Makes these changes in the file of this name, which has this text. Returns its new text.
+/// Gives the file of this name, which has this text, its new text.
 pub(crate) fn change_file<'t>(
-    alloc: Global,
     disk: &Disk<'t>,
     name: &[u8],
     text: &[u8],
-    mended: &[Mended],
-) -> Result<Vec<u8>, Unchanged> {
+    new: &[u8],
+) -> Result<(), Unchanged> {
     let locked = match Locked::of(disk, name) {
         Ok(locked) => locked,
         Err(error) => return Err(Unchanged::Lock(error)),
@@ -258,9 +256,8 @@ pub(crate) fn change_file<'t>(
     if locked.text() != text {
         return Err(Unchanged::Moved);
     }
-    let new = changed(alloc, text, mended)?;
-    match locked.commit(&new) {
-        Ok(()) => Ok(new),
+    match locked.commit(new) {
+        Ok(()) => Ok(()),
         Err(error) => Err(Unchanged::Lock(error)),
     }
 }

@@ -2,7 +2,9 @@
 
 use crate::aliases::Aliases;
 use crate::baseline::fingerprints;
-use crate::changes::{Mended, Mender, change_file, changed, heed_rivals, keep_lines, safe_ones};
+use crate::changes::{
+    Changed, Mended, Mender, Unchanged, change_file, changed, heed_rivals, keep_lines,
+};
 use crate::diff::diff_of;
 use crate::failure::{Failure, failed, tell, written};
 use crate::options::{Asked, Format, Output};
@@ -16,6 +18,7 @@ use config_checks::check::{Counts, Receiver, check_file};
 use config_checks::finding::key_text;
 use config_checks::git::{MODULES, SETTINGS};
 use config_checks::key::covers;
+use config_checks::mending::Proposal;
 use config_checks::options::Options;
 use config_checks::outcome::Outcome;
 use config_checks::paths::{self, is_homeless};
@@ -119,15 +122,15 @@ enum Pass {
     Writes(Vec<Mended>),
     /// It writes the findings, and looks for changes.
     Both,
-    /// It only looks for changes.
-    Looks,
+    /// It only looks for changes, of which some may be guesses.
+    Looks { guesses: bool },
 }
 
-/// What a check of a text gives: its counts, and the changes that are looked for.
+/// What a check of a text gives: its counts, and what mends it if that is looked for and something is suggested.
 #[derive(Drop)]
 struct Looked {
     counts: Counts,
-    changes: Vec<Mended>,
+    changed: Option<Result<Changed, Unchanged>>,
 }
 
 /// Whether a file is one of those in which Git reads about submodules.
@@ -331,13 +334,18 @@ impl<'c, 't> Checking<'c, 't> {
     ) -> Result<Looked, Failure<'static>> {
         let alloc = self.rt.alloc();
         let options = self.options;
-        let collects = matches!(pass, Pass::Looks);
-        let (mender, mut fixes) = match pass {
-            Pass::Writes(fixes) => (None, fixes),
-            Pass::Both | Pass::Looks => {
-                (Some(Mender::new(alloc, rows, options)?), Vec::new(alloc))
+        let collects = matches!(pass, Pass::Looks { .. });
+        let mut guesses = self.asked.guesses;
+        let mut mender = Some(Mender::new(alloc, &self.disk));
+        let mut fixes = Vec::new(alloc);
+        match pass {
+            Pass::Writes(known) => {
+                mender = None;
+                fixes = known;
             }
-        };
+            Pass::Both => {}
+            Pass::Looks { guesses: wanted } => guesses = wanted,
+        }
         fixes.reverse();
         let writer = written(BufWriter::new(alloc, self.rt.stdout()))?;
         let mut source = Source::new(file.as_bytes(), text);
@@ -354,11 +362,37 @@ impl<'c, 't> Checking<'c, 't> {
         let checked = check_file(alloc, rows, &options, file, text, &mut lines);
         written(lines.flush())?;
         let counts = failed(checked)?;
-        let changes = match lines.mender.take() {
-            Some(mender) => mender.changes,
+        let proposals = match lines.mender.take() {
+            Some(mender) => mender.proposals,
             None => Vec::new(alloc),
         };
-        Ok(Looked { counts, changes })
+        let changed = self.changed_by(rows, guesses, file, text, proposals)?;
+        Ok(Looked { counts, changed })
+    }
+
+    /// What becomes of a text that is checked by these rows, if something is proposed for it.
+    fn changed_by(
+        &self,
+        rows: &[Row<'_>],
+        guesses: bool,
+        file: &'t str,
+        text: &'t [u8],
+        mut proposals: Vec<Proposal<'t>>,
+    ) -> Result<Option<Result<Changed, Unchanged>>, AllocError> {
+        let alloc = self.rt.alloc();
+        if proposals.is_empty() {
+            return Ok(None);
+        }
+        let known = &self.surroundings;
+        heed_rivals(
+            alloc,
+            &self.disk,
+            known,
+            file.as_bytes(),
+            text,
+            &mut proposals,
+        )?;
+        Ok(Some(changed(alloc, rows, &self.options, guesses, file, text, &proposals)?))
     }
 
     /// All rows, which are read if they are not yet.
@@ -446,15 +480,17 @@ impl<'c, 't> Checking<'c, 't> {
         file: &'t str,
         text: &'t [u8],
     ) -> Result<Counts, Failure<'static>> {
-        let Looked {
-            counts,
-            mut changes,
-        } = self.look_for_changes(file, text, Pass::Looks)?;
+        let looks = Pass::Looks { guesses: true };
+        let Looked { counts, changed } = self.look_by_all(file, text, looks)?;
         if counts.findings == 0 {
             return Ok(counts);
         }
-        if self.is_sarif() {
-            keep_lines(self.rt.alloc(), text, &mut changes)?;
+        let mut changes = Vec::new(self.rt.alloc());
+        if let Some(Ok(mut changed)) = changed {
+            if self.is_sarif() {
+                keep_lines(self.rt.alloc(), &mut changed)?;
+            }
+            changes = changed.changes;
         }
         Ok(self.look_by_all(file, text, Pass::Writes(changes))?.counts)
     }
@@ -475,71 +511,39 @@ impl<'c, 't> Checking<'c, 't> {
         Ok(self.look_by_all(file, text, pass)?.counts)
     }
 
-    /// The counts of a file, and the changes that its findings suggest.
-    fn look_for_changes(
-        &mut self,
-        file: &'t str,
-        text: &'t [u8],
-        pass: Pass,
-    ) -> Result<Looked, Failure<'static>> {
-        let mut looked = self.look_by_all(file, text, pass)?;
-        heed_rivals(
-            self.rt.alloc(),
-            &self.disk,
-            &self.surroundings,
-            file.as_bytes(),
-            text,
-            &mut looked.changes,
-        )?;
-        Ok(looked)
-    }
-
-    /// The same with the changes to make: with `--unsafe-fixes` all of them, and else those that are safe.
-    fn look_for_mends(
-        &mut self,
-        file: &'t str,
-        text: &'t [u8],
-        pass: Pass,
-    ) -> Result<Looked, Failure<'static>> {
-        let Looked { counts, changes } = self.look_for_changes(file, text, pass)?;
-        let changes = if self.asked.guesses {
-            changes
-        } else {
-            safe_ones(self.rt.alloc(), changes)?
-        };
-        Ok(Looked { counts, changes })
-    }
-
-    /// Makes the changes in a file, and writes the findings that are left. Returns its text, which is the old one
-    /// if it has no changes or is not changed, with its counts.
+    /// Mends a file, and writes the findings that are left. Returns its text, which is the old one if nothing mends it or it
+    /// is not changed, with its counts.
     fn mend(
         &mut self,
         file: &'t str,
         text: &'t [u8],
     ) -> Result<(&'t [u8], Counts), Failure<'static>> {
-        let Looked { counts, changes } = self.look_for_mends(file, text, Pass::Looks)?;
+        let looks = Pass::Looks {
+            guesses: self.asked.guesses,
+        };
+        let Looked { counts, changed } = self.look_by_all(file, text, looks)?;
         if counts.findings == 0 {
             return Ok((text, counts));
         }
-        let text = self.changed_by(file, text, &changes)?;
+        let text = self.change(file, text, changed)?;
         Ok((text, self.judge(file, text)?))
     }
 
     /// Makes these changes in a file, and returns its text, which is the old one if there are none or it is not
     /// changed.
-    fn changed_by(
+    fn change(
         &mut self,
         file: &'t str,
         text: &'t [u8],
-        changes: &[Mended],
+        changed: Option<Result<Changed, Unchanged>>,
     ) -> Result<&'t [u8], Failure<'static>> {
-        if changes.is_empty() {
+        let Some(changed) = self.told(file, changed) else {
             return Ok(text);
-        }
-        match change_file(self.rt.alloc(), &self.disk, file.as_bytes(), text, changes) {
-            Ok(new) => {
-                self.fixed = self.fixed.saturating_add(changes.len());
-                Ok(self.disk.kept(&new)?)
+        };
+        match change_file(&self.disk, file.as_bytes(), text, &changed.text) {
+            Ok(()) => {
+                self.fixed = self.fixed.saturating_add(changed.changes.len());
+                Ok(self.disk.kept(&changed.text)?)
             }
             Err(error) => {
                 self.refuse(format!(in self.rt.alloc(); "config_check: {file}: {error}"));
@@ -548,19 +552,25 @@ impl<'c, 't> Checking<'c, 't> {
         }
     }
 
+    /// The changes of a file, if there are some. Reports why they cannot be made.
+    fn told(&mut self, file: &str, changed: Option<Result<Changed, Unchanged>>) -> Option<Changed> {
+        match changed? {
+            Ok(changed) if changed.changes.is_empty() => None,
+            Ok(changed) => Some(changed),
+            Err(error) => {
+                self.refuse(format!(in self.rt.alloc(); "config_check: {file}: {error}"));
+                None
+            }
+        }
+    }
+
     /// Checks the text of a file, and shows what would be changed in it.
     fn show_changes(&mut self, file: &'t str, text: &'t [u8]) -> Result<Counts, Failure<'static>> {
         let alloc = self.rt.alloc();
-        let Looked { counts, changes } = self.look_for_mends(file, text, Pass::Both)?;
-        if changes.is_empty() {
-            return Ok(counts);
-        }
-        match changed(alloc, text, &changes) {
-            Ok(new) => {
-                let diff = diff_of(alloc, file, text, &new, &changes)?;
-                written(self.rt.stdout().write_all(&diff))?;
-            }
-            Err(error) => self.refuse(format!(in alloc; "config_check: {file}: {error}")),
+        let Looked { counts, changed } = self.look_by_all(file, text, Pass::Both)?;
+        if let Some(changed) = self.told(file, changed) {
+            let diff = diff_of(alloc, file, text, &changed.text, &changed.changes)?;
+            written(self.rt.stdout().write_all(&diff))?;
         }
         Ok(counts)
     }

@@ -26,16 +26,20 @@ struct Region {
     is_guess: bool,
 }
 
-/// The lines of the entries that change, in the text after the change.
-fn spans(alloc: Global, text: &[u8], mended: &[Mended]) -> Result<Vec<Span>, AllocError> {
+/// The lines of these entries of a text, of which each follows the one before.
+pub(crate) fn spans(
+    alloc: Global,
+    text: &[u8],
+    entries: &[usize],
+) -> Result<Vec<Span>, AllocError> {
     let mut all = Vec::new(alloc);
-    let mut left = mended;
+    let mut left = entries;
     let mut at: usize = 0;
     for entry in Entries::new(text) {
         let (Ok(entry), Some((next, others))) = (entry, left.split_first()) else {
             break;
         };
-        if next.entry == at {
+        if *next == at {
             all.push(Span {
                 first: first_line(&entry),
                 last: entry.line,
@@ -47,6 +51,15 @@ fn spans(alloc: Global, text: &[u8], mended: &[Mended]) -> Result<Vec<Span>, All
     Ok(all)
 }
 
+/// The lines of the entries that change, in the text after the change.
+fn spans_after(alloc: Global, new: &[u8], mended: &[Mended]) -> Result<Vec<Span>, AllocError> {
+    let mut entries = Vec::new(alloc);
+    for change in mended {
+        entries.push(change.entry)?;
+    }
+    spans(alloc, new, &entries)
+}
+
 /// The lines of the entries that change, in the text after the change, each without its last end.
 pub(crate) fn lines_after(
     alloc: Global,
@@ -55,7 +68,7 @@ pub(crate) fn lines_after(
 ) -> Result<Vec<Vec<u8>>, AllocError> {
     let lines = lines_of(alloc, new)?;
     let mut all = Vec::new(alloc);
-    for span in spans(alloc, new, mended)? {
+    for span in spans_after(alloc, new, mended)? {
         let mut text = Vec::new(alloc);
         let passed = span.first.saturating_sub(1);
         for line in lines.iter().skip(passed).take(count_of(span)) {
@@ -95,7 +108,7 @@ fn joined(last: &Region, next: &Region) -> Region {
 fn regions(alloc: Global, new: &[u8], mended: &[Mended]) -> Result<Vec<Region>, AllocError> {
     let mut all = Vec::new(alloc);
     let mut held: Option<Region> = None;
-    let news = spans(alloc, new, mended)?;
+    let news = spans_after(alloc, new, mended)?;
     for (change, new) in mended.iter().zip(news.iter()) {
         let next = Region {
             old: change.span,

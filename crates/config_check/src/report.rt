@@ -67,7 +67,7 @@ pub(crate) struct Report<'c> {
     pub(crate) hidden: Hidden,
     /// How many findings there were by now, by their fingerprints without their counts.
     seen: BTreeMap<String, u64>,
-    /// How many of the findings whose changes were collected there were by now, by their fingerprints.
+    /// How many of the findings whose suggestions were collected there were by now, by their fingerprints.
     collected: BTreeMap<String, u64>,
     /// How many findings each code has, in the order of the codes.
     counts: Vec<u64>,
@@ -219,9 +219,9 @@ pub(crate) struct Lines<'l, 's, 'r, 'c, 'k, 'w, W: Write> {
     pub(crate) rows: &'k [Row<'w>],
     pub(crate) report: &'r mut Report<'c>,
     pub(crate) source: &'s mut Source<'l>,
-    /// What looks for changes, if the file may be changed.
-    pub(crate) mender: Option<Mender<'k, 'w, 'l>>,
-    /// Whether changes are only collected, and nothing is counted or written.
+    /// What keeps the suggestions, if the file may be changed.
+    pub(crate) mender: Option<Mender<'k, 'l>>,
+    /// Whether suggestions are only collected, and nothing is counted or written.
     pub(crate) collects: bool,
     /// What is known of the changes of the findings to come, the last first.
     pub(crate) fixes: Vec<Mended>,
@@ -297,8 +297,8 @@ impl<W: Write> Lines<'_, '_, '_, '_, '_, '_, W> {
         Ok(is_left_out)
     }
 
-    /// What is written about a finding, with all that is told of it: nothing if it is left out, or if changes
-    /// are collected. `mended` is its setting if its change is sure: nothing else is as near as the value that is
+    /// What is written about a finding, with all that is told of it: nothing if it is left out, or if
+    /// suggestions are collected. `mended` is its setting if its change is sure: nothing else is as near as the value that is
     /// suggested.
     fn text_for(
         &mut self,
@@ -311,7 +311,7 @@ impl<W: Write> Lines<'_, '_, '_, '_, '_, '_, W> {
             return Ok(Vec::new(self.alloc));
         }
         if let (Some(mender), Some(setting)) = (&mut self.mender, mended) {
-            mender.mend(setting, finding)?;
+            mender.propose(setting, finding)?;
         }
         if self.collects {
             return Ok(Vec::new(self.alloc));
@@ -359,7 +359,7 @@ impl<W: Write> Lines<'_, '_, '_, '_, '_, '_, W> {
             ..*finding
         };
         if let Some(mender) = &mut self.mender {
-            mender.changes.clear();
+            mender.proposals.clear();
         }
         self.text_for(&whole, &spot, None)
     }

@@ -18,4 +18,6 @@ mod OneSuggestion
 mod OneReport
 mod OneLine
 mod FixLemmas
+mod RenamedLemmas
+mod MendLemmas
 mod StandardFacts

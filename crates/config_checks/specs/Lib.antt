@@ -14,5 +14,6 @@ pub mod Report
 pub mod Outcome
 pub mod Suggestions
 pub mod Fixes
+pub mod Mending
 pub mod Wrong
 pub mod Reading

@@ -218,7 +218,14 @@ fn is_beside(key: &Key<'_>, other: &Key<'_>) -> bool
 }
 
 /// The last part of another key that differs in this part alone.
-fn other_name<'k>(key: &[u8], other: &'k [u8]) -> Option<&'k [u8]>
+///
+/// ```rust
+/// use config_checks::fix::other_name;
+///
+/// assert!(rt; other_name(b"user.nmae", b"user.name") == Some(b"name".as_slice()));
+/// assert!(rt; other_name(b"usr.name", b"user.name").is_none());
+/// ```
+pub fn other_name<'k>(key: &[u8], other: &'k [u8]) -> Option<&'k [u8]>
     ensures { MatchOption result ((name : List ℕ) → ¬ (IsRenamed key.now other.now name))
         (λ name. IsRenamed key.now other.now name.now) }
 {

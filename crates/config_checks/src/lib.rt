@@ -15,6 +15,7 @@ pub mod kind;
 pub mod laws;
 pub mod lookup;
 mod marks;
+pub mod mending;
 pub mod options;
 pub mod outcome;
 pub mod paths;

@@ -1,0 +1,8 @@
+use Rattle.std.proofs.Common.{take}
+use Rattle.config_checks.specs.Mending.{HasMends}
+use Rattle.config_checks.specs.Rows.{rows_of}
+use Rattle.config_checks.proofs.mending.mends_of.Given as goal
+
+abbrev pub invariant-loop-proposal : goal.invariant-loop-proposal
+invariant-loop-proposal l =
+    HasMends (rows_of l.judge.runs.items) l.options l.guesses l.settings (take l.proposal-index l.proposals) l.mends.items
