@@ -19,4 +19,5 @@ mod OneLine
 mod FixLemmas
 mod RenamedLemmas
 mod MendLemmas
+mod MendedAgain
 mod StandardFacts
