@@ -20,4 +20,5 @@ mod OneLine
 mod FixLemmas
 mod RenamedLemmas
 mod MendLemmas
+mod MendedAgain
 mod StandardFacts

@@ -52,13 +52,13 @@ get_last : {A : Type 0} (xs : List A) (x : A) → slice_get (xs ++ x ∷ []) (le
 get_last [] x = refl
 get_last (y ∷ ys) x = get_last ys x
 
-get_mapped : {A B : Type 0} (f : A → B) (xs : List A) (i : ℕ) (y : B) → slice_get (map f xs) i ≡ Some y
+pub get_mapped : {A B : Type 0} (f : A → B) (xs : List A) (i : ℕ) (y : B) → slice_get (map f xs) i ≡ Some y
     → (x : A) × (slice_get xs i ≡ Some x) × (f x ≡ y)
 get_mapped f [] i y e = absurd (cc)
 get_mapped f (x ∷ xs) zero y e = (x, refl, cc)
 get_mapped f (x ∷ xs) (suc i) y e = get_mapped f xs i y e
 
-get_zipped : {A B : Type 0} (R : A → B → Type 0) (xs : List A) (ys : List B) (i : ℕ) (x : A) → AllZip R xs ys
+pub get_zipped : {A B : Type 0} (R : A → B → Type 0) (xs : List A) (ys : List B) (i : ℕ) (x : A) → AllZip R xs ys
     → slice_get xs i ≡ Some x → (y : B) × (slice_get ys i ≡ Some y) × R x y
 get_zipped R [] [] i x all e = absurd (cc)
 get_zipped R (w ∷ xs) (y ∷ ys) zero x all e =
@@ -66,7 +66,7 @@ get_zipped R (w ∷ xs) (y ∷ ys) zero x all e =
 get_zipped R (w ∷ xs) (y ∷ ys) (suc i) x all e = get_zipped R xs ys i x all.1 e
 get_zipped R xs ys i x all e = absurd all
 
-get_one : {A : Type 0} (P : A → Type 0) (xs : List A) (i : ℕ) (x : A) → AllByRecursion P xs → slice_get xs i ≡ Some x → P x
+pub get_one : {A : Type 0} (P : A → Type 0) (xs : List A) (i : ℕ) (x : A) → AllByRecursion P xs → slice_get xs i ≡ Some x → P x
 get_one P [] i x all e = absurd (cc)
 get_one P (y ∷ ys) zero x all e = let same : y ≡ x = cc in subst P same all.0
 get_one P (y ∷ ys) (suc i) x all e = get_one P ys i x all.1 e
@@ -74,7 +74,7 @@ get_one P (y ∷ ys) (suc i) x all e = get_one P ys i x all.1 e
 get_same : {A : Type 0} (xs : List A) (i : ℕ) (x y : A) → slice_get xs i ≡ Some x → slice_get xs i ≡ Some y → x ≡ y
 get_same xs i x y p q = let both : Some x ≡ Some y = sym p ∙ q in cc
 
-all_weaker : {A : Type 0} (P Q : A → Type 0) → ((x : A) → P x → Q x) → (xs : List A) → AllByRecursion P xs → AllByRecursion Q xs
+pub all_weaker : {A : Type 0} (P Q : A → Type 0) → ((x : A) → P x → Q x) → (xs : List A) → AllByRecursion P xs → AllByRecursion Q xs
 all_weaker P Q so [] all = tt
 all_weaker P Q so (x ∷ xs) all = (so x all.0, all_weaker P Q so xs all.1)
 
@@ -198,7 +198,7 @@ one_longer : (old new : List Content) (x y : Content) → length old ≡ length 
     → length (old ++ x ∷ []) ≡ length (new ++ y ∷ [])
 one_longer old new x y same = length-append old (x ∷ []) ∙ ap (λ n. n + 1) same ∙ sym (length-append new (y ∷ []))
 
-as_many : {changes : List Change} {old new : List Content} → ChangesEach changes old new → length old ≡ length new
+pub as_many : {changes : List Change} {old new : List Content} → ChangesEach changes old new → length old ≡ length new
 as_many edit.none = refl
 as_many (edit.kept x {old = old} {new = new} each) = one_longer old new x x (as_many each)
 as_many (edit.changed change x y {old = old} {new = new} each place is) = one_longer old new x y (as_many each)

@@ -3,13 +3,14 @@
 -- Look for: `IsMend`: the change is that of the entry which the finding names, and a guess only if guesses are wanted.
 -- `HasMends`: no such change is left out. `IsMended`: `ChangesEntries` says of each other entry, and of each other byte,
 -- that it stays.
-use Rattle.std.specs.Prelude.{◌≡◌, ◌⊎◌, ⊤, ℕ, Bool, true, false, List, [], ◌∷◌, ◌++◌, Option, None, Some, map}
+use Rattle.std.specs.Prelude.{◌≡◌, ◌≢◌, ◌⊎◌, ⊤, ℕ, Bool, true, false, List, [], ◌∷◌, ◌++◌, Option, None, Some, map}
 use Rattle.std.specs.List.{slice_get, AllByRecursion}
 use denote.Ref.{Bor}
 use Rattle.config_edit.specs.declared.Change.{Change}
 use Rattle.config_edit.specs.declared.EditError.{EditError}
 use Rattle.config_edit.specs.declared.EditError.TheVariants as error
 use Rattle.config_edit.specs.Edit.{ChangesEntries, RefusesChanges}
+use Rattle.config_checks.specs.declared.code.Code.{Code}
 use Rattle.config_checks.specs.declared.fix.Fix.{Fix}
 use Rattle.config_checks.specs.declared.fix.Fix.TheVariants.{Name, Value}
 use Rattle.config_checks.specs.declared.fix.Safety.{Safety}
@@ -100,3 +101,18 @@ RefusesMending rows options guesses file text proposals (error.File e) =
 RefusesMending rows options guesses file text proposals e = (settings : List Setting) × (mends : List Mend)
     × HasSettings file text settings None × HasMends rows options guesses settings proposals mends
     × RefusesChanges (map change_of mends) text e
+
+-- ---- a second time
+
+-- what is proposed for which finding
+abbrev pub proposed : Proposal → Option ℕ × Code × Option (List ℕ) × Option (List ℕ) × Bool
+proposed proposal = let f = finding_of proposal.finding in
+    (f.entry, f.code, f.suggested_key, f.suggested_value, proposal.is_guess)
+
+-- the same was proposed before, and the changes that were made are of other entries
+pub record IsLeftOver (proposals : List Proposal) (mends : List Mend) (again : Proposal) : Type 0 where
+  pub other : AllByRecursion (λ mend. again.finding.entry ≢ Some mend.entry) mends
+  pub place : ℕ
+  pub before : Proposal
+  pub was : slice_get proposals place ≡ Some before
+  pub same : proposed again ≡ proposed before

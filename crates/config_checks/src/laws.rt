@@ -1,12 +1,16 @@
 //! Laws about the definitions, which are the contracts of functions that do nothing. A setting has at most
-//! one finding, and a file has one report.
-ghost use Rattle.std.specs.Prelude.{◌≡◌, ◌++◌, ℕ, List, Option};
+//! one finding, and a file has one report. What is mended stays as it is.
+ghost use Rattle.std.specs.Prelude.{◌≡◌, ◌++◌, ℕ, Bool, List, [], Option};
+ghost use Rattle.std.specs.List.{AllByRecursion};
 ghost use Rattle.config_checks.specs.declared.reason.Reason.{Reason};
 ghost use Rattle.config_checks.specs.declared.options.Options.{Options};
 ghost use Rattle.config_checks.specs.declared.row.Row.{Row};
 ghost use Rattle.config_checks.specs.declared.paths.KnownUsers.{KnownUsers};
 ghost use Rattle.config_checks.specs.declared.check.Counts.{Counts};
+ghost use Rattle.config_checks.specs.declared.mending.Mend.{Mend};
+ghost use Rattle.config_checks.specs.declared.mending.Proposal.{Proposal};
 ghost use Rattle.config_checks.specs.Findings.{Finding};
+ghost use Rattle.config_checks.specs.Mending.{IsLeftOver, IsMended};
 ghost use Rattle.config_checks.specs.Reasons.{HasReason, HasFinding, IsSameFinding};
 ghost use Rattle.config_checks.specs.Report.{BeginsReport, IsReport};
 
@@ -33,4 +37,14 @@ pub fn one_report()
     ensures begins { (rows : List Row) (options : Options) (file text : List ℕ) (a b : List Finding) (s : Counts)
         → BeginsReport rows options file text a → IsReport rows options file text b s
         → (more : List Finding) × (b ≡ a ++ more) }
+{}
+
+/// A text that was mended stays as it is if it is mended again with some of the same proposals, of which none is about an
+/// entry that was changed. About those nothing is found any more.
+pub fn mended_again()
+    ensures { (rows : List Row) (options : Options) (guesses : Bool) (file text new newer : List ℕ)
+        (proposals again : List Proposal) (mends more : List Mend)
+        → IsMended rows options guesses file text proposals mends new
+        → IsMended rows options guesses file new again more newer → AllByRecursion (IsLeftOver proposals mends) again
+        → (more ≡ []) × (newer ≡ new) }
 {}
