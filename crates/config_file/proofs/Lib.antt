@@ -4,6 +4,7 @@ pub mod Subsections
 pub mod Headers
 pub mod Values
 pub mod ReadEntries
+pub mod Blocks
 pub mod Bounds
 pub mod Readings
 pub mod Spelled

@@ -1,6 +1,6 @@
 //! Bytes and runs of them, for the crates that read or change a text of which an [`Entry`](crate::Entry) is a
 //! part.
-ghost use Rattle.std.specs.Prelude.{◌≡◌, ℕ, ◌<◌, ◌≤◌, ◌↔◌, List, [], ◌∷◌, ◌++◌, length, MatchOption, IsTrue};
+ghost use Rattle.std.specs.Prelude.{◌≡◌, ℕ, ◌+◌, ◌<◌, ◌≤◌, ◌↔◌, List, [], ◌∷◌, ◌++◌, length, MatchOption, IsTrue};
 ghost use Rattle.std.specs.Prelude.{◌==◌};
 ghost use Rattle.std.specs.List.{prefix_len};
 ghost use Rattle.config_file.specs.Bytes as spec;
@@ -9,7 +9,11 @@ ghost use Rattle.config_file.specs.Header.{BeginsWithout};
 ghost use Rattle.config_file.specs.Runs.{Run};
 ghost use Rattle.config_file.specs.Value.{line_feeds};
 ghost use Rattle.config_file.specs.Reading.Scans as scans;
-ghost use Rattle.config_file.specs.Reading.Scans.{passes};
+ghost use Rattle.config_file.specs.Reading.Scans.{passes, block};
+ghost use Rattle.config_file.specs.declared.bytes.Class.TheVariants.{Name, Key, Blank, Space, Comment, Unescaped};
+ghost use Rattle.config_file.specs.declared.bytes.Class.TheVariants.{Word, Plain};
+
+use std::simd::prelude::*;
 
 /// The first byte of a text and what follows it, or `None` if the text is empty.
 #[inline(always)]
@@ -134,12 +138,152 @@ fn is_in(class: Class, byte: u8) -> bool
     }
 }
 
+/// How many bytes are looked at at once.
+const LANES: usize = 16;
+
+/// The place of the lowest bit that is set, or the number of lanes if none is.
+#[inline(always)]
+fn first_set(mask: u64) -> usize
+    ensures { result ≡ scans.first_set mask }
+{
+    if mask == 0 {
+        LANES
+    } else {
+        mask.trailing_zeros() as usize
+    }
+}
+
+#[inline(always)]
+fn name_run(text: &[u8], at: usize) -> usize
+    requires { at + LANES ≤ length text.now }
+    ensures { result ≡ prefix_len (passes Name) (block at text.now) }
+{
+    let bytes = u8x16::from_slice(&text[at..]);
+    let letters = (bytes | u8x16::splat(0x20)) - u8x16::splat(b'a');
+    let digits = bytes - u8x16::splat(b'0');
+    let stops = letters.simd_ge(u8x16::splat(26))
+        & digits.simd_ge(u8x16::splat(10))
+        & bytes.simd_ne(u8x16::splat(b'-'))
+        & bytes.simd_ne(u8x16::splat(b'.'));
+    first_set(stops.to_bitmask())
+}
+
+#[inline(always)]
+fn key_run(text: &[u8], at: usize) -> usize
+    requires { at + LANES ≤ length text.now }
+    ensures { result ≡ prefix_len (passes Key) (block at text.now) }
+{
+    let bytes = u8x16::from_slice(&text[at..]);
+    let letters = (bytes | u8x16::splat(0x20)) - u8x16::splat(b'a');
+    let digits = bytes - u8x16::splat(b'0');
+    let stops = letters.simd_ge(u8x16::splat(26))
+        & digits.simd_ge(u8x16::splat(10))
+        & bytes.simd_ne(u8x16::splat(b'-'));
+    first_set(stops.to_bitmask())
+}
+
+#[inline(always)]
+fn blank_run(text: &[u8], at: usize) -> usize
+    requires { at + LANES ≤ length text.now }
+    ensures { result ≡ prefix_len (passes Blank) (block at text.now) }
+{
+    let bytes = u8x16::from_slice(&text[at..]);
+    let stops = bytes.simd_ne(u8x16::splat(b' '))
+        & bytes.simd_ne(u8x16::splat(b'\t'))
+        & bytes.simd_ne(u8x16::splat(b'\r'));
+    first_set(stops.to_bitmask())
+}
+
+#[inline(always)]
+fn space_run(text: &[u8], at: usize) -> usize
+    requires { at + LANES ≤ length text.now }
+    ensures { result ≡ prefix_len (passes Space) (block at text.now) }
+{
+    let bytes = u8x16::from_slice(&text[at..]);
+    let stops = bytes.simd_ne(u8x16::splat(b' ')) & bytes.simd_ne(u8x16::splat(b'\t'));
+    first_set(stops.to_bitmask())
+}
+
+#[inline(always)]
+fn comment_run(text: &[u8], at: usize) -> usize
+    requires { at + LANES ≤ length text.now }
+    ensures { result ≡ prefix_len (passes Comment) (block at text.now) }
+{
+    let bytes = u8x16::from_slice(&text[at..]);
+    let stops = bytes.simd_eq(u8x16::splat(b'\n'));
+    first_set(stops.to_bitmask())
+}
+
+#[inline(always)]
+fn unescaped_run(text: &[u8], at: usize) -> usize
+    requires { at + LANES ≤ length text.now }
+    ensures { result ≡ prefix_len (passes Unescaped) (block at text.now) }
+{
+    let bytes = u8x16::from_slice(&text[at..]);
+    let stops = bytes.simd_eq(u8x16::splat(b'\\'));
+    first_set(stops.to_bitmask())
+}
+
+#[inline(always)]
+fn word_run(text: &[u8], at: usize) -> usize
+    requires { at + LANES ≤ length text.now }
+    ensures { result ≡ prefix_len (passes Word) (block at text.now) }
+{
+    let bytes = u8x16::from_slice(&text[at..]);
+    let stops = bytes.simd_eq(u8x16::splat(b' '))
+        | bytes.simd_eq(u8x16::splat(b'\t'))
+        | bytes.simd_eq(u8x16::splat(b'\r'))
+        | bytes.simd_eq(u8x16::splat(b'"'))
+        | bytes.simd_eq(u8x16::splat(b'\\'));
+    first_set(stops.to_bitmask())
+}
+
+#[inline(always)]
+fn plain_run(text: &[u8], at: usize) -> usize
+    requires { at + LANES ≤ length text.now }
+    ensures { result ≡ prefix_len (passes Plain) (block at text.now) }
+{
+    let bytes = u8x16::from_slice(&text[at..]);
+    let stops = bytes.simd_eq(u8x16::splat(0))
+        | bytes.simd_eq(u8x16::splat(b'\n'))
+        | bytes.simd_eq(u8x16::splat(b'#'))
+        | bytes.simd_eq(u8x16::splat(b';'))
+        | bytes.simd_eq(u8x16::splat(b'"'))
+        | bytes.simd_eq(u8x16::splat(b'\\'));
+    first_set(stops.to_bitmask())
+}
+
+/// How many bytes of a class come first at this place, among as many as are looked at at once.
+#[inline(always)]
+fn block_run(text: &[u8], at: usize, class: Class) -> usize
+    requires { at + LANES ≤ length text.now }
+    ensures { result ≡ prefix_len (passes class) (block at text.now) }
+{
+    match class {
+        Class::Name => name_run(text, at),
+        Class::Key => key_run(text, at),
+        Class::Blank => blank_run(text, at),
+        Class::Space => space_run(text, at),
+        Class::Comment => comment_run(text, at),
+        Class::Unescaped => unescaped_run(text, at),
+        Class::Word => word_run(text, at),
+        Class::Plain => plain_run(text, at),
+    }
+}
+
 #[inline(always)]
 fn run_length(text: &[u8], class: Class) -> usize
     ensures length { result ≡ prefix_len (passes class) text.now }
     ensures within { result ≤ length text.now }
 {
     let mut passed = 0;
+    'strides: while text.len() - passed >= LANES {
+        let run = block_run(text, passed, class);
+        passed += run;
+        if run < LANES {
+            return passed;
+        }
+    }
     'bytes: while passed < text.len() && is_in(class, text[passed]) {
         passed += 1;
     }

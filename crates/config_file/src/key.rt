@@ -220,7 +220,10 @@ impl<'k> Key<'k> {
         };
         match &section.subsection {
             Some(subsection) => match left {
-                Some(left) => subsection.is(left),
+                Some(left) => {
+                    let subsection = *subsection;
+                    subsection.is(left)
+                }
                 None => false,
             },
             None => left.is_none(),

@@ -147,7 +147,9 @@ pub fn include_of(
     ensures { IfOk result (λ include. IsInclude known.now place.entry (entry_of entry.now) include) }
 {
     if entry.key.eq_ignore_ascii_case(b"path") {
-        include_by_path(alloc, known, place, entry)
+        // A copy is handed on, here and below, so that the entry itself needs no address and stays in registers.
+        let held = *entry;
+        include_by_path(alloc, known, place, &held)
     } else {
         Ok(Include::NotFollowed)
     }
@@ -165,8 +167,11 @@ fn include_in(
     ensures { IfOk result (IsIncludeIn known.now place.entry none_allowed (entry_of entry.now)) }
 {
     let include = include_of(alloc, known, place, entry)?;
-    if none_allowed && matches!(include, Include::NotFollowed) && is_remote_url(entry) {
-        return Ok(Include::ForbiddenUrl);
+    if none_allowed && matches!(include, Include::NotFollowed) {
+        let held = *entry;
+        if is_remote_url(&held) {
+            return Ok(Include::ForbiddenUrl);
+        }
     }
     Ok(include)
 }
@@ -184,7 +189,10 @@ fn forbids_below(
     ensures { IfOk result (ForbidsBelow known.now.includes none_allowed (entry_of entry.now) include.now) }
 {
     match include {
-        Include::Named(_) => Ok(known.includes.forbid(alloc, entry)? || none_allowed),
+        Include::Named(_) => {
+            let held = *entry;
+            Ok(known.includes.forbid(alloc, &held)? || none_allowed)
+        }
         _ => Ok(false),
     }
 }

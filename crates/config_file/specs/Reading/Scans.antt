@@ -1,6 +1,7 @@
 -- What the scans of the reader have passed, and where they go on.
 use Rattle.std.specs.Prelude.{◌≡◌, ◌≢◌, ℕ, Bool, true, false, not, List, [], ◌∷◌, ◌++◌, Option, Some, None, ⊤}
-use Rattle.std.specs.Prelude.{◌&&◌, ◌==◌, if◌then◌else◌, is_some, drop, length}
+use Rattle.std.specs.Prelude.{◌&&◌, ◌==◌, if◌then◌else◌, is_some, take, drop, length}
+use Rattle.std.specs.Int.{w64, trailing_zeros}
 use Rattle.std.specs.List.{list_all}
 use Rattle.config_file.specs.declared.bytes.Class.{Class}
 use Rattle.config_file.specs.declared.bytes.Class.TheVariants.{Name, Key, Blank, Space, Comment, Unescaped}
@@ -59,6 +60,14 @@ passes Comment = is_comment_byte
 passes Unescaped = is_unescaped
 passes Word = is_word_byte
 passes Plain = is_plain_byte
+
+-- the sixteen bytes at this place, or those that are left there
+abbrev pub block : ℕ → List ℕ → List ℕ
+block at text = take 16 (drop at text)
+
+-- the place of the lowest bit that is set, or 16 if none is
+abbrev pub first_set : ℕ → ℕ
+first_set mask = if mask == 0 then 16 else trailing_zeros w64 mask
 
 -- the rest is empty, or begins with a byte at which the scan of a value ends
 abbrev pub EndsScan : Bool → List ℕ → Type 0
