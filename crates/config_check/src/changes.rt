@@ -200,7 +200,7 @@ fn with_lines(
 }
 
 /// What becomes of a text by what is proposed for it: by all of it if guesses are wanted, and else by what is safe.
-pub(crate) fn changed(
+pub(crate) fn changed_text(
     alloc: Global,
     rows: &[Row<'_>],
     options: &Options<'_>,

@@ -3,7 +3,7 @@
 use crate::aliases::Aliases;
 use crate::baseline::fingerprints;
 use crate::changes::{
-    Changed, Mended, Mender, Unchanged, change_file, changed, heed_rivals, keep_lines,
+    Changed, Mended, Mender, Unchanged, change_file, changed_text, heed_rivals, keep_lines,
 };
 use crate::diff::diff_of;
 use crate::failure::{Failure, failed, tell, written};
@@ -392,7 +392,7 @@ impl<'c, 't> Checking<'c, 't> {
             text,
             &mut proposals,
         )?;
-        Ok(Some(changed(alloc, rows, &self.options, guesses, file, text, &proposals)?))
+        Ok(Some(changed_text(alloc, rows, &self.options, guesses, file, text, &proposals)?))
     }
 
     /// All rows, which are read if they are not yet.
