@@ -16,7 +16,7 @@ use config_file::errors::FileError;
 use config_file::reader::Entries;
 use std::alloc::{AllocError, Global};
 
-/// A finding about an entry of a text, with what is suggested in its place.
+/// A finding about an entry of a text, with what is suggested in its place. The example of [`mend_text`] makes one.
 #[derive(Drop)]
 pub struct Proposal<'f> {
     /// The finding, and the value or the key that is suggested.
@@ -25,7 +25,7 @@ pub struct Proposal<'f> {
     pub is_guess: bool,
 }
 
-/// A change of an entry that mends its finding.
+/// A change of an entry that mends its finding. The example of [`mend_text`] makes one.
 #[derive(Drop)]
 pub struct Mend<'f> {
     /// How many entries of the text precede the entry.
@@ -36,7 +36,7 @@ pub struct Mend<'f> {
     pub safety: Safety,
 }
 
-/// A text in which findings are mended.
+/// A text in which findings are mended. The example of [`mend_text`] makes one.
 #[derive(Drop)]
 pub struct MendedText<'f> {
     /// The new text.
