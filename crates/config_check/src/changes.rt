@@ -43,15 +43,15 @@ pub(crate) struct Changed {
 
 /// Keeps what the findings of one file suggest.
 #[derive(Drop)]
-pub(crate) struct Mender<'d, 't> {
-    disk: &'d Disk<'t>,
+pub(crate) struct Mender<'t> {
+    disk: Disk<'t>,
     /// What is suggested so far, in the order of the entries. Nothing mends a file that Git does not read to its end.
     pub(crate) proposals: Vec<Proposal<'t>>,
 }
 
-impl<'d, 't> Mender<'d, 't> {
-    /// Keeps texts in this room.
-    pub(crate) fn new(alloc: Global, disk: &'d Disk<'t>) -> Mender<'d, 't> {
+impl<'t> Mender<'t> {
+    /// Keeps texts in the room of these files.
+    pub(crate) fn new(alloc: Global, disk: Disk<'t>) -> Mender<'t> {
         Mender {
             disk,
             proposals: Vec::new(alloc),

@@ -333,10 +333,9 @@ impl<'c, 't> Checking<'c, 't> {
         pass: Pass,
     ) -> Result<Looked, Failure<'static>> {
         let alloc = self.rt.alloc();
-        let options = self.options;
         let collects = matches!(pass, Pass::Looks { .. });
         let mut guesses = self.asked.guesses;
-        let mut mender = Some(Mender::new(alloc, &self.disk));
+        let mut mender = Some(Mender::new(alloc, self.disk.again()));
         let mut fixes = Vec::new(alloc);
         match pass {
             Pass::Writes(known) => {
@@ -347,6 +346,23 @@ impl<'c, 't> Checking<'c, 't> {
             Pass::Looks { guesses: wanted } => guesses = wanted,
         }
         fixes.reverse();
+        let (counts, proposals) = self.proposed(rows, file, text, mender, collects, fixes)?;
+        let changed = self.changed_by(rows, guesses, file, text, proposals)?;
+        Ok(Looked { counts, changed })
+    }
+
+    /// The counts of a text that is checked by these rows, and what is proposed for it, if that is kept.
+    fn proposed(
+        &mut self,
+        rows: &[Row<'_>],
+        file: &'t str,
+        text: &'t [u8],
+        mender: Option<Mender<'t>>,
+        collects: bool,
+        fixes: Vec<Mended>,
+    ) -> Result<(Counts, Vec<Proposal<'t>>), Failure<'static>> {
+        let alloc = self.rt.alloc();
+        let options = self.options;
         let writer = written(BufWriter::new(alloc, self.rt.stdout()))?;
         let mut source = Source::new(file.as_bytes(), text);
         let mut lines = Lines {
@@ -366,8 +382,7 @@ impl<'c, 't> Checking<'c, 't> {
             Some(mender) => mender.proposals,
             None => Vec::new(alloc),
         };
-        let changed = self.changed_by(rows, guesses, file, text, proposals)?;
-        Ok(Looked { counts, changed })
+        Ok((counts, proposals))
     }
 
     /// What becomes of a text that is checked by these rows, if something is proposed for it.
@@ -474,6 +489,25 @@ impl<'c, 't> Checking<'c, 't> {
             && matches!(self.asked.output, Output::Findings | Output::Fixed)
     }
 
+    /// The changes of which is told, with their lines if these are told too.
+    fn changes_of(
+        &self,
+        changed: Option<Result<Changed, Unchanged>>,
+    ) -> Result<Vec<Mended>, AllocError> {
+        let alloc = self.rt.alloc();
+        match changed {
+            Some(Ok(changed)) => {
+                let mut changed = changed;
+                if self.is_sarif() {
+                    keep_lines(alloc, &mut changed)?;
+                }
+                Ok(changed.changes)
+            }
+            Some(Err(_why)) => Ok(Vec::new(alloc)),
+            None => Ok(Vec::new(alloc)),
+        }
+    }
+
     /// Checks the text of a file, and writes its findings with what mends them.
     fn judge_and_tell(
         &mut self,
@@ -485,13 +519,7 @@ impl<'c, 't> Checking<'c, 't> {
         if counts.findings == 0 {
             return Ok(counts);
         }
-        let mut changes = Vec::new(self.rt.alloc());
-        if let Some(Ok(mut changed)) = changed {
-            if self.is_sarif() {
-                keep_lines(self.rt.alloc(), &mut changed)?;
-            }
-            changes = changed.changes;
-        }
+        let changes = self.changes_of(changed)?;
         Ok(self.look_by_all(file, text, Pass::Writes(changes))?.counts)
     }
 

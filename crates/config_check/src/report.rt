@@ -213,14 +213,14 @@ impl<'c> Report<'c> {
 
 /// Receives the findings of one file.
 #[derive(Drop)]
-pub(crate) struct Lines<'l, 's, 'r, 'c, 'k, 'w, W: Write> {
+pub(crate) struct Lines<'l, 's, 'r, 'c, 'k, 'w, 'm, W: Write> {
     pub(crate) alloc: Global,
     /// The rows by which the file is checked.
     pub(crate) rows: &'k [Row<'w>],
     pub(crate) report: &'r mut Report<'c>,
     pub(crate) source: &'s mut Source<'l>,
     /// What keeps the suggestions, if the file may be changed.
-    pub(crate) mender: Option<Mender<'k, 'l>>,
+    pub(crate) mender: Option<Mender<'m>>,
     /// Whether suggestions are only collected, and nothing is counted or written.
     pub(crate) collects: bool,
     /// What is known of the changes of the findings to come, the last first.
@@ -228,7 +228,7 @@ pub(crate) struct Lines<'l, 's, 'r, 'c, 'k, 'w, W: Write> {
     pub(crate) writer: W,
 }
 
-impl<W: Write> Lines<'_, '_, '_, '_, '_, '_, W> {
+impl<W: Write> Lines<'_, '_, '_, '_, '_, '_, '_, W> {
     /// How many findings before this one have the same file, code, key and value, if that is asked for.
     fn equal(&mut self, finding: &Finding<'_>) -> Result<u64, AllocError> {
         if !self.report.needs_fingerprints() {
@@ -370,7 +370,7 @@ impl<W: Write> Lines<'_, '_, '_, '_, '_, '_, W> {
     }
 }
 
-impl<W: Write> Receiver for Lines<'_, '_, '_, '_, '_, '_, W> {
+impl<W: Write> Receiver for Lines<'_, '_, '_, '_, '_, '_, '_, W> {
     ghost received = { λ _. None };
 
     /// Writes what is to be written about a finding.
