@@ -123,6 +123,9 @@ fn of_user(asked: &Asked<'_, '_>, value: &[u8]) -> Result<Option<Vec<u8>>, Stop>
         return Ok(None);
     };
     let (user, below) = rest.split_at(first_length(rest));
+    if user.is_empty() {
+        return Ok(None);
+    }
     match told(asked, HOME, user)? {
         Some(home) => Ok(Some(joined(asked.alloc, home, below, b"")?)),
         None => Ok(None),
