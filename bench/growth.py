@@ -85,6 +85,16 @@ class Includes(Given):
             pathlib.Path(self.folder, str(number)).write_text("[a]\n" + "\tb = 1\n" * entries, "ascii")
 
 
+class Urls(Given):
+    """A file with settings of this many URLs, and the one that is asked about."""
+
+    def __init__(self, count):
+        self.made, self.file = tempfile.TemporaryDirectory(), tempfile.TemporaryFile()
+        self.words, self.folder = ["get", "--file", "config", "--url=http://h/7/x", "http.proxy"], self.made.name
+        text = "".join(f'[http "http://h/{number}"]\n\tproxy = p\n' for number in range(count))
+        pathlib.Path(self.folder, "config").write_text(text, "ascii")
+
+
 class Section(Given):
     """A file with this many keys in a section whose name has as many letters, and the key that is asked for."""
 
@@ -160,6 +170,7 @@ SETTINGS = [
     ("tables of references", 10_000, Tables),
     ("included files of 100 entries", 400, lambda size: Includes(size, 100)),
     ("included files of one entry", 3_000, lambda size: Includes(size, 1)),
+    ("settings of URLs, for one of which is asked", 100_000, Urls),
     ("keys of a section with a long name", 10_000, Section),
     ("keys, one of them set", 100_000, lambda size: Edit(size, "set", "s.k9", "new")),
     ("keys, one put behind them", 100_000, lambda size: Edit(size, "set", "s.new", "v")),

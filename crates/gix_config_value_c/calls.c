@@ -110,6 +110,8 @@ const char *gcv_status_text(gcv_status status)
         return "the file is not written";
     case GCV_ASKS:
         return "a search needs a fact that it was not told";
+    case GCV_TOO_MANY_FACTS:
+        return "a search needs more facts than it takes";
     case GCV_BAD_FORMAT:
         return "Git does not know the format of the repository";
     }

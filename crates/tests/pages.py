@@ -219,10 +219,18 @@ def signs():
             yield f"docs/SIGNS.md, signs of {crate} {file.stem}", missing, []
 
 
+def columns():
+    rule = re.search(r"have at most (\d+) columns, but for (\w+) in 100", (ROOT / "CONTRIBUTING.md").read_text("utf-8"))
+    lines = [line for folder in ("specs", "proofs") for file in reference.CRATES.glob(f"*/{folder}/**/*.antt")
+             for line in file.read_text("utf-8").splitlines()]
+    wide = sum(len(line) > int(rule[1]) for line in lines)
+    yield f"lines over {rule[1]} columns ({wide} of {len(lines)}) are few", 100 * wide <= NUMBERS[rule[2]] * len(lines), True
+
+
 def main():
     results = examples.results(sys.argv[1:] == ["--with-tests"])
     for compared in (suffixes, integers, booleans, names, attributes, colors, spaces, paths, answers, lengths, places,
-                     bodies, reading, signs):
+                     bodies, reading, signs, columns):
         try:
             for what, known, told in compared():
                 results.append((f"{what}: {known} in the code, {told} on the page", known == told))

@@ -2,3 +2,4 @@ mod LineLemmas
 mod GivenLemmas
 mod ChoiceLemmas
 mod TypeLemmas
+mod KeyLemmas

@@ -8,6 +8,7 @@ ghost use Rattle.config_answers.specs.Answers.{ending_of, status_of};
 ghost use Rattle.config_answers.specs.Lines.{IsName};
 ghost use Rattle.config_answers.specs.Types.{Shows};
 
+use crate::keys::KeyList;
 use crate::line::{COMMAND, Form, Name, Origin, Place, Unfiled, push_line};
 use crate::typed::{Host, Outcome, Values, read_text};
 use config_file::{Scope, Setting};
@@ -84,11 +85,13 @@ impl Ending {
 /// assert!(rt; writer.output.is_empty());
 /// ```
 #[derive(Drop)]
-pub struct Writer {
+pub struct Writer<'t> {
     /// How they are written.
     pub form: Form,
     /// Which of the texts that they are from are no files.
     pub unfiled: Unfiled,
+    /// What lists their keys.
+    pub keys: KeyList<'t>,
     /// The text of a value.
     pub typed: Vec<u8>,
     /// What is written so far.
@@ -148,9 +151,9 @@ impl Answer<'_, '_> {
     }
 }
 
-impl Writer {
+impl<'t> Writer<'t> {
     /// Writes nothing yet.
-    pub fn new(alloc: Global, form: Form, unfiled: Unfiled) -> Writer
+    pub fn new(alloc: Global, form: Form, unfiled: Unfiled) -> Writer<'t>
         ensures output { result.output.items ≡ [] }
         ensures form { result.form ≡ form }
         ensures unfiled { result.unfiled ≡ unfiled }
@@ -158,6 +161,7 @@ impl Writer {
         Writer {
             form,
             unfiled,
+            keys: KeyList::new(alloc),
             typed: Vec::new(alloc),
             output: Vec::new(alloc),
         }
@@ -170,7 +174,7 @@ impl Writer {
         values: &Values<'_, H>,
         value: Option<&[u8]>,
         place: &Place<'_>,
-        name: Name<'_, '_>,
+        name: Name<'_, 't>,
     ) -> io::Result<Outcome>
         ensures puts { (key : List ℕ) → IsName name.entry key → IfOk result
             (let shows = Shows (H.dates values.now.host) (H.is_there values.now.host) values.now.homes
@@ -190,7 +194,14 @@ impl Writer {
             self.output.clear();
         }
         let value = value_of(outcome, value, &self.typed);
-        push_line(&mut self.output, &self.form, place, name, value)?;
+        push_line(
+            &mut self.keys,
+            &mut self.output,
+            &self.form,
+            place,
+            name,
+            value,
+        )?;
         Ok(outcome)
     }
 
@@ -199,7 +210,7 @@ impl Writer {
     pub fn put_setting<H: Host>(
         &mut self,
         values: &Values<'_, H>,
-        setting: &Setting<'_>,
+        setting: &Setting<'t>,
     ) -> io::Result<Outcome>
         ensures puts { (key : List ℕ)
             → IsListed (entry_of setting.now.entry).section (entry_of setting.now.entry).key key → IfOk result
@@ -217,7 +228,7 @@ impl Writer {
 
     /// Answers from the settings that are asked for. Nothing is written yet. It fails only if memory or the
     /// system refuses it.
-    pub fn answer<'s, 't, H: Host>(
+    pub fn answer<'s, H: Host>(
         &mut self,
         values: &Values<'_, H>,
         settings: &'s [Setting<'t>],
@@ -248,7 +259,7 @@ impl Writer {
 
     /// Answers from the settings that are asked for, or from this default, if there is one and no setting has a line.
     /// It is written under this key. Nothing is written yet. It fails only if memory or the system refuses it.
-    pub fn answer_or<'s, 't, H: Host>(
+    pub fn answer_or<'s, H: Host>(
         &mut self,
         values: &Values<'_, H>,
         settings: &'s [Setting<'t>],

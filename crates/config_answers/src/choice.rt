@@ -3,11 +3,11 @@ ghost use Rattle.std.specs.Prelude.{◌≡◌, ◌↔◌, ℕ, List, IsTrue, IfO
 ghost use Rattle.config_file.specs.Listing.{IsListed};
 ghost use Rattle.config_file.specs.Settings.{path_bytes};
 ghost use Rattle.config_file.specs.Views.{entry_of};
-ghost use Rattle.config_answers.specs.Choices.{choice_of, keys_of, FitsKey, FitsListed, FitsValue, IsWithin, Takes};
+ghost use Rattle.config_answers.specs.Choices.{choice_of, keys_of, FitsKey, FitsListed, FitsValue, IsWithin};
 
-use config_file::{Entry, Key, Scope, Setting};
+use config_file::{Entry, Key, Setting};
 use regex::bytes::Matcher;
-use std::alloc::{AllocError, Global};
+use std::alloc::AllocError;
 
 /// Which keys are asked for.
 ///
@@ -72,7 +72,7 @@ pub struct Choice<'k, 'p> {
 }
 
 /// The bytes of a value, which are empty for a key alone.
-fn bytes_of<'s>(setting: &'s Setting<'_>) -> &'s [u8]
+pub(crate) fn bytes_of<'s>(setting: &'s Setting<'_>) -> &'s [u8]
     ensures { result.now ≡ path_bytes setting.now }
 {
     match &setting.value {
@@ -130,11 +130,19 @@ impl Choice<'_, '_> {
     {
         match &self.keys {
             Keys::All => return Ok(true),
-            Keys::One(key) => return Ok(key.is_of(entry)),
+            Keys::One(key) => {
+                if !entry.has_key(key.name()) {
+                    return Ok(false);
+                }
+                // A copy is handed on, so that the entry itself needs no address.
+                let held = *entry;
+                return Ok(key.is_of(&held));
+            }
             _ => {}
         }
         self.listed.clear();
-        entry.push_key(&mut self.listed)?;
+        let held = *entry;
+        held.push_key(&mut self.listed)?;
         Ok(self.keys.has_listed(&self.listed))
     }
 
@@ -152,30 +160,5 @@ impl Choice<'_, '_> {
             Some(values) => values.is_match(value) != self.is_negated,
             None => true,
         }
-    }
-
-    /// The setting of an entry of a file of this scope, if it is asked for. It fails only if memory is refused.
-    #[inline(always)]
-    pub fn take<'t>(
-        &mut self,
-        alloc: Global,
-        scope: Scope,
-        file: &'t [u8],
-        entry: &Entry<'t>,
-    ) -> Result<Option<Setting<'t>>, AllocError>
-        ensures takes { (listed : List ℕ)
-            → IsListed (entry_of entry.now).section (entry_of entry.now).key listed
-            → IfOk result (Takes (choice_of self.old) scope (file.now, entry_of entry.now) listed) }
-        ensures same { choice_of self.new ≡ choice_of self.old }
-    {
-        if !self.has_key(entry)? {
-            return Ok(None);
-        }
-        let mut setting = Setting::of_entry(alloc, file, *entry)?;
-        setting.scope = scope;
-        if !self.has_value(bytes_of(&setting)) {
-            return Ok(None);
-        }
-        Ok(Some(setting))
     }
 }

@@ -4,6 +4,7 @@
 
 pub mod answer;
 pub mod choice;
+pub mod keys;
 pub mod laws;
 pub mod line;
 pub mod read;

@@ -6,6 +6,7 @@ ghost use Rattle.config_file.specs.Scope.{scope_name};
 ghost use Rattle.config_answers.specs.Lines.{letter_of, escape, escaped, is_plain, name_shown, origin_shown};
 ghost use Rattle.config_answers.specs.Lines.{gap, end, value_part, line, IsName, Lies, IsText, IsPlaceOf};
 
+use crate::keys::KeyList;
 use config_file::{Entry, Scope, Setting};
 use std::alloc::AllocError;
 
@@ -55,6 +56,7 @@ pub struct Unfiled {
 /// How settings are written.
 ///
 /// ```rust
+/// use config_answers::keys::KeyList;
 /// use config_answers::line::{Form, Name, Origin, Place, push_line};
 /// use config_file::Scope;
 ///
@@ -69,7 +71,7 @@ pub struct Unfiled {
 /// };
 /// let place = Place { origin: Origin::File, scope: Scope::Local, file: b"a\tb", line: 2 };
 /// let mut text = Vec::new(alloc);
-/// push_line(&mut text, &form, &place, Name::Text(b"core.bare"), Some(b"no"))?;
+/// push_line(&mut KeyList::new(alloc), &mut text, &form, &place, Name::Text(b"core.bare"), Some(b"no"))?;
 /// assert_eq!(rt; text.as_slice(), b"core.bare=no\n".as_slice());
 /// ```
 #[derive(Clone, Copy)]
@@ -110,6 +112,7 @@ pub enum Name<'s, 't> {
 /// Where a setting is.
 ///
 /// ```rust
+/// use config_answers::keys::KeyList;
 /// use config_answers::line::{Form, Name, Origin, Place, push_line};
 /// use config_file::Scope;
 ///
@@ -124,7 +127,7 @@ pub enum Name<'s, 't> {
 /// };
 /// let place = Place { origin: Origin::File, scope: Scope::Local, file: b"a\tb", line: 2 };
 /// let mut text = Vec::new(alloc);
-/// push_line(&mut text, &form, &place, Name::Text(b"core.bare"), None)?;
+/// push_line(&mut KeyList::new(alloc), &mut text, &form, &place, Name::Text(b"core.bare"), None)?;
 /// assert_eq!(rt; text.as_slice(), b"file:\"a\\tb\"\tcore.bare\n".as_slice());
 /// ```
 #[derive(Clone, Copy)]
@@ -141,6 +144,7 @@ pub struct Place<'s> {
 
 impl Unfiled {
     /// What the settings of a file of this scope and name are in.
+    #[inline(always)]
     pub fn origin(self, scope: Scope, file: &[u8]) -> Origin
         ensures { Lies self scope file.now result }
     {
@@ -157,6 +161,7 @@ impl Unfiled {
     }
 
     /// Where a setting is.
+    #[inline(always)]
     pub fn place<'s>(self, setting: &Setting<'s>) -> Place<'s>
         ensures { IsPlaceOf self setting.now result }
     {
@@ -261,13 +266,17 @@ fn push_origin(text: &mut Vec<u8>, form: &Form, place: &Place<'_>) -> Result<(),
 
 /// Appends the key under which a setting is written.
 #[inline(always)]
-fn push_key(text: &mut Vec<u8>, name: Name<'_, '_>) -> Result<(), AllocError>
+fn push_key<'t>(
+    keys: &mut KeyList<'t>,
+    text: &mut Vec<u8>,
+    name: Name<'_, 't>,
+) -> Result<(), AllocError>
     ensures { (key : List ℕ) → IsName name.entry key
         → OnOk result (text.new.items ≡ text.old.items ++ key) }
 {
     match name {
         Name::Text(key) => text.extend_from_slice(key),
-        Name::Of(entry) => entry.push_key(text),
+        Name::Of(entry) => keys.push(text, entry),
     }
 }
 
@@ -289,6 +298,7 @@ fn push_value(text: &mut Vec<u8>, form: &Form, value: Option<&[u8]>) -> Result<(
 }
 
 /// Appends the scope and the origin of a setting, as far as they are written.
+#[inline(always)]
 fn push_place(text: &mut Vec<u8>, form: &Form, place: &Place<'_>) -> Result<(), AllocError>
     ensures { OnOk result (text.new.items ≡ text.old.items
         ++ ((if form.now.shows_scope then scope_name place.now.scope ++ gap form.now else [])
@@ -307,13 +317,14 @@ fn push_place(text: &mut Vec<u8>, form: &Form, place: &Place<'_>) -> Result<(), 
 }
 
 /// Appends the line of a setting at this place, under this key and with this value, or without one for a key
-/// alone. It fails only if memory is refused.
+/// alone. The keys of entries are listed one after the other by `keys`. It fails only if memory is refused.
 #[inline(always)]
-pub fn push_line(
+pub fn push_line<'t>(
+    keys: &mut KeyList<'t>,
     text: &mut Vec<u8>,
     form: &Form,
     place: &Place<'_>,
-    name: Name<'_, '_>,
+    name: Name<'_, 't>,
     value: Option<&[u8]>,
 ) -> Result<(), AllocError>
     ensures { (key : List ℕ) → IsName name.entry key
@@ -322,7 +333,7 @@ pub fn push_line(
 {
     push_place(text, form, place)?;
     if form.shows_names {
-        push_key(text, name)?;
+        push_key(keys, text, name)?;
     }
     push_value(text, form, value)?;
     text.push(if form.null { 0 } else { b'\n' })?;

@@ -1,15 +1,16 @@
 //! Hands on what is asked for in a text and in the files that it includes.
-ghost use Rattle.std.specs.Prelude.{◌≡◌, ◌++◌, ◌∷◌, [], OnOk, IfErr};
+ghost use Rattle.std.specs.Prelude.{◌≡◌, ◌++◌, ◌∷◌, [], OnOk, IfOk, IfErr};
 ghost use Rattle.config_file.specs.Views.{entry_of};
 ghost use Rattle.config_file.specs.declared.settings.Setting as code;
 ghost use Rattle.config_answers.specs.Choices.{choice_of};
 ghost use Rattle.config_answers.specs.Given.{Gives, Reads};
-ghost use Rattle.config_answers.specs.Reading.{GivesNext, IsOfSystem};
+ghost use Rattle.config_answers.specs.Reading.{GivesNext, GivesPlain, GivesValue, IsOfSystem, in_one};
 
-use crate::choice::Choice;
+use crate::choice::{Choice, bytes_of};
+use config_file::walk::include_of;
 use config_file::{
-    AddError, Entry, FilePlace, Files, IncludeFault, Known, Next, Scope, Setting, Step, Walk,
-    next_of,
+    AddError, Entries, Entry, FilePlace, Files, Frame, Include, IncludeFault, Known, Next, Scope,
+    Setting, Step, Walk, next_of,
 };
 use std::alloc::{AllocError, Global};
 use std::io;
@@ -115,6 +116,35 @@ fn no_memory<'t>() -> Stopped<'t>
 }
 
 impl Choice<'_, '_> {
+    /// Hands on the setting of an entry whose key is asked for, if its value is.
+    #[inline(always)]
+    fn give_value<'t, R: Receiver<'t>>(
+        &mut self,
+        alloc: Global,
+        scope: Scope,
+        file: &'t [u8],
+        entry: Entry<'t>,
+        receiver: &mut R,
+    ) -> Result<(), Stopped<'t>>
+        ensures gives { OnOk result (GivesValue R.receives (choice_of self.old) scope
+            (file.now, entry_of entry.entry) receiver.old receiver.new) }
+        ensures same { choice_of self.new ≡ choice_of self.old }
+        ensures system { IfErr result IsOfSystem }
+    {
+        let mut setting = match Setting::of_entry(alloc, file, entry) {
+            Ok(setting) => setting,
+            Err(_) => return Err(no_memory()),
+        };
+        setting.scope = scope;
+        if !self.has_value(bytes_of(&setting)) {
+            return Ok(());
+        }
+        match receiver.receive(setting) {
+            Ok(()) => Ok(()),
+            Err(error) => Err(Stopped::System(error)),
+        }
+    }
+
     /// Hands on the setting of an entry, if it is asked for.
     #[inline(always)]
     fn give<'t, R: Receiver<'t>>(
@@ -130,15 +160,89 @@ impl Choice<'_, '_> {
         ensures same { choice_of self.new ≡ choice_of self.old }
         ensures system { IfErr result IsOfSystem }
     {
-        let setting = match self.take(alloc, scope, file, entry) {
-            Ok(Some(setting)) => setting,
-            Ok(None) => return Ok(()),
-            Err(_) => return Err(no_memory()),
-        };
-        match receiver.receive(setting) {
-            Ok(()) => Ok(()),
-            Err(error) => Err(Stopped::System(error)),
+        match self.has_key(entry) {
+            Ok(true) => self.give_value(alloc, scope, file, *entry, receiver),
+            Ok(false) => Ok(()),
+            Err(_) => Err(no_memory()),
         }
+    }
+
+    /// Hands on what is asked for of the entries of a file as far as they include none. Returns what is left of the
+    /// file.
+    fn give_plain<'t, R: Receiver<'t>>(
+        &mut self,
+        alloc: Global,
+        known: &Known<'_>,
+        scope: Scope,
+        place: FilePlace<'t>,
+        entries: Entries<'t>,
+        receiver: &mut R,
+    ) -> Result<Entries<'t>, Stopped<'t>>
+        ensures gives { IfOk result (λ left. GivesPlain known.now R.receives (choice_of self.old) scope
+            (in_one place.entry entries.entry) (in_one place.entry left) receiver.old receiver.new) }
+        ensures same { choice_of self.new ≡ choice_of self.old }
+        ensures system { IfErr result IsOfSystem }
+    {
+        let mut left = entries;
+        'plain: for _ in 0..u64::MAX {
+            let (section, line, rest) = left.parts();
+            if let Some(Ok(entry)) = left.next() {
+                match include_of(alloc, known, place, &entry) {
+                    Ok(Include::NotFollowed) => {
+                        match self.give(alloc, scope, place.name, &entry, receiver) {
+                            Ok(()) => continue 'plain,
+                            Err(error) => return Err(error),
+                        }
+                    }
+                    Ok(_) => {}
+                    Err(_) => return Err(no_memory()),
+                }
+            }
+            match Entries::resume(section, line, rest) {
+                Some(same) => return Ok(same),
+                None => return Err(no_memory()),
+            }
+        }
+        Err(no_memory())
+    }
+
+    /// Hands on what is asked for of the entries of the first file of a walk as far as they include none, if the walk
+    /// is in no other file. A walk copies what is left of its last file at each step, which takes longer.
+    fn give_first<'t, R: Receiver<'t>>(
+        &mut self,
+        alloc: Global,
+        known: &Known<'_>,
+        scope: Scope,
+        walk: &mut Walk<'t>,
+        receiver: &mut R,
+    ) -> Result<(), Stopped<'t>>
+        ensures gives { OnOk result (GivesPlain known.now R.receives (choice_of self.old) scope
+            walk.old.frames.items walk.new.frames.items receiver.old receiver.new) }
+        ensures same { choice_of self.new ≡ choice_of self.old }
+        ensures system { IfErr result IsOfSystem }
+    {
+        let [frame] = walk.frames() else {
+            return Ok(());
+        };
+        let place = frame.place;
+        let (section, line, rest) = frame.entries.parts();
+        let Some(entries) = Entries::resume(section, line, rest) else {
+            return Err(no_memory());
+        };
+        let entries = match self.give_plain(alloc, known, scope, place, entries, receiver) {
+            Ok(entries) => entries,
+            Err(error) => return Err(error),
+        };
+        let mut first = Walk::default();
+        if !first.go_on(Frame {
+            place,
+            entries,
+            forbids_urls: false,
+        }) {
+            return Err(no_memory());
+        }
+        *walk = first;
+        Ok(())
     }
 
     /// Hands on the next entry of a walk, if it is asked for, and enters the file that it includes. Returns false at
@@ -205,6 +309,10 @@ impl Choice<'_, '_> {
     {
         let mut walk = Walk::new(text.place, text.text);
         'steps: for _ in 0..u64::MAX {
+            match self.give_first(alloc, known, text.scope, &mut walk, receiver) {
+                Ok(()) => {}
+                Err(error) => return Err(error),
+            }
             let goes_on = match self.give_next(
                 alloc, files, known, text.scope, &mut walk, receiver,
             ) {

@@ -1,9 +1,11 @@
 -- Names that are not like each other.
-use Rattle.std.proofs.Common.{◌≡◌, ◌+◌, ◌<◌, ◌≤◌, ℕ, List, [], ◌∷◌, ◌++◌, length, take, get_or, Bool, true, false, inl, inr}
+use Rattle.std.proofs.Common.{◌≡◌, ◌+◌, ◌<◌, ◌≤◌, ℕ, List, [], ◌∷◌, ◌++◌, length, take, get_or, Bool, true}
+use Rattle.std.proofs.Common.{false, inl, inr}
 use Rattle.std.proofs.Common.{set, sym, ap, subst, refl, ◌∙◌, ◌⊎◌, ◌-◌, arith, ◌==◌}
 use Rattle.std.proofs.lemmas.Bool.{cases_Bool, eqb-true, eqb-false, eq-eqb, false≢true}
 use Rattle.std.proofs.lemmas.Int.{clamps}
-use Rattle.std.proofs.lemmas.List.{get_or-set_other, get_or-map, length-map, length-append, get_or-append_right, take_more}
+use Rattle.std.proofs.lemmas.List.{get_or-set_other, get_or-map, length-map, length-append}
+use Rattle.std.proofs.lemmas.List.{get_or-append_right, take_more}
 use Rattle.std.proofs.lemmas.Grind.{get_or-set_at}
 use Rattle.std.proofs.lemmas.List.Elements.{All-push}
 use Rattle.std.proofs.lemmas.List.Folds.{list_any_none}
@@ -31,7 +33,8 @@ bytes_more name i marks below inside so_far =
     let byte = to_ascii_lowercase (get_or name i 0) in
     rw (take_more name i 0 below)
     (All-push (IsMarkedByte (set marks byte true)) (take i name) (get_or name i 0)
-    (λ k d within. byte_kept marks byte _ inside (so_far k d within)) (get_or-set_at marks byte byte true false refl inside))
+    (λ k d within. byte_kept marks byte _ inside (so_far k d within))
+    (get_or-set_at marks byte byte true false refl inside))
 
 -- a name lacks each byte that is not marked
 pub unmarked_lacks : (marks : List Bool) (name : List ℕ) (x : ℕ) → All (IsMarkedByte marks) name
@@ -50,7 +53,8 @@ abbrev SharesEnd : List ℕ → List ℕ → Type 0
 SharesEnd u v = (0 < length u) × (0 < length v)
     × ((get_or u 0 0 ≡ get_or v 0 0) ⊎ (get_or u (length u - 1) 0 ≡ get_or v (length v - 1) 0))
 
-last_behind : (word a : List ℕ) → 0 < length a → get_or (word ++ a) (length (word ++ a) - 1) 0 ≡ get_or a (length a - 1) 0
+last_behind : (word a : List ℕ) → 0 < length a
+    → get_or (word ++ a) (length (word ++ a) - 1) 0 ≡ get_or a (length a - 1) 0
 last_behind word a some =
     let long = length-append word a in
     get_or-append_right word a (length word) (length (word ++ a) - 1) 0 refl (omega (arith, clamps, long, some))
@@ -74,7 +78,8 @@ alike_ends : (a b : List ℕ) → AreAlike a b → SharesEnd (lower a) (lower b)
 alike_ends a b alike = elim alike.how [
   | inl run ↦ left_end (lower a) (lower b) run.1 (omega (arith, run.0, length-map a to_ascii_lowercase))
   | inr (inl run) ↦
-      turned (lower b) (lower a) (left_end (lower b) (lower a) run.1 (omega (arith, run.0, length-map b to_ascii_lowercase)))
+      turned (lower b) (lower a) (left_end (lower b) (lower a) run.1
+      (omega (arith, run.0, length-map b to_ascii_lowercase)))
   | inr (inr (front, x, y, first, second, long, _, _)) ↦
       front_end front x y (lower a) (lower b) first second (omega (arith, long))
 ]
@@ -93,8 +98,10 @@ alike_share a b alike =
       more,
       elim ends.2 [
         | inl same ↦
-            inl (eq-eqb _ _ (sym (get_or-map to_ascii_lowercase a 0 0 0 some) ∙ same ∙ get_or-map to_ascii_lowercase b 0 0 0 more))
-        | inr same ↦ inr (eq-eqb _ _ (sym (get_or-map to_ascii_lowercase a (length a - 1) 0 0 (omega (arith, clamps, some)))
+            inl (eq-eqb _ _ (sym (get_or-map to_ascii_lowercase a 0 0 0 some) ∙ same
+            ∙ get_or-map to_ascii_lowercase b 0 0 0 more))
+        | inr same ↦ inr (eq-eqb _ _ (sym
+            (get_or-map to_ascii_lowercase a (length a - 1) 0 0 (omega (arith, clamps, some)))
             ∙ ap (λ n. get_or (lower a) (n - 1) 0) (sym long) ∙ same ∙ ap (λ n. get_or (lower b) (n - 1) 0) also
             ∙ get_or-map to_ascii_lowercase b (length b - 1) 0 0 (omega (arith, clamps, more))))
       ],

@@ -1,5 +1,6 @@
 -- Numbers are booleans.
-use Rattle.std.proofs.Common.{arith, ◌≢◌, ◌↔◌, ℕ, zero, suc, pos, negsuc, ℤ, inl, inr, List, Bool, true, false, None}
+use Rattle.std.proofs.Common.{arith, ◌≢◌, ◌↔◌, ℕ, zero, suc, pos, negsuc, ℤ, inl, inr, List, Bool, true}
+use Rattle.std.proofs.Common.{false, None}
 use Rattle.std.specs.Prelude.{IsTrue}
 use Rattle.config_text.specs.Value.{IsAccepted}
 use Rattle.gix_config_value.specs.Boolean.{BooleanText}

@@ -37,7 +37,8 @@ pub receives-trans : (a b c : Option (List Finding)) (bs cs : List Finding) → 
     → Receives a c (bs ++ cs)
 receives-trans a b c bs cs p q = grind (arith, append_assoc)
 
-receives-none : (a b c : Option (List Finding)) (bs : List Finding) → Receives a b bs → Receives b c [] → Receives a c bs
+receives-none : (a b c : Option (List Finding)) (bs : List Finding) → Receives a b bs → Receives b c []
+    → Receives a c bs
 receives-none a b c bs p q = rw append-nil at (receives-trans a b c bs [] p q)
 
 -- ---- counts
@@ -50,14 +51,16 @@ pub record AddsOne (s s' : Counts) : Type 0 where
   pub errors : s'.errors ≤ s.errors + 1
   pub warnings : s'.warnings ≤ s.warnings + 1
 
-counted_one : (severity : Severity) (s : Counts) → AddsOne s (counted severity (record s { entries = s.entries + 1 }))
+counted_one : (severity : Severity) (s : Counts)
+    → AddsOne s (counted severity (record s { entries = s.entries + 1 }))
 counted_one severity s = grind arith
 
 unknown_one : (severity : Severity) (s : Counts)
     → AddsOne s (counted severity (record s { entries = s.entries + 1; unknown = s.unknown + 1 }))
 unknown_one severity s = grind arith
 
-pub adds_one : (rows : List Row) (options : Options) (setting : Setting) (s s' : Counts) (x x' : Option (List Finding))
+pub adds_one : (rows : List Row) (options : Options) (setting : Setting) (s s' : Counts)
+    (x x' : Option (List Finding))
     → Reports rows options setting s s' x x' → AddsOne s s'
 adds_one rows options setting s s' x x' (line, adds, appended) = elim adds [
   | unknown is passed none after ↦ rw after (omega arith)
@@ -73,7 +76,8 @@ within_after s s' within adds = omega arith
 pub leaves_room : (s : Counts) → AreWithin s → s.entries + 1 < 2 ^ 64 → HasRoomForFinding s
 leaves_room s within room = omega arith
 
-pub are_none : (s : Counts) → s.entries ≡ 0 → s.unknown ≡ 0 → s.findings ≡ 0 → s.errors ≡ 0 → s.warnings ≡ 0 → s ≡ no_counts
+pub are_none : (s : Counts) → s.entries ≡ 0 → s.unknown ≡ 0 → s.findings ≡ 0 → s.errors ≡ 0 → s.warnings ≡ 0
+    → s ≡ no_counts
 are_none s a b c d e i = record { entries = a i; unknown = b i; findings = c i; errors = d i; warnings = e i }
 
 -- ---- a file
@@ -81,7 +85,8 @@ are_none s a b c d e i = record { entries = a i; unknown = b i; findings = c i; 
 -- these entries of the file were read, and the reader still has the others
 abbrev pub HasRead : List ℕ → List Entry → Entries → Type 0
 HasRead text entries reader =
-    (left : List Entry) (error : Option errors.FileError) → HasLeft reader left error → IsFile text (entries ++ left) error
+    (left : List Entry) (error : Option errors.FileError) → HasLeft reader left error
+    → IsFile text (entries ++ left) error
 
 module _ (rows : List Row) (options : Options) (file text : List ℕ) where
   all_first : (settings : List Setting) (error : Option errors.FileError) → HasSettings file text settings error
@@ -97,10 +102,14 @@ module _ (rows : List Row) (options : Options) (file text : List ℕ) where
       record { before = entries; after = left; error = error; is_file = read left error reads; are = are }
 
   -- the check ends after the findings of these settings
-  pub stops : (w x y : Option (List Finding)) (settings : List Setting) (s : Counts) → HasFirstSettings file text settings
+  pub stops : (w x y : Option (List Finding)) (settings : List Setting) (s : Counts)
+      → HasFirstSettings file text settings
       → ReportsAll rows options settings w x s → Receives x y [] → Fails rows options file text w y
-  stops w x y settings s first (list, received, report) none =
-      (list, receives-none w x y list received none, record { first = settings; of_file = first; s = s; report = report })
+  stops w x y settings s first (list, received, report) none = (
+    list,
+    receives-none w x y list received none,
+    record { first = settings; of_file = first; s = s; report = report },
+  )
 
   pub fails_starting : (w : Option (List Finding)) → Fails rows options file text w w
   fails_starting w =
@@ -144,7 +153,8 @@ module _ (rows : List Row) (options : Options) (file text : List ℕ) where
     one_read reader' entry gives left error h =
         rw append_assoc (so_far.read (entry_of entry ∷ left) error (gives left error h))
 
-    module _ (reader' : Entries) (entry : code.Entry) (setting : Setting) (gives : GivesEntry reader (Some (Ok entry)) reader')
+    module _ (reader' : Entries) (entry : code.Entry) (setting : Setting)
+        (gives : GivesEntry reader (Some (Ok entry)) reader')
         (is : IsSettingOf file (entry_of entry) setting) where
       -- one more setting was reported
       pub one_more : (x' : Option (List Finding)) (s' : Counts) → length reader'.rest.now < length reader.rest.now
@@ -156,7 +166,8 @@ module _ (rows : List Row) (options : Options) (file text : List ℕ) where
             entries = so_far.entries ++ entry_of entry ∷ [];
             settings = so_far.settings ++ setting ∷ [];
             read = one_read reader' entry gives;
-            are = all_zipped_more (IsSettingOf file) so_far.entries so_far.settings (entry_of entry) setting so_far.are is;
+            are = all_zipped_more (IsSettingOf file) so_far.entries so_far.settings
+                (entry_of entry) setting so_far.are is;
             all = (
               so_far.all.0 ++ said,
               receives-trans w x x' so_far.all.0 said so_far.all.1 after,
@@ -211,7 +222,8 @@ module _ (rows : List Row) (options : Options) (setting : Setting) (s : Counts) 
   said_nothing (Some text) meant is said none = absurd (cc)
 
   -- the key is reported
-  pub said_something : (reason meant : Option (List ℕ)) → IsSaidAs rows setting.key.items reason meant → is_some reason ≡ true
+  pub said_something : (reason meant : Option (List ℕ)) → IsSaidAs rows setting.key.items reason meant
+      → is_some reason ≡ true
       → ReportsSetting rows options setting s (findings_as s.entries setting reason meant)
       (counted (unknown_severity setting.key.items) (record s { entries = s.entries + 1; unknown = s.unknown + 1 }))
   said_something None meant said some = absurd (cc)

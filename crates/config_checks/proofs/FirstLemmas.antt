@@ -28,16 +28,21 @@ module _ {A : Type 0} (P : A → Type 0) where
   pub not_none : (xs : List A) (x : A) → IsFirst xs x → ¬ (All (λ y. ¬ (P y)) xs)
   not_none xs x p none = none p.place x p.inside (rw p.stands p.is)
 
-  pub first_within : (xs ys zs : List A) (x : A) → All (λ y. ¬ (P y)) xs → IsFirst ys x → IsFirst ((xs ++ ys) ++ zs) x
+  pub first_within : (xs ys zs : List A) (x : A) → All (λ y. ¬ (P y)) xs → IsFirst ys x
+      → IsFirst ((xs ++ ys) ++ zs) x
   first_within xs ys zs x none p =
       let inside = p.inside in
       let below : length xs + p.place < length (xs ++ ys) = omega (arith, inside, length-append xs ys) in
       record {
         place = length xs + p.place;
         inside = omega (arith, below, length-append (xs ++ ys) zs);
-        stands = get_or_append_left (xs ++ ys) zs x (length xs + p.place) below ∙ get_or-append-add xs ys p.place x ∙ p.stands;
+        stands = get_or_append_left (xs ++ ys) zs x (length xs + p.place) below
+            ∙ get_or-append-add xs ys p.place x ∙ p.stands;
         is = p.is;
-        first = rw (take-append-le (length xs + p.place) (xs ++ ys) zs (omega (arith, below)), take-append-add xs ys p.place)
+        first = rw (
+          take-append-le (length xs + p.place) (xs ++ ys) zs (omega (arith, below)),
+          take-append-add xs ys p.place,
+        )
             (All-append (λ y. ¬ (P y)) xs (take p.place ys) none p.first);
       }
 

@@ -1,5 +1,6 @@
 -- What mends a finding.
-use Rattle.std.proofs.Common.{◌≡◌, ◌≢◌, ◌≤◌, ◌<◌, ◌↔◌, ℕ, List, reverse, Bool, true, IsTrue, Option, None, Some, option_map}
+use Rattle.std.proofs.Common.{◌≡◌, ◌≢◌, ◌≤◌, ◌<◌, ◌↔◌, ℕ, List, reverse, Bool, true, IsTrue, Option, None}
+use Rattle.std.proofs.Common.{Some, option_map}
 use Rattle.std.proofs.Common.{refl, sym, ap, subst, ◌∙◌, if◌then◌else◌, Bor, arith}
 use Rattle.std.proofs.lemmas.Str.{IsUtf8-from_is_utf8, is_utf8-from_IsUtf8}
 use Rattle.std.specs.Str.{IsUtf8, is_utf8}
@@ -47,7 +48,8 @@ is_text t d is = rw (is_utf8-from_IsUtf8 t is) refl
 
 pub not_both : (options : Options) (row : Row) (value : Option (List ℕ)) (reason : Reason)
     → HasFinding options row value (Some reason) → ¬ (HasFinding options row value None)
-not_both options row value reason bad good = none_before reason (finding_once options row value None (Some reason) good bad)
+not_both options row value reason bad good =
+    none_before reason (finding_once options row value None (Some reason) good bad)
 
 module _ (rows : List Row) (options : Options) where
   pub clean_if : (key : List ℕ) (value : Option (List ℕ)) (row : Row) (b : Bool) → Decides rows key row
@@ -57,7 +59,8 @@ module _ (rows : List Row) (options : Options) where
     λ clean. is.1 (rw (row_once rows key clean.row row clean.decides decides) at clean.clean),
   )
 
-  module _ (setting : Setting) (code : Code) (new : List ℕ) (row : Row) (decides : Decides rows setting.key.items row) where
+  module _ (setting : Setting) (code : Code) (new : List ℕ) (row : Row)
+      (decides : Decides rows setting.key.items row) where
     pub mends_if : (b : Bool) → HasFinding options row (Some new) None
         → (IsTrue b ↔ (code ≡ NotAWord → IsOnlyMeant row.kind (value_of setting) new))
         → IsTrue b ↔ MendsValue rows options setting code new
@@ -72,7 +75,8 @@ module _ (rows : List Row) (options : Options) where
 
 -- ---- the only word that is meant
 
-module _ (list : WordList) (t word : List ℕ) (words : List (Bor (List ℕ))) (is : words ≡ reverse list.words.items) where
+module _ (list : WordList) (t word : List ℕ) (words : List (Bor (List ℕ)))
+    (is : words ≡ reverse list.words.items) where
   pub only_last : (last : Bor (List ℕ)) (b : Bool) → IsMeant words t (Some last) → (IsTrue b ↔ (last.now ≡ word))
       → IsTrue b ↔ IsOnlyMeant (kinds.Word list) (Some t) word
   only_last last b meant same = (
@@ -93,7 +97,8 @@ only_key rows key suggested unknown other b this meant same = (
   λ only. same.1 (let both : Some other ≡ Some suggested = meant ∙ only unknown this in cc),
 )
 
-pub key_if : (rows back : List Row) (options : Options) (setting : Setting) (key : List ℕ) (b : Bool) → back ≡ reverse rows
+pub key_if : (rows back : List Row) (options : Options) (setting : Setting) (key : List ℕ) (b : Bool)
+    → back ≡ reverse rows
     → IsClean rows options key (value_of setting) → (IsTrue b ↔ IsOnlyKey back setting.key.items key)
     → IsTrue b ↔ MendsKey rows options setting key
 key_if rows back options setting key b order clean only = (
@@ -104,7 +109,8 @@ key_if rows back options setting key b order clean only = (
 -- ---- no change
 
 pub no_name : (rows : List Row) (options : Options) (setting : Setting) (f : Finding) (key : List ℕ) (change : Fix)
-    → f.suggested_value ≡ None → f.suggested_key ≡ Some key → ((name : List ℕ) → ¬ (IsRenamed setting.key.items key name))
+    → f.suggested_value ≡ None → f.suggested_key ≡ Some key
+    → ((name : List ℕ) → ¬ (IsRenamed setting.key.items key name))
     → ¬ (Mends rows options setting f change)
 no_name rows options setting f key (Value new) none some other (meant, mends) =
     let both : None ≡ Some new.now = sym none ∙ meant in absurd (cc)
@@ -130,7 +136,8 @@ module _ (setting : Setting) where
     λ safe. is.1 (rw (cut_same safe.is cut) at safe.mistyped),
   )
 
-  pub safe_value : (code : Code) (new value : List ℕ) (b : Bool) → value_of setting ≡ Some value → code ≢ NotCanonical
+  pub safe_value : (code : Code) (new value : List ℕ) (b : Bool) → value_of setting ≡ Some value
+      → code ≢ NotCanonical
       → code ≢ OtherValue → (IsTrue b ↔ IsTypingError value new) → IsTrue b ↔ IsSafeValue setting code new
   safe_value code new value b held no_spelling unasked is = (
     λ yes. mistyped value held (is.0 yes),

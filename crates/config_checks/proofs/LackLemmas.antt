@@ -1,5 +1,6 @@
 -- A text that lacks bytes of another one is at least as many edits away.
-use Rattle.std.proofs.Common.{◌≡◌, ◌+◌, ◌<◌, ◌≤◌, get_or, ℕ, zero, suc, List, [], ◌∷◌, ◌++◌, length, nat_eq, refl, sym, ap}
+use Rattle.std.proofs.Common.{◌≡◌, ◌+◌, ◌<◌, ◌≤◌, get_or, ℕ, zero, suc, List, [], ◌∷◌, ◌++◌, length, nat_eq}
+use Rattle.std.proofs.Common.{refl, sym, ap}
 use Rattle.std.proofs.Common.{◌∙◌, arith, append_assoc, Bool, true, inl, inr, ◌==◌}
 use Rattle.std.proofs.lemmas.Int.{clamps}
 use Rattle.std.proofs.lemmas.List.Folds.{list_any-append}
@@ -33,7 +34,8 @@ cost_lacking z [] lack j = omega arith
 cost_lacking z (y ∷ ys) lack zero = grind (arith, nat_tests)
 cost_lacking z (y ∷ ys) lack (suc j) = grind (arith, nat_tests, cost_lacking z ys)
 
-row_least : (c before : ℕ → ℕ) (first m : ℕ) → ((j : ℕ) → m ≤ before j + 1) → ((j : ℕ) → m ≤ before j + c j) → m ≤ first → (k : ℕ)
+row_least : (c before : ℕ → ℕ) (first m : ℕ) → ((j : ℕ) → m ≤ before j + 1) → ((j : ℕ) → m ≤ before j + c j)
+    → m ≤ first → (k : ℕ)
     → m ≤ next_row c before first k
 unfolding next_row
 row_least c before first m above across begins zero = begins
@@ -52,7 +54,8 @@ rows_lacking (x ∷ xs) ys n m before so_far fits k = elim (cases_Bool (without 
       rw lack (omega (arith, more))
   | inr has ↦
       let more = rows_lacking xs ys (suc n) m (next_row (cost_at nat_eq x ys) before (suc n))
-      (row_least (cost_at nat_eq x ys) before (suc n) m (λ j. omega (arith, so_far j)) (λ j. omega (arith, so_far j))
+      (row_least (cost_at nat_eq x ys) before (suc n) m (λ j. omega (arith, so_far j)) (λ j.
+      omega (arith, so_far j))
       (omega (arith, fits))) (omega (arith, fits)) k in
       rw has more
 ]
@@ -72,7 +75,8 @@ any_here front x behind = grind (arith, list_any-append (λ y. x == y) front (x 
 all_had : (front xs : List ℕ) → filter (without (front ++ xs)) xs ≡ []
 all_had front [] = refl
 all_had front (x ∷ xs) =
-    rw (any_here front x xs) (ap (λ l. filter (without l) xs) (sym (append_assoc front (x ∷ []) xs)) ∙ all_had (front ++ x ∷ []) xs)
+    rw (any_here front x xs) (ap (λ l. filter (without l) xs) (sym (append_assoc front (x ∷ []) xs))
+    ∙ all_had (front ++ x ∷ []) xs)
 
 lacks_swapped : (xs ys : List ℕ) → IsSwap xs ys → without ys ≡ without xs
 lacks_swapped xs ys swap i = λ z. ap not (any_swapped (λ y. z == y) xs ys swap) i
@@ -87,7 +91,8 @@ any_lower : (x : ℕ) (b : List ℕ) → list_any (λ y. to_ascii_lowercase x ==
 any_lower x [] = refl
 any_lower x (y ∷ b) = ap (λ t. is_same_byte x y || t) (any_lower x b)
 
-lacking_lower : (a b : List ℕ) → length (filter (without (lower b)) (lower a)) ≡ length (filter (λ x. not (has_byte b x)) a)
+lacking_lower : (a b : List ℕ) → length (filter (without (lower b)) (lower a))
+    ≡ length (filter (λ x. not (has_byte b x)) a)
 lacking_lower [] b = refl
 lacking_lower (x ∷ a) b =
     let same : without (lower b) (to_ascii_lowercase x) ≡ not (has_byte b x) = ap not (any_lower x b) in
@@ -110,7 +115,8 @@ lacking_edits a b n (counted not is) =
 filtered_front : (p : ℕ → Bool) (xs : List ℕ) (i : ℕ) → length (filter p (take i xs)) ≤ length (filter p xs)
 filtered_front p xs i =
     let whole : length (filter p xs) ≡ length (filter p (take i xs)) + length (filter p (drop i xs)) =
-    ap (λ l. length (filter p l)) (sym (take-append-drop i xs)) ∙ ap length (filter-append p (take i xs) (drop i xs))
+    ap (λ l. length (filter p l)) (sym (take-append-drop i xs))
+    ∙ ap length (filter-append p (take i xs) (drop i xs))
     ∙ length-append (filter p (take i xs)) (filter p (drop i xs)) in
     omega (arith, whole)
 
@@ -142,7 +148,8 @@ end_told text end word is =
     sym (drop-map to_ascii_lowercase (length text - length end) text) ∙ ap (drop (length text - length end)) is
     ∙ ap (λ n. drop n (word ++ lower end)) (sym long) ∙ drop-append_seam word (lower end)
 
-pub told_end : (text end : List ℕ) (n : ℕ) → SameWord (drop n text) end → (word : List ℕ) × (lower text ≡ word ++ lower end)
+pub told_end : (text end : List ℕ) (n : ℕ) → SameWord (drop n text) end
+    → (word : List ℕ) × (lower text ≡ word ++ lower end)
 told_end text end n same = (
   lower (take n text),
   ap lower (sym (take-append-drop n text)) ∙ map-append to_ascii_lowercase (take n text) (drop n text)

@@ -23,25 +23,30 @@ next_lower n b = ((n % 32768) * 31 + b) % 32768
 -- names that are the same, ignoring ASCII case, have one number
 same_number : (a b : List ℕ) → SameWord a b → number_of a ≡ number_of b
 same_number a b same =
-    sym (fold-map next_lower to_ascii_lowercase 0 a) ∙ ap (fold next_lower 0) same ∙ fold-map next_lower to_ascii_lowercase 0 b
+    sym (fold-map next_lower to_ascii_lowercase 0 a) ∙ ap (fold next_lower 0) same
+    ∙ fold-map next_lower to_ascii_lowercase 0 b
 
 marked_same : (marks : List Bool) (a b : List ℕ) → SameWord a b → HasMark marks a → HasMark marks b
 marked_same marks a b same is = subst (λ n. get_or marks n true ≡ true) (same_number a b same) is
 
 -- a name without a mark is that of no row
-pub none_moved : (rows : List Row) (marks : List Bool) (key : Key) → AreMarked rows marks → ¬ (HasMark marks key.name)
+pub none_moved : (rows : List Row) (marks : List Bool) (key : Key) → AreMarked rows marks
+    → ¬ (HasMark marks key.name)
     → HasNone (IsMovedRow key) rows
-none_moved rows marks key marked lacks k d inside moved = lacks (marked_same marks _ _ moved.name (marked k d inside).name)
+none_moved rows marks key marked lacks k d inside moved =
+    lacks (marked_same marks _ _ moved.name (marked k d inside).name)
 
 -- no row covers a key that lacks marks
-none_covers : (rows : List Row) (marks : List Bool) (t : List ℕ) → AreMarked rows marks → (lacks : LacksMarks marks t)
+none_covers : (rows : List Row) (marks : List Bool) (t : List ℕ) → AreMarked rows marks
+    → (lacks : LacksMarks marks t)
     → CoversNone rows lacks.key
 none_covers rows marks t marked lacks k d inside covers = elim covers.name [
   | inl star ↦ lacks.section (marked_same marks _ _ covers.section ((marked k d inside).section star))
   | inr same ↦ lacks.name (marked_same marks _ _ same (marked k d inside).name)
 ]
 
-pub unknown_by_marks : (rows : List Row) (marks : List Bool) (t : List ℕ) → AreMarked rows marks → LacksMarks marks t
+pub unknown_by_marks : (rows : List Row) (marks : List Bool) (t : List ℕ) → AreMarked rows marks
+    → LacksMarks marks t
     → IsUnknown rows t
 unknown_by_marks rows marks t marked lacks = inr (lacks.key, lacks.cut, none_covers rows marks t marked lacks)
 
@@ -57,8 +62,13 @@ abbrev pub Keeps : List Bool → List Bool → Type 0
 Keeps marks more = (n : ℕ) → get_or marks n true ≡ true → get_or more n true ≡ true
 
 -- the rows so far are marked, and one more
-pub marked_more : (rows : List Row) (i : ℕ) (row : Row) (marks more : List Bool) → i < length rows → get_or rows i row ≡ row
+pub marked_more : (rows : List Row) (i : ℕ) (row : Row) (marks more : List Bool) → i < length rows
+    → get_or rows i row ≡ row
     → AreMarked (take i rows) marks → Keeps marks more → IsMarked more row → AreMarked (take (i + 1) rows) more
 marked_more rows i row marks more below here so_far kept also =
     rw (take_more rows i row below here) (All-push (IsMarked more) (take i rows) row (λ k d inside.
-    let was = so_far k d inside in record { name = kept _ was.name; section = λ star. kept _ (was.section star) }) also)
+    let was = so_far k d inside in record {
+      name = kept _ was.name;
+      section = λ star.
+          kept _ (was.section star);
+    }) also)

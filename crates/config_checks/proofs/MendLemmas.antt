@@ -1,6 +1,8 @@
 -- A text in which findings are mended.
-use Rattle.std.proofs.Common.{◌≡◌, ℕ, zero, suc, Bool, true, false, List, [], ◌∷◌, ◌++◌, map, length, Option, None, Some}
-use Rattle.std.proofs.Common.{Ok, refl, sym, ap, subst, ◌∙◌, inl, inr, append_assoc, append-nil, option_copied, MatchOption}
+use Rattle.std.proofs.Common.{◌≡◌, ℕ, zero, suc, Bool, true, false, List, [], ◌∷◌, ◌++◌, map, length, Option}
+use Rattle.std.proofs.Common.{None, Some}
+use Rattle.std.proofs.Common.{Ok, refl, sym, ap, subst, ◌∙◌, inl, inr, append_assoc, append-nil}
+use Rattle.std.proofs.Common.{option_copied, MatchOption}
 use Rattle.std.proofs.Common.{if◌then◌else◌, ◌+◌}
 use Rattle.std.proofs.lemmas.List.{length-append}
 use Rattle.std.proofs.lemmas.Slice.Zip.{all_zipped_more}
@@ -20,7 +22,8 @@ use Rattle.config_file.proofs.Steps.{file_begins}
 use Rattle.config_edit.specs.declared.Change.{Change}
 use Rattle.config_edit.specs.declared.EditError.{EditError}
 use Rattle.config_edit.specs.declared.EditError.TheVariants as error
-use Rattle.config_edit.specs.Edit.{Content, content, HasValue, IsChanged, ChangesEach, ChangesEntries, RefusesChanges}
+use Rattle.config_edit.specs.Edit.{Content, content, HasValue, IsChanged, ChangesEach, ChangesEntries}
+use Rattle.config_edit.specs.Edit.{RefusesChanges}
 use Rattle.config_edit.specs.Edit as edit
 use Rattle.config_checks.specs.declared.code.Code.{Code}
 use Rattle.config_checks.specs.declared.fix.Fix.{Fix}
@@ -34,7 +37,8 @@ use Rattle.config_checks.specs.declared.row.Row.{Row}
 use Rattle.config_checks.specs.declared.setting.Setting.{Setting}
 use Rattle.config_checks.specs.Findings.{Finding, finding_of}
 use Rattle.config_checks.specs.Fixes.{IsClean, IsSafe, IsSafeName, IsSafeValue, HasSafety, Mends}
-use Rattle.config_checks.specs.Mending.{name_given, value_given, change_of, IsAsSafe, IsWanted, IsMend, HasMends, IsCleanNow, RefusesMending}
+use Rattle.config_checks.specs.Mending.{name_given, value_given, change_of, IsAsSafe, IsWanted, IsMend}
+use Rattle.config_checks.specs.Mending.{HasMends, IsCleanNow, RefusesMending}
 use Rattle.config_checks.specs.Mending as mending
 use Rattle.config_checks.specs.Report.{HasSettings}
 use Rattle.config_checks.specs.Settings.{IsSettingOf, value_of}
@@ -43,7 +47,8 @@ use Rattle.config_checks.proofs.RenamedLemmas.{clean_value, clean_name}
 
 -- ---- lists
 
-get_more : {A : Type 0} (xs more : List A) (i : ℕ) (x : A) → slice_get xs i ≡ Some x → slice_get (xs ++ more) i ≡ Some x
+get_more : {A : Type 0} (xs more : List A) (i : ℕ) (x : A) → slice_get xs i ≡ Some x
+    → slice_get (xs ++ more) i ≡ Some x
 get_more [] more i x e = absurd (cc)
 get_more (y ∷ ys) more zero x e = e
 get_more (y ∷ ys) more (suc i) x e = get_more ys more i x e
@@ -66,7 +71,8 @@ get_zipped R (w ∷ xs) (y ∷ ys) zero x all e =
 get_zipped R (w ∷ xs) (y ∷ ys) (suc i) x all e = get_zipped R xs ys i x all.1 e
 get_zipped R xs ys i x all e = absurd all
 
-pub get_one : {A : Type 0} (P : A → Type 0) (xs : List A) (i : ℕ) (x : A) → AllByRecursion P xs → slice_get xs i ≡ Some x → P x
+pub get_one : {A : Type 0} (P : A → Type 0) (xs : List A) (i : ℕ) (x : A) → AllByRecursion P xs
+    → slice_get xs i ≡ Some x → P x
 get_one P [] i x all e = absurd (cc)
 get_one P (y ∷ ys) zero x all e = let same : y ≡ x = cc in subst P same all.0
 get_one P (y ∷ ys) (suc i) x all e = get_one P ys i x all.1 e
@@ -74,12 +80,14 @@ get_one P (y ∷ ys) (suc i) x all e = get_one P ys i x all.1 e
 get_same : {A : Type 0} (xs : List A) (i : ℕ) (x y : A) → slice_get xs i ≡ Some x → slice_get xs i ≡ Some y → x ≡ y
 get_same xs i x y p q = let both : Some x ≡ Some y = sym p ∙ q in cc
 
-pub all_weaker : {A : Type 0} (P Q : A → Type 0) → ((x : A) → P x → Q x) → (xs : List A) → AllByRecursion P xs → AllByRecursion Q xs
+pub all_weaker : {A : Type 0} (P Q : A → Type 0) → ((x : A) → P x → Q x) → (xs : List A) → AllByRecursion P xs
+    → AllByRecursion Q xs
 all_weaker P Q so [] all = tt
 all_weaker P Q so (x ∷ xs) all = (so x all.0, all_weaker P Q so xs all.1)
 
 all_both : {A B : Type 0} (f : A → B) (P : A → Type 0) (Q : B → Type 0) (R : A → Type 0)
-    → ((x : A) → P x → Q (f x) → R x) → (xs : List A) → AllByRecursion P xs → AllByRecursion Q (map f xs) → AllByRecursion R xs
+    → ((x : A) → P x → Q (f x) → R x) → (xs : List A) → AllByRecursion P xs → AllByRecursion Q (map f xs)
+    → AllByRecursion R xs
 all_both f P Q R so [] p q = tt
 all_both f P Q R so (x ∷ xs) p q = (so x p.0 q.0, all_both f P Q R so xs p.1 q.1)
 
@@ -92,12 +100,14 @@ module _ (file text : List ℕ) where
     pub read : HasRead text entries reader
     pub are : AllZip (IsSettingOf file) entries settings
 
-  pub read_start : (reader : Entries) → reader.section ≡ None → Begins text reader.line reader.rest.now → AreRead reader []
+  pub read_start : (reader : Entries) → reader.section ≡ None → Begins text reader.line reader.rest.now
+      → AreRead reader []
   read_start reader none begins =
       record { entries = []; read = λ left error has. file_begins reader text left error none begins has; are = tt }
 
   module _ (reader : Entries) (settings : List Setting) (so_far : AreRead reader settings) where
-    pub read_more : (reader' : Entries) (entry : code.Entry) (setting : Setting) → GivesEntry reader (Some (Ok entry)) reader'
+    pub read_more : (reader' : Entries) (entry : code.Entry) (setting : Setting)
+        → GivesEntry reader (Some (Ok entry)) reader'
         → IsSettingOf file (entry_of entry) setting → AreRead reader' (settings ++ setting ∷ [])
     read_more reader' entry setting gives is = record {
       entries = so_far.entries ++ entry_of entry ∷ [];
@@ -105,7 +115,8 @@ module _ (file text : List ℕ) where
       are = all_zipped_more (IsSettingOf file) so_far.entries settings (entry_of entry) setting so_far.are is;
     }
 
-    pub read_all : (error : Option errors.FileError) → HasLeft reader [] error → HasSettings file text settings error
+    pub read_all : (error : Option errors.FileError) → HasLeft reader [] error
+        → HasSettings file text settings error
     read_all error left = (so_far.entries, rw append-nil at (so_far.read [] error left), so_far.are)
 
 -- ---- which changes are wanted
@@ -124,10 +135,13 @@ module _ (rows : List Row) (options : Options) (setting : Setting) (f : Finding)
       let names = cut_same (rw keys at from.becomes) to.becomes in
       let same : x.now ≡ y.now = sym from.last ∙ ap (λ k. k.name) names ∙ to.last in
       subst (λ name. IsSafeName setting name) same safe
-  same_safe code (Value x) (Name y) (p, _) (_, _, none, _, _, _) safe = let both : None ≡ Some x.now = sym none ∙ p in absurd (cc)
-  same_safe code (Name x) (Value y) (_, _, none, _, _, _) (q, _) safe = let both : None ≡ Some y.now = sym none ∙ q in absurd (cc)
+  same_safe code (Value x) (Name y) (p, _) (_, _, none, _, _, _) safe =
+      let both : None ≡ Some x.now = sym none ∙ p in absurd (cc)
+  same_safe code (Name x) (Value y) (_, _, none, _, _, _) (q, _) safe =
+      let both : None ≡ Some y.now = sym none ∙ q in absurd (cc)
 
-module _ (rows : List Row) (options : Options) (guesses : Bool) (settings : List Setting) (proposal : Proposal) where
+module _ (rows : List Row) (options : Options) (guesses : Bool) (settings : List Setting)
+    (proposal : Proposal) where
   abbrev pub IsOne : Mend → Type 0
   IsOne mend = IsMend rows options guesses settings proposal mend
 
@@ -137,13 +151,16 @@ module _ (rows : List Row) (options : Options) (guesses : Bool) (settings : List
 
     module _ (setting : Setting) (stands : slice_get settings entry ≡ Some setting) where
       same_setting : (mend : Mend) (is : IsOne mend) → is.setting ≡ setting
-      same_setting mend is = get_same settings entry is.setting setting (rw (same_entry mend is) at is.stands) stands
+      same_setting mend is = get_same settings entry is.setting setting
+          (rw (same_entry mend is) at is.stands) stands
 
       own_mends : (mend : Mend) → IsOne mend → Mends rows options setting (finding_of proposal.finding) mend.fix
       own_mends mend is = rw (same_setting mend is) at is.mends
 
-      module _ (fix : Fix) (own safety : Safety) (mends : Mends rows options setting (finding_of proposal.finding) fix)
-          (has : HasSafety setting proposal.finding.code fix own) (told : safety ≡ (if proposal.is_guess then Unsafe else own)) where
+      module _ (fix : Fix) (own safety : Safety)
+          (mends : Mends rows options setting (finding_of proposal.finding) fix)
+          (has : HasSafety setting proposal.finding.code fix own)
+          (told : safety ≡ (if proposal.is_guess then Unsafe else own)) where
         as_safe : (b : Bool) (s : Safety) → proposal.is_guess ≡ b → HasSafety setting proposal.finding.code fix s
             → IsAsSafe proposal setting fix (if b then Unsafe else s)
         as_safe true s is so = inl is
@@ -161,7 +178,8 @@ module _ (rows : List Row) (options : Options) (guesses : Bool) (settings : List
         }
 
         -- what is safe is wanted, and so is all if guesses are
-        safe_wanted : (s : Safety) → HasSafety setting proposal.finding.code fix s → IsSafe setting proposal.finding.code fix
+        safe_wanted : (s : Safety) → HasSafety setting proposal.finding.code fix s
+            → IsSafe setting proposal.finding.code fix
             → IsWanted guesses s
         safe_wanted Safe so safe = tt
         safe_wanted Unsafe so safe = absurd (so safe)
@@ -174,19 +192,22 @@ module _ (rows : List Row) (options : Options) (guesses : Bool) (settings : List
             → IsAsSafe proposal setting other s → IsWanted guesses s → IsWanted guesses safety
         wanted_too other Safe also (sure, safe) wanted =
             let here = safe_wanted own has
-            (same_safe rows options setting (finding_of proposal.finding) proposal.finding.code other fix also mends safe) in
+            (same_safe rows options setting
+            (finding_of proposal.finding) proposal.finding.code other fix also mends safe) in
             rw (told, sure) here
         wanted_too other Unsafe also so wanted = any_wanted safety wanted
 
         pub unwanted : ¬ (IsWanted guesses safety) → (mend : Mend) → ¬ (IsOne mend)
         unwanted never mend is =
-            never (wanted_too mend.fix mend.safety (own_mends mend is) (rw (same_setting mend is) at is.safety) is.wanted)
+            never (wanted_too mend.fix mend.safety (own_mends mend is)
+            (rw (same_setting mend is) at is.safety) is.wanted)
 
 -- ---- what a change makes of its entry
 
 -- the entry that the change names is changed
 abbrev IsChangedAt : List Content → List Content → Change → Type 0
-IsChangedAt old new change = (x y : Content) × (slice_get old change.entry ≡ Some x) × (slice_get new change.entry ≡ Some y)
+IsChangedAt old new change = (x y : Content) × (slice_get old change.entry ≡ Some x)
+    × (slice_get new change.entry ≡ Some y)
     × IsChanged change x y
 
 changed_more : (old new : List Content) (x y : Content) (change : Change) → IsChangedAt old new change
@@ -198,7 +219,8 @@ one_longer : (old new : List Content) (x y : Content) → length old ≡ length 
     → length (old ++ x ∷ []) ≡ length (new ++ y ∷ [])
 one_longer old new x y same = length-append old (x ∷ []) ∙ ap (λ n. n + 1) same ∙ sym (length-append new (y ∷ []))
 
-pub as_many : {changes : List Change} {old new : List Content} → ChangesEach changes old new → length old ≡ length new
+pub as_many : {changes : List Change} {old new : List Content} → ChangesEach changes old new
+    → length old ≡ length new
 as_many edit.none = refl
 as_many (edit.kept x {old = old} {new = new} each) = one_longer old new x x (as_many each)
 as_many (edit.changed change x y {old = old} {new = new} each place is) = one_longer old new x y (as_many each)
@@ -207,7 +229,8 @@ changed_at : {changes : List Change} {old new : List Content} → ChangesEach ch
     → AllByRecursion (IsChangedAt old new) changes
 changed_at edit.none = tt
 changed_at (edit.kept x {changes = changes} {old = old} {new = new} each) =
-    all_weaker (IsChangedAt old new) (IsChangedAt (old ++ x ∷ []) (new ++ x ∷ [])) (changed_more old new x x) changes (changed_at each)
+    all_weaker (IsChangedAt old new) (IsChangedAt (old ++ x ∷ []) (new ++ x ∷ []))
+    (changed_more old new x x) changes (changed_at each)
 changed_at (edit.changed change x y {changes = changes} {old = old} {new = new} each place is) =
     let P = IsChangedAt (old ++ x ∷ []) (new ++ y ∷ []) in
     let here : P change =
@@ -241,16 +264,19 @@ module _ (rows : List Row) (options : Options) (guesses : Bool) (settings : List
   abbrev IsSome : Mend → Type 0
   IsSome mend = (proposal : Proposal) × IsMend rows options guesses settings proposal mend
 
-  all_mends : {proposals : List Proposal} {mends : List Mend} → HasMends rows options guesses settings proposals mends
+  all_mends : {proposals : List Proposal} {mends : List Mend}
+      → HasMends rows options guesses settings proposals mends
       → AllByRecursion IsSome mends
   all_mends mending.none = tt
   all_mends (mending.mended proposal mend {mends = mends} have is) =
       all_appended IsSome mends (mend ∷ []) (all_mends have) ((proposal, is), tt)
   all_mends (mending.left proposal have none) = all_mends have
 
-  module _ (file : List ℕ) (entries entries' : List Entry) (now : List Setting) (read : AllByRecursion IsRead entries)
+  module _ (file : List ℕ) (entries entries' : List Entry) (now : List Setting)
+      (read : AllByRecursion IsRead entries)
       (were : AllZip (IsSettingOf file) entries settings) (are : AllZip (IsSettingOf file) entries' now) where
-    clean_now : (mend : Mend) → IsSome mend → IsChangedAt (map content entries) (map content entries') (change_of mend)
+    clean_now : (mend : Mend) → IsSome mend
+        → IsChangedAt (map content entries) (map content entries') (change_of mend)
         → IsCleanNow rows options now mend
     clean_now mend (proposal, is) (x, y, p, q, changes) =
         let (e, here, old) = get_mapped content entries mend.entry x p in
@@ -261,23 +287,28 @@ module _ (rows : List Row) (options : Options) (guesses : Bool) (settings : List
         let own = rw (get_same settings mend.entry is.setting s is.stands stood) at is.mends in (
           s',
           stands,
-          clean_after rows options file e e' s s' (get_one IsRead entries mend.entry e read here) was becomes section
+          clean_after rows options file e e' s s'
+              (get_one IsRead entries mend.entry e read here) was becomes section
               (finding_of proposal.finding) mend.fix own last value,
         )
 
-pub are_clean : (rows : List Row) (options : Options) (guesses : Bool) (file text new : List ℕ) (settings now : List Setting)
+pub are_clean : (rows : List Row) (options : Options) (guesses : Bool) (file text new : List ℕ)
+    (settings now : List Setting)
     (proposals : List Proposal) (mends : List Mend) → HasSettings file text settings None
     → HasMends rows options guesses settings proposals mends → ChangesEntries (map change_of mends) text new
     → HasSettings file new now None → AllByRecursion (IsCleanNow rows options now) mends
-are_clean rows options guesses file text new settings now proposals mends (entries, is_file, were) have made (entries', is_new, are) =
+are_clean rows options guesses file text new settings now proposals mends (entries, is_file, were) have made
+    (entries', is_new, are) =
     let (contents, (old, old_file, old_is), ordered, after, (newer, new_file, new_is), each, bytes) = made in
     let same = (one_reading text entries old None None is_file old_file).0 in
     let also = (one_reading new entries' newer None None is_new new_file).0 in
     let each' : ChangesEach (map change_of mends) (map content entries) (map content entries') =
     rw (same, also, old_is, new_is) each in
-    all_both change_of (IsSome rows options guesses settings) (IsChangedAt (map content entries) (map content entries'))
+    all_both change_of (IsSome rows options guesses settings)
+    (IsChangedAt (map content entries) (map content entries'))
     (IsCleanNow rows options now)
-    (clean_now rows options guesses settings file entries entries' now (all_by_recursion IsRead entries (entries_are_read is_file)) were are)
+    (clean_now rows options guesses settings file entries entries' now
+    (all_by_recursion IsRead entries (entries_are_read is_file)) were are)
     mends (all_mends rows options guesses settings have) (changed_at each')
 
 -- ---- refusals
@@ -289,7 +320,8 @@ module _ (rows : List Row) (options : Options) (guesses : Bool) (file text : Lis
       → RefusesMending rows options guesses file text proposals e
   refuses (error.Memory e) why = tt
   refuses (error.File e) (made, entries, is_file) =
-      let both : None ≡ Some e = (one_reading text of_file.0 entries None (Some e) of_file.1 is_file).1 in absurd (cc)
+      let both : None ≡ Some e = (one_reading text of_file.0 entries None (Some e) of_file.1 is_file).1 in
+      absurd (cc)
   refuses (error.Key e) why = (settings, mends, of_file, have, why)
   refuses error.Section why = (settings, mends, of_file, have, why)
   refuses error.Value why = (settings, mends, of_file, have, why)

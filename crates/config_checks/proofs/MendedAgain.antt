@@ -1,5 +1,6 @@
 -- What is mended stays mended.
-use Rattle.std.proofs.Common.{◌≡◌, ◌≢◌, ℕ, zero, suc, Bool, List, [], ◌∷◌, ◌++◌, map, length, None, Some, option_map}
+use Rattle.std.proofs.Common.{◌≡◌, ◌≢◌, ℕ, zero, suc, Bool, List, [], ◌∷◌, ◌++◌, map, length, None, Some}
+use Rattle.std.proofs.Common.{option_map}
 use Rattle.std.proofs.Common.{refl, sym, ap, subst, ◌∙◌, inl, inr, arith, append_assoc, append-nil}
 use Rattle.std.proofs.lemmas.Option.{slice_get-map}
 use Rattle.std.specs.List.{slice_get, AllByRecursion, AllZip}
@@ -41,11 +42,13 @@ nothing_in (y ∷ before) after x e = absurd (cc)
 bytes_join : (a b : List Part) → parts_bytes (a ++ b) ≡ parts_bytes a ++ parts_bytes b
 bytes_join [] b = refl
 bytes_join (part ∷ a) b =
-    ap (λ t. part_bytes part ++ t) (bytes_join a b) ∙ sym (append_assoc (part_bytes part) (parts_bytes a) (parts_bytes b))
+    ap (λ t. part_bytes part ++ t) (bytes_join a b)
+    ∙ sym (append_assoc (part_bytes part) (parts_bytes a) (parts_bytes b))
 
 stays : {parts : List Part} {bytes : List ℕ} → EachBecomes (ChangesPart []) parts bytes → bytes ≡ parts_bytes parts
 stays cut.none = refl
-stays (cut.next part put each (edit.changed change (front, back, is) place becomes)) = absurd (nothing_in front back change is)
+stays (cut.next part put each (edit.changed change (front, back, is) place becomes)) =
+    absurd (nothing_in front back change is)
 stays (cut.next {before = before} part put each (edit.stays none)) =
     ap (λ t. t ++ part_bytes part) (stays each) ∙ sym (bytes_join before (part ∷ [])
     ∙ ap (λ t. parts_bytes before ++ t) (append-nil (part_bytes part)))
@@ -79,7 +82,8 @@ get_back R (x ∷ xs) (w ∷ ys) zero y all e = let same : w ≡ y = cc in (x, r
 get_back R (x ∷ xs) (w ∷ ys) (suc i) y all e = get_back R xs ys i y all.1 e
 get_back R xs ys i y all e = absurd all
 
-both_ends : {A : Type 0} (old new : List A) (x y : A) (i : ℕ) → length old ≡ length new → slice_get new i ≡ slice_get old i
+both_ends : {A : Type 0} (old new : List A) (x y : A) (i : ℕ) → length old ≡ length new
+    → slice_get new i ≡ slice_get old i
     → (i ≡ length old → y ≡ x) → slice_get (new ++ y ∷ []) i ≡ slice_get (old ++ x ∷ []) i
 both_ends [] [] x y zero long same last = ap Some (last refl)
 both_ends [] [] x y (suc i) long same last = refl
@@ -93,14 +97,17 @@ both_ends (a ∷ old) [] x y i long same last = absurd (omega (arith, long))
 kept_at : {changes : List Change} {old new : List Content} → ChangesEach changes old new → (i : ℕ)
     → AllByRecursion (λ change. change.entry ≢ i) changes → slice_get new i ≡ slice_get old i
 kept_at edit.none i others = refl
-kept_at (edit.kept x {old = old} {new = new} each) i others = both_ends old new x x i (as_many each) (kept_at each i others) (λ e. refl)
+kept_at (edit.kept x {old = old} {new = new} each) i others =
+    both_ends old new x x i (as_many each) (kept_at each i others) (λ e. refl)
 kept_at (edit.changed change x y {changes = changes} {old = old} {new = new} each place is) i others =
-    both_ends old new x y i (as_many each) (kept_at each i (all_front (λ change. change.entry ≢ i) changes (change ∷ []) others))
+    both_ends old new x y i (as_many each)
+    (kept_at each i (all_front (λ change. change.entry ≢ i) changes (change ∷ []) others))
     (λ e. absurd ((all_back (λ change. change.entry ≢ i) changes (change ∷ []) others).0 (place ∙ sym e)))
 
 -- ---- the same proposal about the same setting
 
-module _ (rows : List Row) (options : Options) (s s' : Setting) (keys : s'.key.items ≡ s.key.items) (values : value_of s' ≡ value_of s)
+module _ (rows : List Row) (options : Options) (s s' : Setting) (keys : s'.key.items ≡ s.key.items)
+    (values : value_of s' ≡ value_of s)
     (f f' : Finding) (codes : f'.code ≡ f.code) (wanted : f'.suggested_key ≡ f.suggested_key)
     (meant : f'.suggested_value ≡ f.suggested_value) where
   same_mends : (fix : Fix) → Mends rows options s' f' fix → Mends rows options s f fix
@@ -122,7 +129,8 @@ module _ (rows : List Row) (options : Options) (s s' : Setting) (keys : s'.key.i
 
 -- ---- safety of the same change of the same setting
 
-module _ (s s' : Setting) (keys : s'.key.items ≡ s.key.items) (values : value_of s' ≡ value_of s) (code code' : Code) (codes : code' ≡ code) where
+module _ (s s' : Setting) (keys : s'.key.items ≡ s.key.items) (values : value_of s' ≡ value_of s)
+    (code code' : Code) (codes : code' ≡ code) where
   value_safe : (new : List ℕ) → IsSafeValue s' code' new → IsSafeValue s code new
   value_safe new (fixes.spelled is) = fixes.spelled (sym codes ∙ is)
   value_safe new (fixes.asked is) = fixes.asked (sym codes ∙ is)
@@ -132,8 +140,10 @@ module _ (s s' : Setting) (keys : s'.key.items ≡ s.key.items) (values : value_
   is_safe (Value new) safe = value_safe new.now safe
   is_safe (Name name) safe = record { key = safe.key; is = rw keys at safe.is; mistyped = safe.mistyped }
 
-as_safe_too : (s s' : Setting) (keys : s'.key.items ≡ s.key.items) (values : value_of s' ≡ value_of s) (p p' : Proposal)
-    → p'.finding.code ≡ p.finding.code → p'.is_guess ≡ p.is_guess → (fix : Fix) (safety : Safety) → IsAsSafe p' s' fix safety
+as_safe_too : (s s' : Setting) (keys : s'.key.items ≡ s.key.items) (values : value_of s' ≡ value_of s)
+    (p p' : Proposal)
+    → p'.finding.code ≡ p.finding.code → p'.is_guess ≡ p.is_guess → (fix : Fix) (safety : Safety)
+    → IsAsSafe p' s' fix safety
     → IsAsSafe p s fix safety
 as_safe_too s s' keys values p p' codes guess fix Safe (sure, safe) =
     (sym guess ∙ sure, is_safe s s' keys values p.finding.code p'.finding.code codes fix safe)
@@ -149,7 +159,8 @@ module _ (rows : List Row) (options : Options) (guesses : Bool) (settings : List
   IsDone mends proposal = (mend : Mend) → IsMend rows options guesses settings proposal mend
       → ¬ (AllByRecursion (λ other. other.entry ≢ mend.entry) mends)
 
-  all_done : {proposals : List Proposal} {mends : List Mend} → HasMends rows options guesses settings proposals mends
+  all_done : {proposals : List Proposal} {mends : List Mend}
+      → HasMends rows options guesses settings proposals mends
       → AllByRecursion (IsDone mends) proposals
   all_done mending.none = tt
   all_done (mending.mended proposal m {proposals = proposals} {mends = mends} have is) =
@@ -169,20 +180,27 @@ module _ (rows : List Row) (options : Options) (guesses : Bool) (settings : List
       → AllByRecursion (λ p. (mend : Mend) → ¬ (IsMend rows options guesses settings p mend)) again → more ≡ []
   none_more mending.none left = refl
   none_more (mending.mended proposal m {proposals = proposals} have is) left =
-      absurd ((all_back (λ p. (mend : Mend) → ¬ (IsMend rows options guesses settings p mend)) proposals (proposal ∷ []) left).0 m is)
+      absurd ((all_back (λ p. (mend : Mend)
+      → ¬ (IsMend rows options guesses settings p mend)) proposals (proposal ∷ []) left).0 m is)
   none_more (mending.left proposal {proposals = proposals} have none) left =
-      none_more have (all_front (λ p. (mend : Mend) → ¬ (IsMend rows options guesses settings p mend)) proposals (proposal ∷ []) left)
+      none_more have (all_front (λ p. (mend : Mend)
+      → ¬ (IsMend rows options guesses settings p mend)) proposals (proposal ∷ []) left)
 
-  module _ (file : List ℕ) (entries entries' : List Entry) (settings' : List Setting) (read : AllByRecursion IsRead entries)
+  module _ (file : List ℕ) (entries entries' : List Entry) (settings' : List Setting)
+      (read : AllByRecursion IsRead entries)
       (were : AllZip (IsSettingOf file) entries settings) (are : AllZip (IsSettingOf file) entries' settings')
-      (proposals : List Proposal) (mends : List Mend) (have : HasMends rows options guesses settings proposals mends)
+      (proposals : List Proposal) (mends : List Mend)
+      (have : HasMends rows options guesses settings proposals mends)
       (each : ChangesEach (map change_of mends) (map content entries) (map content entries')) where
-    mapped : (i : ℕ) (ms : List Mend) → AllByRecursion (λ m. m.entry ≢ i) ms → AllByRecursion (λ change. change.entry ≢ i) (map change_of ms)
+    mapped : (i : ℕ) (ms : List Mend) → AllByRecursion (λ m. m.entry ≢ i) ms
+        → AllByRecursion (λ change. change.entry ≢ i) (map change_of ms)
     mapped i [] all = tt
     mapped i (m ∷ ms) all = (all.0, mapped i ms all.1)
 
-    same_setting : (i : ℕ) (s' : Setting) → slice_get settings' i ≡ Some s' → AllByRecursion (λ m. m.entry ≢ i) mends
-        → (s : Setting) × (slice_get settings i ≡ Some s) × (s'.key.items ≡ s.key.items) × (value_of s' ≡ value_of s)
+    same_setting : (i : ℕ) (s' : Setting) → slice_get settings' i ≡ Some s'
+        → AllByRecursion (λ m. m.entry ≢ i) mends
+        → (s : Setting) × (slice_get settings i ≡ Some s) × (s'.key.items ≡ s.key.items)
+        × (value_of s' ≡ value_of s)
     same_setting i s' stands others =
         let (e', there, becomes) = get_back (IsSettingOf file) entries' settings' i s' are stands in
         let now : slice_get (map content entries') i ≡ Some (content e') =
@@ -193,11 +211,13 @@ module _ (rows : List Row) (options : Options) (guesses : Bool) (settings : List
         let values : e'.value ≡ e.value = ap (λ c. c.2) (sym same) in (
           s,
           stood,
-          same_key rows options file e e' s s' own was becomes (ap (λ c. c.0) (sym same)) (ap (λ c. c.1) (sym same)),
+          same_key rows options file e e' s s' own was becomes (ap (λ c. c.0) (sym same))
+              (ap (λ c. c.1) (sym same)),
           same_value e.value (value_of s') (value_of s) own.spelled (rw values at becomes.value) was.value,
         )
 
-    left_over : (p : Proposal) → IsLeftOver proposals mends p → (mend : Mend) → ¬ (IsMend rows options guesses settings' p mend)
+    left_over : (p : Proposal) → IsLeftOver proposals mends p → (mend : Mend)
+        → ¬ (IsMend rows options guesses settings' p mend)
     left_over p left mend is =
         let others : AllByRecursion (λ m. m.entry ≢ mend.entry) mends =
         all_weaker (λ m. p.finding.entry ≢ Some m.entry) (λ m. m.entry ≢ mend.entry)
@@ -209,14 +229,17 @@ module _ (rows : List Row) (options : Options) (guesses : Bool) (settings : List
           entry = sym (ap (λ x. x.0) left.same) ∙ is.entry;
           setting = s;
           stands = stands;
-          mends = same_mends rows options s is.setting keys values (finding_of before.finding) (finding_of p.finding) codes
+          mends = same_mends rows options s is.setting keys values (finding_of before.finding)
+              (finding_of p.finding) codes
               (ap (λ x. x.2) left.same) (ap (λ x. x.3) left.same) mend.fix is.mends;
-          safety = as_safe_too s is.setting keys values before p codes (ap (λ x. x.4) left.same) mend.fix mend.safety is.safety;
+          safety = as_safe_too s is.setting keys values before p codes
+              (ap (λ x. x.4) left.same) mend.fix mend.safety is.safety;
           wanted = is.wanted;
         } in
         get_one (IsDone mends) proposals left.place before (all_done have) left.was mend own others
 
-pub mended_again : (rows : List Row) (options : Options) (guesses : Bool) (file text new newer : List ℕ) (proposals again : List Proposal)
+pub mended_again : (rows : List Row) (options : Options) (guesses : Bool) (file text new newer : List ℕ)
+    (proposals again : List Proposal)
     (mends more : List Mend) → IsMended rows options guesses file text proposals mends new
     → IsMended rows options guesses file new again more newer → AllByRecursion (IsLeftOver proposals mends) again
     → (more ≡ []) × (newer ≡ new)
@@ -230,8 +253,10 @@ mended_again rows options guesses file text new newer proposals again mends more
     rw (same, also, old_is, new_is) each in
     let none : more ≡ [] =
     none_more rows options guesses second.settings second.have
-    (all_weaker (IsLeftOver proposals mends) (λ p. (mend : Mend) → ¬ (IsMend rows options guesses second.settings p mend))
+    (all_weaker (IsLeftOver proposals mends) (λ p. (mend : Mend)
+    → ¬ (IsMend rows options guesses second.settings p mend))
     (left_over rows options guesses first.settings file entries entries' second.settings
-    (all_by_recursion IsRead entries (entries_are_read is_file)) were are proposals mends first.have each') again left) in
+    (all_by_recursion IsRead entries
+    (entries_are_read is_file)) were are proposals mends first.have each') again left) in
     let (contents', has', ordered', after', newest', each'', becomes) = second.made in
     (none, same_text new newer (rw none at becomes))

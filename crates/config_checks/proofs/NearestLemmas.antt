@@ -1,18 +1,21 @@
 -- The edits between texts, and the nearest of several items.
 use Rattle.std.proofs.Common.{◌≡◌, ◌+◌, ◌<◌, ◌≤◌, ℕ, zero, suc, List, [], ◌∷◌, ◌++◌, length, take, nat_eq, get_or}
-use Rattle.std.proofs.Common.{MatchOption, Option, None, Some, Bor, refl, sym, ap, ◌∙◌, arith, ◌≢◌, ◌↔◌, IsTrue, Bool}
+use Rattle.std.proofs.Common.{MatchOption, Option, None, Some, Bor, refl, sym, ap, ◌∙◌, arith, ◌≢◌, ◌↔◌}
+use Rattle.std.proofs.Common.{IsTrue, Bool}
 use Rattle.std.proofs.Common.{◌-◌, ◌==◌, drop, append_assoc, inl, inr}
 use Rattle.std.proofs.lemmas.Int.{clamps}
 use Rattle.std.specs.Char.{to_ascii_lowercase}
 use Rattle.strsim.specs.Edits.{next_row, rows, cost_at}
 use Rattle.std.proofs.lemmas.Bool.{cases_Bool, eqb-true, eqb-false}
-use Rattle.std.proofs.lemmas.List.{take_more as one_more_taken, length-map, length-append, take-append-le, take_rest, get_or_append_left}
+use Rattle.std.proofs.lemmas.List.{take_more as one_more_taken, length-map, length-append, take-append-le}
+use Rattle.std.proofs.lemmas.List.{take_rest, get_or_append_left}
 use Rattle.std.proofs.lemmas.List.Elements.{All-append, All-push, All-from_recursion}
 use Rattle.std.proofs.Math.Seq.{get_or-append_seam, take-append_seam}
 use Rattle.std.specs.List.{All, prefix_len, zip}
 use Rattle.std.specs.Prelude.{MatchBool}
 use Rattle.std.specs.Cmp.Lexicographic.{pointwise, told_text}
-use Rattle.config_checks.specs.Nearest.{HasOtherEnd, Edits, IsSwap, LeavesOut, lower, edits, AreBeyond, IsFirstAt, AreFar, IsNearest}
+use Rattle.config_checks.specs.Nearest.{HasOtherEnd, Edits, IsSwap, LeavesOut, lower, edits, AreBeyond}
+use Rattle.config_checks.specs.Nearest.{IsFirstAt, AreFar, IsNearest}
 use Rattle.config_checks.specs.Nearest.Edits.{swapped, counted}
 use Rattle.config_checks.specs.Nearest.IsSwap.{at_front, further}
 use Rattle.config_checks.specs.Nearest.LeavesOut.{skipped, kept}
@@ -27,7 +30,8 @@ next_row_apart c before n apart zero = omega arith
 next_row_apart c before n apart (suc k) =
     omega (arith, clamps, next_row_apart c before n apart k, apart (suc k), apart k)
 
-rows_apart : (xs ys : List ℕ) (n : ℕ) (before : ℕ → ℕ) → ((j : ℕ) → (n ≤ before j + j) × (j ≤ before j + n)) → (k : ℕ)
+rows_apart : (xs ys : List ℕ) (n : ℕ) (before : ℕ → ℕ) → ((j : ℕ) → (n ≤ before j + j) × (j ≤ before j + n))
+    → (k : ℕ)
     → (n + length xs ≤ rows nat_eq xs ys n before k + k) × (k ≤ rows nat_eq xs ys n before k + (n + length xs))
 unfolding rows
 rows_apart [] ys n before apart k = omega (arith, apart k)
@@ -133,7 +137,8 @@ pair_told x y r apart some also e f told =
 
 left_word : (f : ℕ) (x y : List ℕ) (word : List ℕ) → f ∷ y ≡ word ++ f ∷ x → LeavesOut x y
 left_word f x y [] e = skipped [] (cc)
-left_word f x y (w ∷ word) e = skipped (word ++ f ∷ []) (let tails : y ≡ word ++ f ∷ x = cc in tails ∙ sym (append_assoc word (f ∷ []) x))
+left_word f x y (w ∷ word) e = skipped (word ++ f ∷ []) (let tails : y ≡ word ++ f ∷ x = cc in tails
+    ∙ sym (append_assoc word (f ∷ []) x))
 
 left_rest : (f g : ℕ) (x y : List ℕ) → f ≡ g → LeavesOut (f ∷ x) (g ∷ y) → LeavesOut x y
 left_rest f g x y same (skipped word e) = left_word f x y word (ap (λ h. h ∷ y) same ∙ e)
@@ -240,7 +245,8 @@ module _ {A : Type 0} (Apart : A → ℕ → Type 0) where
       → IsBest (seen ++ more) best least
   passes seen more least best so_far far = record {
     none_nearer = All-append (IsNoNearer least) seen more so_far.none_nearer (λ k d inside m edits.
-        let beyond = far k d inside m edits in let few = at_most_4 seen least best so_far.found in omega (arith, beyond, few));
+        let beyond = far k d inside m edits in let few = at_most_4 seen least best so_far.found in
+        omega (arith, beyond, few));
     found = still_found seen more least best so_far.found;
   }
 
@@ -259,10 +265,12 @@ module _ {A : Type 0} (Apart : A → ℕ → Type 0) where
 
   -- if each item has at most one number of edits
   module _ (one : (item : A) (m n : ℕ) → Apart item m → Apart item n → m ≡ n) where
-    pub keeps : (seen : List A) (least n : ℕ) (best : Option (Bor A)) (item : A) → IsBest seen best least → Apart item n
+    pub keeps : (seen : List A) (least n : ℕ) (best : Option (Bor A)) (item : A) → IsBest seen best least
+        → Apart item n
         → least ≤ n → IsBest (seen ++ item ∷ []) best least
     keeps seen least n best item so_far edits not = record {
-      none_nearer = All-push (IsNoNearer least) seen item so_far.none_nearer (λ m also. rw (one item m n also edits) not);
+      none_nearer = All-push (IsNoNearer least) seen item so_far.none_nearer (λ m also.
+          rw (one item m n also edits) not);
       found = still_found seen (item ∷ []) least best so_far.found;
     }
 
@@ -271,7 +279,8 @@ module _ {A : Type 0} (Apart : A → ℕ → Type 0) where
     betters seen least n best item so_far edits below =
         let most = at_most_4 seen least best so_far.found in
         let beyond : AreBeyond Apart n seen =
-        λ k d inside m also. let no_nearer = so_far.none_nearer k d inside m also in omega (arith, no_nearer, below) in
+        λ k d inside m also. let no_nearer = so_far.none_nearer k d inside m also in
+        omega (arith, no_nearer, below) in
         record {
           none_nearer = All-push (IsNoNearer n) seen item.now
               (λ k d inside m also. let more = beyond k d inside m also in omega (arith, more))
@@ -291,7 +300,8 @@ module _ {A : Type 0} (Apart : A → ℕ → Type 0) where
   -- ---- there is at most one nearest item
 
   -- no nearest item has more edits than another nearest item
-  no_nearer : (items : List A) (a b : A) (p : IsNearest Apart items a) (q : IsNearest Apart items b) → p.edits ≤ q.edits
+  no_nearer : (items : List A) (a b : A) (p : IsNearest Apart items a) (q : IsNearest Apart items b)
+      → p.edits ≤ q.edits
   no_nearer items a b p q =
       p.least q.at.place b q.at.inside q.edits (rw q.at.stands q.at.apart)
 
@@ -308,7 +318,8 @@ module _ {A : Type 0} (Apart : A → ℕ → Type 0) where
   nearest_once items a b p q =
       let less = no_nearer items a b p q in let more = no_nearer items b a q p in
       let same : p.edits ≡ q.edits = omega (arith, less, more) in
-      first_once (λ x. Apart x q.edits) items a b (at_first items a q.edits (rw same at p.at)) (at_first items b q.edits q.at)
+      first_once (λ x. Apart x q.edits) items a b (at_first items a q.edits (rw same at p.at))
+      (at_first items b q.edits q.at)
 
   pub no_far : (items : List A) (item : A) → IsNearest Apart items item → ¬ (AreFar Apart items)
   no_far items item p far =

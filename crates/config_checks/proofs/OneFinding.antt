@@ -86,7 +86,8 @@ none_before a same = grind arith
 
 -- ---- words
 
-meant_once : (words : List (Bor (List ℕ))) (t : List ℕ) (v w : Option (Bor (List ℕ))) → IsMeant words t v → IsMeant words t w
+meant_once : (words : List (Bor (List ℕ))) (t : List ℕ) (v w : Option (Bor (List ℕ))) → IsMeant words t v
+    → IsMeant words t w
     → v ≡ w
 meant_once words t None None p q = refl
 meant_once words t None (Some w) p q = absurd (no_far (WordEdits t) words w q p)
@@ -99,24 +100,40 @@ words_once list t a b p q = grind (arith, meant_once)
 
 -- ---- paths
 
-path_once : (users : Option KnownUsers) (t : List ℕ) (a b : Option Reason) → IsJudgedPath users t a → IsJudgedPath users t b → a ≡ b
+path_once : (users : Option KnownUsers) (t : List ℕ) (a b : Option Reason) → IsJudgedPath users t a
+    → IsJudgedPath users t b → a ≡ b
 path_once users t a b p q = grind arith
 
 -- ---- the reason
 
 pub int_once : (t : List ℕ) (a b : Option Reason) → IsJudgedBool t a → IsJudgedBool t b → a ≡ b
-int_once t a b p q = grind (arith, amount_decided t, same_number, judged_once BooleanText (OnlyFault faults.Boolean) t)
+int_once t a b p q = grind (
+  arith,
+  amount_decided t,
+  same_number,
+  judged_once BooleanText (OnlyFault faults.Boolean) t,
+)
 
-text_judged_once : (users : Option KnownUsers) (kind : SettingKind) (t : List ℕ) (a b : Option Reason) → IsJudgedText users kind t a
+text_judged_once : (users : Option KnownUsers) (kind : SettingKind) (t : List ℕ) (a b : Option Reason)
+    → IsJudgedText users kind t a
     → IsJudgedText users kind t b → IsSameFinding a b
 text_judged_once users kind t a b p q =
-    grind (arith, as_same, int_once, same_number, judged_once ColorText (OnlyFault faults.Color), path_once, words_once)
+    grind (
+      arith,
+      as_same,
+      int_once,
+      same_number,
+      judged_once ColorText (OnlyFault faults.Color),
+      path_once,
+      words_once,
+    )
 
 comparison_once : (wanted : Option (Bor (List ℕ))) (kind : SettingKind) (t : List ℕ) (a b : Option Reason)
     → IsComparedTo wanted kind t a → IsComparedTo wanted kind t b → a ≡ b
 comparison_once wanted kind t a b p q = grind arith
 
-alone_once : (takes : Bool) (row : Row) (a b : Option Reason) → IsJudgedAlone takes row a → IsJudgedAlone takes row b → a ≡ b
+alone_once : (takes : Bool) (row : Row) (a b : Option Reason) → IsJudgedAlone takes row a
+    → IsJudgedAlone takes row b → a ≡ b
 alone_once takes row a b p q = grind (arith, comparison_once)
 
 module _ (users : Option KnownUsers) (row : Row) where
@@ -149,7 +166,8 @@ module _ {V : Type 0} (grammar : List ℕ → V → Type 0) (canonical : List �
 
 -- the first word of a list that matches a text
 module _ (list : WordList) (t : List ℕ) where
-  as_first : (word : Bor (List ℕ)) → IsFirstWord list t word → IsFirst (λ w. IsWord list t w.now) list.words.items word
+  as_first : (word : Bor (List ℕ)) → IsFirstWord list t word
+      → IsFirst (λ w. IsWord list t w.now) list.words.items word
   as_first word w = record { place = w.place; inside = w.inside; stands = w.stands; is = w.is_word; first = w.first }
 
   word_once : (v w : Bor (List ℕ)) → IsFirstWord list t v → IsFirstWord list t w → v ≡ w
@@ -159,7 +177,8 @@ module _ (list : WordList) (t : List ℕ) where
       → a ≡ b
   as_word_once word a b p q = grind arith
 
-form_once : (form : Form) (t : List ℕ) (a b : Option Reason) → IsRespelledByForm form t a → IsRespelledByForm form t b
+form_once : (form : Form) (t : List ℕ) (a b : Option Reason) → IsRespelledByForm form t a
+    → IsRespelledByForm form t b
     → IsSameFinding a b
 form_once form t a b p q =
     grind (arith, as_same, respelled_once BooleanText CanonicalBoolean, respelled_once IntegerText CanonicalInteger)
@@ -187,13 +206,15 @@ spelling_once kind (Some t) a b p q = grind (
 
 -- ---- the finding
 
-spelled_once : (wants : Bool) (kind : SettingKind) (value : Option (List ℕ)) (a b : Option Reason) → IsSpelled wants kind value a
+spelled_once : (wants : Bool) (kind : SettingKind) (value : Option (List ℕ)) (a b : Option Reason)
+    → IsSpelled wants kind value a
     → IsSpelled wants kind value b → IsSameFinding a b
 spelled_once true kind value a b p q = spelling_once kind value a b p q
 spelled_once false kind value a b p q = as_same a b (p ∙ sym q)
 
 remark_once : (instead old : Option (Bor (List ℕ))) (wants : Bool) (kind : SettingKind) (value : Option (List ℕ))
-    (a b : Option Reason) → IsRemarkBy instead old wants kind value a → IsRemarkBy instead old wants kind value b → IsSameFinding a b
+    (a b : Option Reason) → IsRemarkBy instead old wants kind value a
+    → IsRemarkBy instead old wants kind value b → IsSameFinding a b
 remark_once (Some word) None wants kind value a b p q = as_same a b (p ∙ sym q)
 remark_once (Some word) (Some old) wants kind value a b (inl p) (inl q) = as_same a b (p.1 ∙ sym q.1)
 remark_once (Some word) (Some old) wants kind value a b (inl p) (inr q) = absurd (q.0 p.0)
@@ -211,7 +232,8 @@ module _ (git : Version) (row : Row) where
 module _ (options : Options) (row : Row) where
   pub finding_once : (value : Option (List ℕ)) (a b : Option Reason)
       → HasFinding options row value a → HasFinding options row value b → IsSameFinding a b
-  finding_once value a b (outside r out is) q = grind (arith, as_same, outside_once options.git row, not_outside options.git row)
+  finding_once value a b (outside r out is) q =
+      grind (arith, as_same, outside_once options.git row, not_outside options.git row)
   finding_once value a b p (outside r out is) = grind (arith, not_outside options.git row)
   finding_once value a b (wrong of r judged is) (wrong of' s judged' is') =
       rw (is, is') (reason_once options.users row value (Some r) (Some s) judged judged')

@@ -1,11 +1,14 @@
 -- The compact JSON text of any data is one line.
-use Rattle.std.proofs.Common.{◌≡◌, ◌≢◌, ◌<◌, ◌+◌, ◌/◌, ◌%◌, ◌++◌, ◌∷◌, [], ℕ, zero, suc, List, Bool, true, false, not}
-use Rattle.std.proofs.Common.{◌&&◌, ◌==◌, nat_eq, nat_lt, if◌then◌else◌, pos, negsuc, refl, sym, subst, arith, inl, inr}
+use Rattle.std.proofs.Common.{◌≡◌, ◌≢◌, ◌<◌, ◌+◌, ◌/◌, ◌%◌, ◌++◌, ◌∷◌, [], ℕ, zero, suc, List, Bool, true}
+use Rattle.std.proofs.Common.{false, not}
+use Rattle.std.proofs.Common.{◌&&◌, ◌==◌, nat_eq, nat_lt, if◌then◌else◌, pos, negsuc, refl, sym, subst, arith}
+use Rattle.std.proofs.Common.{inl, inr}
 use Rattle.std.proofs.lemmas.Bool.{and_parts, cases_lt, cases_eq}
 use Rattle.std.specs.Fmt.{decimal, digits, digits_onto, digit_glyph}
 use Rattle.json.specs.Print.{escape_byte, escape, quoted}
 use Rattle.json.proofs.Printed.Strings.{escape_byte_plain}
-use Rattle.serde_json.specs.Data.{Data, null, boolean, number, string, array, object, Num, unsigned, negative, float}
+use Rattle.serde_json.specs.Data.{Data, null, boolean, number, string, array, object, Num, unsigned, negative}
+use Rattle.serde_json.specs.Data.{float}
 use Rattle.serde_json.specs.Data.{Items, no_items, item, Members, no_members, member}
 use Rattle.serde_json.specs.Written.{compact_text, comma_if, number_text, items_text, members_text}
 use Rattle.config_checks.specs.Json.{IsOneLine}
@@ -68,7 +71,8 @@ more_digits : (k n : ℕ) (acc : List ℕ) → IsOneLine acc → IsOneLine (digi
 more_digits zero n acc so_far = so_far
 more_digits (suc k) n acc so_far =
     let more : IsOneLine (digit_glyph false (n % 10) ∷ acc) = (one_digit (n % 10), so_far) in
-    either (n / 10 == 0) (digit_glyph false (n % 10) ∷ acc) (digits_onto k 10 false (n / 10) (digit_glyph false (n % 10) ∷ acc))
+    either (n / 10 == 0) (digit_glyph false (n % 10) ∷ acc)
+    (digits_onto k 10 false (n / 10) (digit_glyph false (n % 10) ∷ acc))
     more (more_digits k (n / 10) (digit_glyph false (n % 10) ∷ acc) more)
 
 in_digits : (n : ℕ) → IsOneLine (decimal n)

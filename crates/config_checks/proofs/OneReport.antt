@@ -64,12 +64,14 @@ header_listed (header.plain run some is) key = (_, listing.in_section listing.pl
 header_listed (header.quoted opens (header.closes taken is)) key =
     let (text, spells) = taken.is_subsection in (_, listing.in_section (listing.quoted spells))
 
-entry_text : {text key rest : List ℕ} {raw : Option (List ℕ)} {lines : ℕ} → TakesEntry text key raw lines rest → HasText raw
+entry_text : {text key rest : List ℕ} {raw : Option (List ℕ)} {lines : ℕ} → TakesEntry text key raw lines rest
+    → HasText raw
 entry_text (file.alone taken end) = tt
 entry_text (file.valued taken is (value.closed {value = text} joined spells ends)) = (text, outside, spells)
 entry_text (file.valued taken is (value.open_end {value = text} spells)) = (text, at_backslash, spells)
 
-all_clear : {section : Option Section} {line : ℕ} {text : List ℕ} {entries : List Entry} {error : Option errors.FileError}
+all_clear : {section : Option Section} {line : ℕ} {text : List ℕ} {entries : List Entry}
+    {error : Option errors.FileError}
     → HasListed section → Reads section line text entries error → AllByRecursion IsClear entries
 all_clear listed (file.blank is reads) = all_clear listed reads
 all_clear listed (file.line_end is reads) = all_clear listed reads
@@ -93,7 +95,8 @@ facts_once : (name : List ℕ) (entry : Entry) (a b : Setting) → IsClear entry
 facts_once name entry a b clear p q = grind (arith, value_once)
 
 -- the settings begin with the first ones, and one follows for each entry that is left
-begin_once : (name : List ℕ) (before after : List Entry) (first all : List Setting) → AllByRecursion IsClear (before ++ after)
+begin_once : (name : List ℕ) (before after : List Entry) (first all : List Setting)
+    → AllByRecursion IsClear (before ++ after)
     → AllZip (IsSettingOf name) before first → AllZip (IsSettingOf name) (before ++ after) all
     → (others : List Facts) × (map facts all ≡ map facts first ++ others) × (after ≡ [] → others ≡ [])
 begin_once name [] [] [] [] clear p q = ([], refl, λ none. refl)
@@ -107,7 +110,8 @@ begin_once name before after first all clear p q = absurd (search)
 -- ---- the report
 
 -- the finding about a setting with these facts
-abbrev found_for : ℕ → Facts → Code → Option Key → Severity → List ℕ → Option faults.Fault → Option (List ℕ) → Option (List ℕ) → Finding
+abbrev found_for : ℕ → Facts → Code → Option Key → Severity → List ℕ → Option faults.Fault → Option (List ℕ)
+    → Option (List ℕ) → Finding
 found_for before f code row severity text fault meant value = record {
   file = f.0;
   line = f.1;
@@ -138,12 +142,14 @@ by_key s f key = (
 abbrev by_reason : Counts → Facts → Row → Option Reason → List Finding × Counts
 by_reason s f row None = ([], record s { entries = s.entries + 1 })
 by_reason s f row (Some r) = (
-  found_for s.entries f (code_of r) (Some (key_of row.key)) (severity_of row.goes_on r) (reason_text r) (fault_of r) (instead_of r)
+  found_for s.entries f (code_of r) (Some (key_of row.key)) (severity_of row.goes_on r) (reason_text r)
+      (fault_of r) (instead_of r)
       (value_meant r) ∷ [],
   counted (severity_of row.goes_on r) (record s { entries = s.entries + 1 }),
 )
 
-same_reason : (s : Counts) (f : Facts) (row : Row) (a b : Option Reason) → IsSameFinding a b → by_reason s f row a ≡ by_reason s f row b
+same_reason : (s : Counts) (f : Facts) (row : Row) (a b : Option Reason) → IsSameFinding a b
+    → by_reason s f row a ≡ by_reason s f row b
 same_reason s f row (Some (NotCanonical c)) (Some (NotCanonical d)) same = rw same
 same_reason s f row (Some (NoWord l v)) (Some (NoWord m w)) same = rw (same.0, same.1)
 same_reason s f row a b same = ap (by_reason s f row) same
@@ -170,12 +176,15 @@ module _ (rows : List Row) (options : Options) where
   told_once f s x y (near key is_key is) (passed u none is') = absurd (not_passed rows f.2 key is_key none)
   told_once f s x y (near key is_key is) (near key' is_key' is') =
       is ∙ ap (by_key s f) (nearest_same rows f.2 key key' is_key is_key') ∙ sym is'
-  told_once f s x y (near key is_key is) (known row r decides finds is') = absurd (known_once rows f.2 row decides is_key.unknown)
+  told_once f s x y (near key is_key is) (known row r decides finds is') =
+      absurd (known_once rows f.2 row decides is_key.unknown)
   told_once f s x y (known row r decides finds is) (passed u none is') = absurd (known_once rows f.2 row decides u)
-  told_once f s x y (known row r decides finds is) (near key is_key is') = absurd (known_once rows f.2 row decides is_key.unknown)
+  told_once f s x y (known row r decides finds is) (near key is_key is') =
+      absurd (known_once rows f.2 row decides is_key.unknown)
   told_once f s x y (known row r decides finds is) (known row' r' decides' finds' is') =
       let same = row_once rows f.2 row' row decides' decides in
-      is ∙ same_reason s f row r r' (finding_once options row f.3 r r' finds (rw same at finds')) ∙ sym (rw same at is')
+      is ∙ same_reason s f row r r' (finding_once options row f.3 r r' finds (rw same at finds'))
+      ∙ sym (rw same at is')
 
   -- what is said of settings with these facts, and the counts before and after them
   abbrev TellsAll : Counts → List Facts → List Finding → Counts → Type 0
@@ -187,27 +196,43 @@ module _ (rows : List Row) (options : Options) where
       → Tells f t (said, u) → TellsAll s (fs ++ f ∷ []) (o ++ said) u
   tells_more s [] f o said t u (none, is) last =
       (said, u, [], rw is at last, (refl, refl), rw (none, append-nil))
-  tells_more s (g ∷ fs) f o said t u (first, v, rest, one, others, parts) last =
-      (first, v, rest ++ said, one, tells_more v fs f rest said t u others last, rw parts (append_assoc first rest said))
+  tells_more s (g ∷ fs) f o said t u (first, v, rest, one, others, parts) last = (
+    first,
+    v,
+    rest ++ said,
+    one,
+    tells_more v fs f rest said t u others last,
+    rw parts (append_assoc first rest said),
+  )
 
   tells_all : {settings : List Setting} {o : List Finding} {s : Counts} → Report rows options settings o s
       → TellsAll no_counts (map facts settings) o s
   tells_all nothing = (refl, refl)
   tells_all (next settings o s setting said s' before adds) =
-      rw map-append (tells_more no_counts (map facts settings) (facts setting) o said s s' (tells_all before) (tells adds))
+      rw map-append (tells_more no_counts (map facts settings) (facts setting) o said s s' (tells_all before)
+      (tells adds))
 
   -- what is said of the first settings is a prefix of what is said of all settings
   first_told : (s : Counts) (first others : List Facts) (p o : List Finding) (t u : Counts) → TellsAll s first p t
-      → TellsAll s (first ++ others) o u → (rest : List Finding) × (o ≡ p ++ rest) × (others ≡ [] → (rest ≡ []) × (u ≡ t))
+      → TellsAll s (first ++ others) o u → (rest : List Finding) × (o ≡ p ++ rest)
+      × (others ≡ [] → (rest ≡ []) × (u ≡ t))
   first_told s [] [] p o t u (none, is) (none', is') = ([], rw (none, none'), λ whole. (refl, is' ∙ sym is))
   first_told s [] (f ∷ others) p o t u (none, is) all = (o, rw none, λ whole. absurd (cc))
-  first_told s (f ∷ first) others p o t u (said, v, rest, one, more, parts) (said', v', rest', one', more', parts') =
+  first_told s (f ∷ first) others p o t u (said, v, rest, one, more, parts) (
+    said',
+    v',
+    rest',
+    one',
+    more',
+    parts',
+  ) =
       let same = told_once f s (said', v') (said, v) one' one in
       let (behind, is, whole) = first_told v first others rest rest' t u more
       (subst (λ c. TellsAll c (first ++ others) rest' u) (ap (λ r. r.1) same) more') in
       (behind, rw parts (parts' ∙ (λ i. (same i).0 ++ is i) ∙ sym (append_assoc said rest behind)), whole)
 
-  both_told : (name text : List ℕ) (before after : List Entry) (e f : Option errors.FileError) (first all : List Setting)
+  both_told : (name text : List ℕ) (before after : List Entry) (e f : Option errors.FileError)
+      (first all : List Setting)
       (p o : List Finding) (s t : Counts) → IsFile text (before ++ after) e → AllZip (IsSettingOf name) before first
       → HasSettings name text all f → Report rows options first p s → Report rows options all o t
       → (rest : List Finding) × (o ≡ p ++ rest) × (after ≡ [] → (rest ≡ []) × (t ≡ s)) × (f ≡ e)

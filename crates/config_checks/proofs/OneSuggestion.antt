@@ -6,7 +6,8 @@ use Rattle.config_file.proofs.OneKey.{cut_same, cut_has_dot, same_parts}
 use Rattle.config_checks.specs.declared.row.Row.{Row}
 use Rattle.config_checks.specs.declared.suggestion.UnknownKey.{UnknownKey}
 use Rattle.config_checks.specs.Nearest.{AreFar}
-use Rattle.config_checks.specs.Suggestions.{Fills, FillsSubsection, FillsKey, IsOwn, IsPassed, IsUnknownKey, RowEdits, Suggests, nearest_of}
+use Rattle.config_checks.specs.Suggestions.{Fills, FillsSubsection, FillsKey, IsOwn, IsPassed, IsUnknownKey}
+use Rattle.config_checks.specs.Suggestions.{RowEdits, Suggests, nearest_of}
 use Rattle.config_checks.specs.Suggestions.{IsMovedRow, IsElsewhere, IsNowhere, IsSuggested}
 use Rattle.config_checks.specs.Suggestions.IsSuggested.{near, moved}
 use Rattle.config_checks.specs.Suggestions.IsPassed.{no_dot, foreign}
@@ -34,13 +35,20 @@ module _ (rows : List Row) where
   not_nowhere : (key : Key) (row : Row) → IsElsewhere rows key row → ¬ (IsNowhere rows key)
   not_nowhere key row is none = grind (arith, not_none (IsMovedRow key) rows, such_first)
 
-  not_suggested : (key : Key) (row : Row) → IsSuggested rows key row → AreFar (RowEdits key) rows → ¬ (IsNowhere rows key)
+  not_suggested : (key : Key) (row : Row) → IsSuggested rows key row → AreFar (RowEdits key) rows
+      → ¬ (IsNowhere rows key)
   not_suggested key row (near is) far none = no_far (RowEdits key) rows row is far
   not_suggested key row (moved far is) also none = not_nowhere key row is none
 
   row_suggested : (key : Key) (x y : Row) → IsSuggested rows key x → IsSuggested rows key y → x ≡ y
   row_suggested key x y is also =
-      grind (arith, nearest_once (RowEdits key) rows, no_far (RowEdits key) rows, first_once (IsMovedRow key) rows, such_first)
+      grind (
+        arith,
+        nearest_once (RowEdits key) rows,
+        no_far (RowEdits key) rows,
+        first_once (IsMovedRow key) rows,
+        such_first,
+      )
 
   suggested_once : (key : Key) (x y : Option Key) → Suggests rows key x → Suggests rows key y → x ≡ y
   suggested_once key None None p q = refl
@@ -48,7 +56,8 @@ module _ (rows : List Row) where
   suggested_once key (Some x) None p q = absurd (not_suggested key p.0 p.1 q.0 q.1.0)
   suggested_once key (Some x) (Some y) (r, is, fills) (r', is', fills') =
       let rows_same = row_suggested key r' r is' is in
-      ap Some (key_once (key_of r.key) key x y fills (subst (λ row. FillsKey (key_of row.key) key y) rows_same fills'))
+      ap Some (key_once (key_of r.key) key x y fills
+      (subst (λ row. FillsKey (key_of row.key) key y) rows_same fills'))
 
   pub nearest_same : (t : List ℕ) (x y : UnknownKey) → IsUnknownKey rows t x → IsUnknownKey rows t y
       → nearest_of x ≡ nearest_of y

@@ -66,7 +66,8 @@ decides_same rows t u a b row first second same decides =
 lower_no_dot : (b : ℕ) → is_no_dot b ≡ true → is_no_dot (to_ascii_lowercase b) ≡ true
 lower_no_dot b h = no_dot (to_ascii_lowercase b) (λ e. not_dot b h (lower_dot b e))
 
-lower_no_dots : (text : List ℕ) → list_all is_no_dot text ≡ true → list_all is_no_dot (map to_ascii_lowercase text) ≡ true
+lower_no_dots : (text : List ℕ) → list_all is_no_dot text ≡ true
+    → list_all is_no_dot (map to_ascii_lowercase text) ≡ true
 lower_no_dots text e =
     rw (list_all-map is_no_dot to_ascii_lowercase text)
     (all_more is_no_dot (λ b. is_no_dot (to_ascii_lowercase b)) lower_no_dot text e)
@@ -107,7 +108,8 @@ module _ (rows : List Row) (options : Options) (file : List ℕ) (e e' : Entry) 
   same_key last =
       let (listed, lists) = read.listed in now.key listed (rw (same, last) lists) ∙ sym (is.key listed lists)
 
-  pub clean_value : (new : List ℕ) → e'.key ≡ e.key → value_of s' ≡ Some new → IsClean rows options s.key.items (Some new)
+  pub clean_value : (new : List ℕ) → e'.key ≡ e.key → value_of s' ≡ Some new
+      → IsClean rows options s.key.items (Some new)
       → IsClean rows options s'.key.items (value_of s')
   clean_value new last has clean = rw (same_key last, has) clean
 

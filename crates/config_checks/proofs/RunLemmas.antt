@@ -1,6 +1,7 @@
 -- Rows in runs of one section.
 use Rattle.std.proofs.Common.{Option, None, Some, MatchOption, Bor}
-use Rattle.std.proofs.Common.{◌≡◌, ◌+◌, ◌<◌, ℕ, List, [], ◌∷◌, ◌++◌, length, take, drop, get_or, arith, refl, sym, ap, subst, ◌∙◌, codes, true, false}
+use Rattle.std.proofs.Common.{◌≡◌, ◌+◌, ◌<◌, ℕ, List, [], ◌∷◌, ◌++◌, length, take, drop, get_or, arith, refl}
+use Rattle.std.proofs.Common.{sym, ap, subst, ◌∙◌, codes, true, false}
 use Rattle.std.proofs.lemmas.List.{flat_map_more, take-append-drop}
 use Rattle.std.proofs.lemmas.List.Elements.{All-append}
 use Rattle.std.proofs.lemmas.Grind.{flat_map-append}
@@ -15,7 +16,8 @@ use Rattle.config_checks.specs.declared.row.Row.{Row}
 use Rattle.config_checks.specs.declared.row.Run.{Run}
 use Rattle.config_checks.specs.Keys.{Covers}
 use Rattle.config_checks.specs.Rows.{CoversNone, Decides, IsFirstCovering, rows_of}
-use Rattle.config_checks.specs.Suggestions.{HasSection, HasSlots, HasNone, IsFirstSuch, IsMovedRow, IsNowhere, IsElsewhere}
+use Rattle.config_checks.specs.Suggestions.{HasSection, HasSlots, HasNone, IsFirstSuch, IsMovedRow, IsNowhere}
+use Rattle.config_checks.specs.Suggestions.{IsElsewhere}
 use Rattle.config_checks.proofs.FirstLemmas.{IsFirst, first_within, any_within}
 use Rattle.config_checks.proofs.NearestLemmas.{take_more}
 
@@ -28,11 +30,13 @@ rows_more runs i run below here =
 rows_around : (runs : List Run) (i : ℕ) (run : Run) → i < length runs → get_or runs i run ≡ run
     → rows_of runs ≡ (rows_of (take i runs) ++ run.rows.now) ++ rows_of (drop (i + 1) runs)
 rows_around runs i run below here =
-    ap rows_of (sym (take-append-drop (i + 1) runs)) ∙ flat_map-append (λ r. r.rows.now) (take (i + 1) runs) (drop (i + 1) runs)
+    ap rows_of (sym (take-append-drop (i + 1) runs))
+    ∙ flat_map-append (λ r. r.rows.now) (take (i + 1) runs) (drop (i + 1) runs)
     ∙ ap (λ l. l ++ rows_of (drop (i + 1) runs)) (rows_more runs i run below here)
 
 -- the first item of a run, if there is none in the runs before it, is the first of all rows
-first_at : (P : Row → Type 0) (runs : List Run) (i : ℕ) (run : Run) (row : Row) → i < length runs → get_or runs i run ≡ run
+first_at : (P : Row → Type 0) (runs : List Run) (i : ℕ) (run : Run) (row : Row) → i < length runs
+    → get_or runs i run ≡ run
     → HasNone P (rows_of (take i runs)) → IsFirst P run.rows.now row → IsFirst P (rows_of runs) row
 first_at P runs i run row below here none first =
     rw (rows_around runs i run below here)
@@ -72,7 +76,8 @@ any_of_all P (row ∷ rows) some all = (0, row, some, refl, all 0 row some)
 any_at : (P : Row → Type 0) (runs : List Run) (i : ℕ) (run : Run) → i < length runs → get_or runs i run ≡ run
     → Any P run.rows.now → Any P (rows_of runs)
 any_at P runs i run below here any =
-    rw (rows_around runs i run below here) (any_within P (rows_of (take i runs)) run.rows.now (rows_of (drop (i + 1) runs)) any)
+    rw (rows_around runs i run below here)
+    (any_within P (rows_of (take i runs)) run.rows.now (rows_of (drop (i + 1) runs)) any)
 
 -- if a run has this section, a row has it
 pub has_run : (t : List ℕ) (runs : List Run) (i : ℕ) (run : Run) → i < length runs → get_or runs i run ≡ run
@@ -87,7 +92,8 @@ pub runs_grow : (rows : List Row) (runs : List Run) (run : Run) (start : ℕ) �
     → run.rows.now ≡ take (length run.rows.now) (drop start rows)
     → rows_of (runs ++ run ∷ []) ≡ take (start + length run.rows.now) rows
 runs_grow rows runs run start so_far cut =
-    sym (flat_map_more (λ r. r.rows.now) [] runs run) ∙ ap (λ l. l ++ run.rows.now) so_far ∙ ap (λ l. take start rows ++ l) cut
+    sym (flat_map_more (λ r. r.rows.now) [] runs run) ∙ ap (λ l. l ++ run.rows.now) so_far
+    ∙ ap (λ l. take start rows ++ l) cut
     ∙ sym (take-add start (length run.rows.now) rows)
 
 -- ---- the first row of which something holds
@@ -117,7 +123,8 @@ module _ (t : List ℕ) where
   IsSlot row = SameWord (key_of row.key).section (codes "color") × ((key_of row.key).subsection ≡ Some t)
 
   any_slot : (run : Run) → SameWord run.section.now (codes "color") → (r : Option (Bor Row)) → is_some r ≡ true
-      → MatchOption r (HasNone IsWithin run.rows.now) (λ row. IsFirstSuch IsWithin run.rows.now row.now) → Any IsSlot run.rows.now
+      → MatchOption r (HasNone IsWithin run.rows.now) (λ row. IsFirstSuch IsWithin run.rows.now row.now)
+      → Any IsSlot run.rows.now
   any_slot run same None some none = absurd (false≢true some)
   any_slot run same (Some row) some first =
       let in_run = subst (λ (row : Row). SameWord (key_of row.key).section run.section.now) first.stands

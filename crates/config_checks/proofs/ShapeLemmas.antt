@@ -56,7 +56,8 @@ sides_once (b ∷ s) (d ∷ s') g g' same p q =
     let byte : b ≡ d = cc in (rw (byte, first) refl, last)
 
 -- a text has the sides of one cut
-pub one_cut : (t : List ℕ) (s s' : List ℕ) (g g' : Option (List ℕ)) → HasSides t s g → HasSides t s' g' → (s ≡ s') × (g ≡ g')
+pub one_cut : (t : List ℕ) (s s' : List ℕ) (g g' : Option (List ℕ)) → HasSides t s g → HasSides t s' g'
+    → (s ≡ s') × (g ≡ g')
 one_cut t s s' None None p q = (p.0 ∙ sym q.0, refl)
 one_cut t s s' None (Some g') p q = absurd (has_colon s' g' (rw q.0 at p.1))
 one_cut t s s' (Some g) None p q = absurd (has_colon s g (rw p.0 at q.1))
@@ -64,7 +65,8 @@ one_cut t s s' (Some g) (Some g') p q =
     let (first, last) = sides_once s s' g g' (sym p.0 ∙ q.0) p.1 q.1 in (first, ap (λ x. Some x) last)
 
 -- what is decided for one cut is decided for the text
-pub by_cut : (Are : List ℕ → Option (List ℕ) → Type 0) (t s : List ℕ) (g : Option (List ℕ)) (is : Bool) → HasSides t s g
+pub by_cut : (Are : List ℕ → Option (List ℕ) → Type 0) (t s : List ℕ) (g : Option (List ℕ)) (is : Bool)
+    → HasSides t s g
     → (IsTrue is ↔ Are s g) → (IsTrue is ↔ HaveSides Are t)
 by_cut Are t s g is cut decides = (
   λ yes. (s, g, cut, decides.0 yes),
@@ -75,7 +77,8 @@ by_cut Are t s g is cut decides = (
 -- ---- colors by age
 
 -- a field that may follow is the next one, and no other is
-last_field : (color other : Bool) (fields all : List (List ℕ)) (field : List ℕ) → Alternate other all → other ≡ not color
+last_field : (color other : Bool) (fields all : List (List ℕ)) (field : List ℕ) → Alternate other all
+    → other ≡ not color
     → all ≡ fields ++ field ∷ [] → Alternate color fields × Follows color field
 last_field color _ [] _ field nothing end same = absurd (cc)
 last_field color _ (first ∷ fields) _ field nothing end same = absurd (cc)
@@ -86,7 +89,8 @@ last_field color _ fields _ field (next before had last alternate follows) end s
       subst (λ c. Follows c field) turn (subst (Follows before) also follows),
     )
 
-pub next_field : (is may color : Bool) (fields : List (List ℕ)) (field : List ℕ) → IsTrue is ↔ Alternate color fields
+pub next_field : (is may color : Bool) (fields : List (List ℕ)) (field : List ℕ)
+    → IsTrue is ↔ Alternate color fields
     → IsTrue may ↔ Follows color field → IsTrue (is && may) ↔ Alternate (not color) (fields ++ field ∷ [])
 next_field true true color fields field so_far follows =
     (λ yes. next color fields field (so_far.0 refl) (follows.0 refl), λ all. refl)
@@ -96,7 +100,8 @@ next_field false may color fields field so_far follows =
     (λ yes. absurd (cc), λ all. so_far.1 (last_field color (not color) fields _ field all refl refl).0)
 
 -- fields have one turn
-one_turn : (color other : Bool) (fields all : List (List ℕ)) → Turn color fields → Alternate other all → all ≡ fields → other ≡ color
+one_turn : (color other : Bool) (fields all : List (List ℕ)) → Turn color fields → Alternate other all
+    → all ≡ fields → other ≡ color
 one_turn _ _ _ _ start nothing same = refl
 one_turn _ _ _ _ start (next color [] field all follows) same = absurd (cc)
 one_turn _ _ _ _ start (next color (first ∷ fields) field all follows) same = absurd (cc)
@@ -106,7 +111,8 @@ one_turn _ _ _ _ (turn color fields field turns) (next other had last all follow
     let (first, also) = same_from_push had fields last field same in
     ap not (one_turn color other fields had turns all first)
 
-pub whole_fields : (is color : Bool) (fields : List (List ℕ)) → IsTrue is ↔ Alternate color fields → Turn color fields
+pub whole_fields : (is color : Bool) (fields : List (List ℕ)) → IsTrue is ↔ Alternate color fields
+    → Turn color fields
     → IsTrue (is && color) ↔ Alternate true fields
 whole_fields true true fields so_far turns = (λ yes. so_far.0 refl, λ all. refl)
 whole_fields true false fields so_far turns =

@@ -13,7 +13,8 @@ use Rattle.sha2.proofs.Facts256.{digest_of_abc_256}
 use Rattle.config_text.specs.declared.errors.Fault.TheVariants as faults
 use Rattle.config_checks.specs.declared.check.Counts.{Counts}
 use Rattle.config_checks.specs.declared.code.Code.TheVariants as kind
-use Rattle.config_checks.specs.declared.reason.Reason.TheVariants.{NoValue, Refused, TooNew, Gone, Deprecated, OtherCase}
+use Rattle.config_checks.specs.declared.reason.Reason.TheVariants.{NoValue, Refused, TooNew, Gone, Deprecated}
+use Rattle.config_checks.specs.declared.reason.Reason.TheVariants.{OtherCase}
 use Rattle.config_checks.specs.declared.reason.Severity.TheVariants.{Error, Warning, Note}
 use Rattle.config_checks.specs.declared.version.Version.{Version}
 use Rattle.config_checks.specs.Codes.{code_name, code_of_fault}
@@ -29,13 +30,17 @@ use Rattle.config_checks.specs.Shapes.{is_no_ref_byte, quote_after}
 -- ---- codes and severities
 
 pub codes_are_named : map code_name (kind.BadBoolean ∷ kind.BadInteger ∷ kind.BadColor ∷ kind.OutOfRange
-    ∷ kind.NotAWord ∷ kind.NoHome ∷ kind.BadRefspec ∷ kind.BadBranch ∷ kind.BadCommand ∷ kind.LikeAnOption ∷ kind.OtherValue ∷ kind.NoValue ∷ kind.MissingSetting ∷ kind.UnknownKey
+    ∷ kind.NotAWord ∷ kind.NoHome ∷ kind.BadRefspec ∷ kind.BadBranch ∷ kind.BadCommand ∷ kind.LikeAnOption
+    ∷ kind.OtherValue ∷ kind.NoValue ∷ kind.MissingSetting ∷ kind.UnknownKey
     ∷ kind.TooNew ∷ kind.Gone ∷ kind.Deprecated ∷ kind.NotCanonical ∷ kind.InvalidLine ∷ kind.IncludeLoop
-    ∷ kind.IncludeDepth ∷ kind.IncludePath ∷ kind.MissingFile ∷ kind.UnknownCondition ∷ kind.EndlessAlias ∷ kind.SubmoduleName ∷ [])
+    ∷ kind.IncludeDepth ∷ kind.IncludePath ∷ kind.MissingFile ∷ kind.UnknownCondition ∷ kind.EndlessAlias
+    ∷ kind.SubmoduleName ∷ [])
     ≡ map (λ t. codes t) ("bad-boolean" ∷ "bad-integer" ∷ "bad-color" ∷ "out-of-range"
-    ∷ "not-a-word" ∷ "no-home" ∷ "bad-refspec" ∷ "bad-branch" ∷ "bad-command" ∷ "like-an-option" ∷ "other-value" ∷ "no-value" ∷ "missing-setting" ∷ "unknown-key"
+    ∷ "not-a-word" ∷ "no-home" ∷ "bad-refspec" ∷ "bad-branch" ∷ "bad-command" ∷ "like-an-option"
+    ∷ "other-value" ∷ "no-value" ∷ "missing-setting" ∷ "unknown-key"
     ∷ "too-new" ∷ "gone" ∷ "deprecated" ∷ "not-canonical" ∷ "invalid-line" ∷ "include-loop"
-    ∷ "include-depth" ∷ "include-path" ∷ "missing-file" ∷ "unknown-condition" ∷ "endless-alias" ∷ "submodule-name" ∷ [])
+    ∷ "include-depth" ∷ "include-path" ∷ "missing-file" ∷ "unknown-condition" ∷ "endless-alias"
+    ∷ "submodule-name" ∷ [])
 codes_are_named = refl
 
 -- a number that is too large is out of range, whether for 64 bits or for a setting
@@ -58,7 +63,8 @@ wrong_values_are_errors = (refl, refl)
 
 -- ---- names of refs, and quotes
 
--- "They cannot have ASCII control characters (i.e. bytes whose values are lower than \040, or \177 DEL), space, tilde
+-- "They cannot have ASCII control characters (i.e. bytes whose values are lower than \040, or \177 DEL),
+-- space, tilde
 -- ~, caret ^, or colon : anywhere", nor "question-mark ?", "open bracket [" and \
 pub refs_lack_these : (list_all is_no_ref_byte (0 ∷ 31 ∷ 127 ∷ 32 ∷ 126 ∷ 94 ∷ 58 ∷ 63 ∷ 91 ∷ 92 ∷ []) ≡ true)
     × (list_any is_no_ref_byte (33 ∷ 42 ∷ 45 ∷ 46 ∷ 47 ∷ 57 ∷ 64 ∷ 65 ∷ 93 ∷ 123 ∷ 128 ∷ 255 ∷ []) ≡ false)

@@ -1,5 +1,6 @@
 -- The edits between the keys of rows and a key.
-use Rattle.std.proofs.Common.{◌≡◌, ◌<◌, ◌≤◌, ℕ, zero, suc, Result, Ok, Err, IfOk, List, [], ◌∷◌, Option, None, Some, MatchOption}
+use Rattle.std.proofs.Common.{◌≡◌, ◌<◌, ◌≤◌, ℕ, zero, suc, Result, Ok, Err, IfOk, List, [], ◌∷◌, Option, None}
+use Rattle.std.proofs.Common.{Some, MatchOption}
 use Rattle.std.proofs.Common.{◌∙◌, refl, sym, ap, subst, arith, length, get_or, Bool, IsTrue, ◌↔◌, codes}
 use Rattle.std.proofs.lemmas.List.{length-map}
 use Rattle.std.specs.Char.{to_ascii_lowercase}
@@ -15,7 +16,9 @@ use Rattle.config_checks.specs.Reading.Steps.{IsFew, IsRelation, IsUnlike}
 use Rattle.config_text.specs.SameWord.{SameWord}
 use Rattle.config_file.specs.Key.{Key, IsCut}
 use Rattle.config_checks.specs.Keys.{CoversSubsection, CoversName}
-use Rattle.config_checks.specs.Suggestions.{AreAlike, IsOtherWord, NearEdits, NameEdits, EditsAfter, OnePartEdits, RowEdits, SectionEdits, SubsectionEdits, HasSlots, IsOwn}
+use Rattle.config_checks.specs.Suggestions.{AreAlike, IsOtherWord, NearEdits, NameEdits, EditsAfter}
+use Rattle.config_checks.specs.Suggestions.{OnePartEdits, RowEdits, SectionEdits, SubsectionEdits, HasSlots}
+use Rattle.config_checks.specs.Suggestions.{IsOwn}
 use Rattle.config_checks.specs.Suggestions.NearEdits.{other_word, few, alike}
 use Rattle.config_checks.specs.Suggestions.EditsAfter.{in_name, in_subsection}
 use Rattle.config_checks.specs.Suggestions.IsOwn.{alone, slot}
@@ -38,7 +41,8 @@ OfSubsection row key = SubsectionEdits (SameWord row.name key.name) row.subsecti
 
 module _ {E : Type 0} (row key : Key) where
   -- if the sections are the same, the edits are those after the section
-  pub of_section : SameWord row.section key.section → (r : Result (Option ℕ) E) → IfOk r (λ r. IsFew (EditsAfter row key) r)
+  pub of_section : SameWord row.section key.section → (r : Result (Option ℕ) E)
+      → IfOk r (λ r. IsFew (EditsAfter row key) r)
       → IfOk r (λ r. IsFew (OnePartEdits row key) r)
   of_section same = few_of (EditsAfter row key) (OnePartEdits row key) (λ n. in_rest same) (λ n edits. elim edits [
     | in_rest s is ↦ is
@@ -46,20 +50,24 @@ module _ {E : Type 0} (row key : Key) where
   ])
 
   -- if the subsection is covered, the edits after the section are those of the name
-  pub of_name : CoversSubsection row.subsection key.subsection → ¬ (CoversName row.name key.name) → (r : Result (Option ℕ) E)
+  pub of_name : CoversSubsection row.subsection key.subsection → ¬ (CoversName row.name key.name)
+      → (r : Result (Option ℕ) E)
       → IfOk r (λ r. IsFew (NameEdits row key) r) → IfOk r (λ r. IsFew (EditsAfter row key) r)
-  of_name covers not = few_of (NameEdits row key) (EditsAfter row key) (λ n. in_name covers not) (λ n edits. elim edits [
-    | in_name c d is ↦ is
-    | in_subsection other c is ↦ absurd (other covers)
-  ])
+  of_name covers not = few_of (NameEdits row key) (EditsAfter row key) (λ n. in_name covers not) (λ n edits.
+      elim edits [
+        | in_name c d is ↦ is
+        | in_subsection other c is ↦ absurd (other covers)
+      ])
 
   -- if the name is covered, the edits after the section are those of the subsection
   pub of_subsection : ¬ (CoversSubsection row.subsection key.subsection) → CoversName row.name key.name
-      → (r : Result (Option ℕ) E) → IfOk r (λ r. IsFew (OfSubsection row key) r) → IfOk r (λ r. IsFew (EditsAfter row key) r)
-  of_subsection not covers = few_of (OfSubsection row key) (EditsAfter row key) (λ n. in_subsection not covers) (λ n edits. elim edits [
-    | in_name c other is ↦ absurd (other covers)
-    | in_subsection c d is ↦ is
-  ])
+      → (r : Result (Option ℕ) E) → IfOk r (λ r. IsFew (OfSubsection row key) r)
+      → IfOk r (λ r. IsFew (EditsAfter row key) r)
+  of_subsection not covers = few_of (OfSubsection row key) (EditsAfter row key) (λ n.
+      in_subsection not covers) (λ n edits. elim edits [
+        | in_name c other is ↦ absurd (other covers)
+        | in_subsection c d is ↦ is
+      ])
 
 -- ---- how sections are related
 
@@ -78,7 +86,8 @@ same_other a b c same is = rw same is
 
 same_near : (a b c : List ℕ) (n : ℕ) → SameWord a b → SectionEdits b c n → SectionEdits a c n
 same_near a b c n same (other_word is none) = other_word (same_other a b c same is) none
-same_near a b c n same (few not is) = few (λ other. not (same_other b a c (sym same) other)) (same_few a b c n same is)
+same_near a b c n same (few not is) =
+    few (λ other. not (same_other b a c (sym same) other)) (same_few a b c n same is)
 same_near a b c n same (alike not far none three) = absurd none
 
 -- sections of the same word are related alike
@@ -90,7 +99,8 @@ same_relation a b c relations.Far same is =
     ((λ s. is.0 (sym same ∙ s)), (λ n edits. is.1 n (same_near b a c n (sym same) edits)))
 
 uncovered : (row key : Key) (n : ℕ) → IsRelation row.section key.section (relations.Near n)
-    → ¬ (CoversSubsection row.subsection key.subsection × CoversName row.name key.name) → (m : ℕ) → OnePartEdits row key m
+    → ¬ (CoversSubsection row.subsection key.subsection × CoversName row.name key.name) → (m : ℕ)
+    → OnePartEdits row key m
     → 3 < m
 uncovered row key n is not m (in_rest same edits) = absurd (is.0 same)
 uncovered row key n is not m (in_section other subsection name edits) = absurd (not (subsection, name))
@@ -114,10 +124,12 @@ pub far_run : (key : Key) (run : Run) → IsRelation run.section.now key.section
 far_run key run far k d inside =
     let row = get_or run.rows.now k d in
     of_far (key_of row.key) key
-    (same_relation (key_of row.key).section run.section.now key.section relations.Far (run.of_section k d inside) far)
+    (same_relation (key_of row.key).section run.section.now key.section relations.Far
+    (run.of_section k d inside) far)
 
 -- what is at the same place of two lists is related, if all is
-pub zipped_at : {A B : Type 0} (R : A → B → Type 0) (xs : List A) (ys : List B) → AllZip R xs ys → (i : ℕ) (x : A) (d : B)
+pub zipped_at : {A B : Type 0} (R : A → B → Type 0) (xs : List A) (ys : List B) → AllZip R xs ys
+    → (i : ℕ) (x : A) (d : B)
     → i < length xs → get_or xs i x ≡ x → R x (get_or ys i d)
 zipped_at R [] ys all i x d inside is = absurd (omega (arith, inside))
 zipped_at R (a ∷ xs) [] all i x d inside is = absurd all
@@ -145,17 +157,20 @@ of_key rows t key cut unknown (Some k) suggests =
     record { key = key; cut = cut; unknown = unknown; suggests = suggests }
 
 pub of_text : {E : Type 0} (rows : List Row) (t : List ℕ) (key : Key) → IsCut t key → IsUnknown rows t
-    → (r : Result (Option UnknownKey) E) → IfOk r (λ r. MatchOption r (IsForeign rows key) (λ k. Suggests rows key (nearest_of k)))
+    → (r : Result (Option UnknownKey) E)
+    → IfOk r (λ r. MatchOption r (IsForeign rows key) (λ k. Suggests rows key (nearest_of k)))
     → IfOk r (λ r. MatchOption r (IsPassed rows t) (IsUnknownKey rows t))
 of_text rows t key cut unknown (Err e) is = tt
 of_text rows t key cut unknown (Ok r) is = of_key rows t key cut unknown r is
 
 -- ---- there is at most one number of edits
 
-one_subsection : (S : Type 0) (a b : Option (List ℕ)) (m n : ℕ) → SubsectionEdits S a b m → SubsectionEdits S a b n → m ≡ n
+one_subsection : (S : Type 0) (a b : Option (List ℕ)) (m n : ℕ) → SubsectionEdits S a b m
+    → SubsectionEdits S a b n → m ≡ n
 one_subsection S a b m n is also = grind (arith, one_count)
 
-one_near : (long : ℕ) (A : Type 0) (a b : List ℕ) (m n : ℕ) → NearEdits long A a b m → NearEdits long A a b n → m ≡ n
+one_near : (long : ℕ) (A : Type 0) (a b : List ℕ) (m n : ℕ) → NearEdits long A a b m → NearEdits long A a b n
+    → m ≡ n
 one_near long A a b m n is also = grind (arith, one_count)
 
 one_after : (row key : Key) (m n : ℕ) → EditsAfter row key m → EditsAfter row key n → m ≡ n
@@ -192,5 +207,6 @@ module _ (long : ℕ) (A : Type 0) (a b : List ℕ) where
 
 -- a name that is unlike that of the row is not near it
 pub of_unlike : (row key : Key) → IsUnlike row.name key.name → IsFew (NameEdits row key) None
-of_unlike row key is = none_near 5 ((key.subsection ≡ None) × AreAlike row.name key.name) row.name key.name is.no_word
+of_unlike row key is = none_near 5 ((key.subsection ≡ None)
+    × AreAlike row.name key.name) row.name key.name is.no_word
     (λ n edits. absurd (is.far n edits)) (λ also. is.unlike also.1)

@@ -54,10 +54,12 @@ parts_at all before here first at =
     let count = length before in
     let from_here : drop count all ≡ here.now ∷ drop (count + 1) all =
     at_drop_more (λ l. l) all count here.now at.0 ∙ ap (λ l. l ∷ drop (count + 1) all) (sym at.1) in
-    sym (take-append-drop count all) ∙ ap (λ l. l ++ drop count all) (sym first) ∙ ap (λ l. now before ++ l) from_here
+    sym (take-append-drop count all) ∙ ap (λ l. l ++ drop count all) (sym first)
+    ∙ ap (λ l. now before ++ l) from_here
 
 -- the line after these lines is the first bad line
-pub bad_line : (text : List ℕ) (lines : List (Bor (List ℕ))) (line : Bor (List ℕ)) (bad : BadRow) (rows rows' : List Row)
+pub bad_line : (text : List ℕ) (lines : List (Bor (List ℕ))) (line : Bor (List ℕ)) (bad : BadRow)
+    (rows rows' : List Row)
     → now lines ≡ take (length lines) (lines_of text)
     → (length lines < length (lines_of text)) × (line.now ≡ get_or (lines_of text) (length lines) line.now)
     → bad.line ≡ length lines + 1 → AddsRows (now lines) rows rows' → IsBadRow (fields_of line.now) bad.fault
@@ -80,7 +82,8 @@ pub bad_kind : (fields marked : List (List ℕ)) (key name : List ℕ) (words : 
 bad_kind fields marked key name words k m fault parts is marks bad = grind arith
 
 -- the fields have a key, but a bad version follows it
-pub bad_version : (fields marked : List (List ℕ)) (key : List ℕ) (k : Key) (fault : RowFault) → fields ≡ key ∷ marked
+pub bad_version : (fields marked : List (List ℕ)) (key : List ℕ) (k : Key) (fault : RowFault)
+    → fields ≡ key ∷ marked
     → IsCut key k → (fault ≡ NoVersion) × HasBadVersion marked → IsBadRow fields fault
 bad_version fields marked key k fault parts is bad =
     rw bad.0 (key, marked, parts, (k, is), bad.1)
@@ -107,7 +110,8 @@ comment_ends all pieces piece first here before comment =
     let rest = drop (length pieces + 1) all in
     let ends : take_while is_no_comment (piece.now ∷ rest) ≡ [] = rw (take_while-cons, comment) in
     ap (take_while is_no_comment) (parts_at all pieces piece first here)
-    ∙ take_while_append (now pieces) (piece.now ∷ rest) before ∙ ap (λ l. now pieces ++ l) ends ∙ append-nil (now pieces)
+    ∙ take_while_append (now pieces) (piece.now ∷ rest) before ∙ ap (λ l. now pieces ++ l) ends
+    ∙ append-nil (now pieces)
 
 -- without a comment all pieces count
 pub without_comment : (pieces : List (List ℕ)) → All IsNoComment pieces → take_while is_no_comment pieces ≡ pieces

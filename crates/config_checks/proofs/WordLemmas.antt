@@ -1,5 +1,6 @@
 -- The words of a list, and the texts that they match.
-use Rattle.std.proofs.Common.{◌≡◌, ◌∙◌, ◌<◌, ℕ, List, [], ◌∷◌, ◌++◌, length, take, map, subst, sym, codes, Bor, All, get_or, ◌+◌}
+use Rattle.std.proofs.Common.{◌≡◌, ◌∙◌, ◌<◌, ℕ, List, [], ◌∷◌, ◌++◌, length, take, map, subst, sym, codes}
+use Rattle.std.proofs.Common.{Bor, All, get_or, ◌+◌}
 use Rattle.std.proofs.lemmas.List.{append_cancel_right, take_more}
 use Rattle.std.proofs.lemmas.List.Elements.{All-push}
 use mathlib.Core.List.{map-append}
@@ -17,7 +18,8 @@ no_first list t none word first =
     none first.place word first.inside (subst (λ w. IsWord list t w.now) (sym first.stands) first.is_word)
 
 -- a text that a word with a final `*` matches begins with the part of the word before the `*`
-pub word_begins : (list : WordList) (t word front piece : List ℕ) → IsPattern word front → piece ≡ take (length front) t
+pub word_begins : (list : WordList) (t word front piece : List ℕ) → IsPattern word front
+    → piece ≡ take (length front) t
     → IsWord list t word → IsSame list.ignores_case front piece
 word_begins list t word front piece pattern part (begins f other same) =
     let equal : f ≡ front = append_cancel_right f front (codes "*") (sym other ∙ pattern) in
@@ -33,11 +35,13 @@ more_pieces P pieces piece all has = subst (All P) (sym (map-append (λ p. p.now
 
 -- if no word before this place matches the text, and the word here does not, no word up to here matches it
 pub no_more : (list : WordList) (t : List ℕ) (place : ℕ) → IsNoWord list t (take place list.words.items)
-    → place < length list.words.items → ((d : Bor (List ℕ)) → ¬ (IsWord list t (get_or list.words.items place d).now))
+    → place < length list.words.items
+    → ((d : Bor (List ℕ)) → ¬ (IsWord list t (get_or list.words.items place d).now))
     → IsNoWord list t (take (place + 1) list.words.items)
 no_more list t place none inside here = λ k d within.
     subst (IsNoWord list t) (sym (take_more list.words.items place d inside))
-    (All-push (λ w. ¬ (IsWord list t w.now)) (take place list.words.items) (get_or list.words.items place d) none (here d))
+    (All-push (λ w. ¬ (IsWord list t w.now)) (take place list.words.items)
+    (get_or list.words.items place d) none (here d))
     k d within
 
 -- ---- the word that is suggested

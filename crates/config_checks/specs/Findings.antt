@@ -18,7 +18,8 @@ use Rattle.config_checks.specs.declared.kind.Form.TheVariants as forms
 use Rattle.config_checks.specs.declared.kind.WordList.{WordList}
 use Rattle.config_checks.specs.declared.reason.Reason.{Reason}
 use Rattle.config_checks.specs.declared.reason.Reason.TheVariants.{NoValue, Refused, OutOfRange, NoWord}
-use Rattle.config_checks.specs.declared.reason.Reason.TheVariants.{NoHome, Misshapen, IsNot, TooNew, Gone, Deprecated, Outdated}
+use Rattle.config_checks.specs.declared.reason.Reason.TheVariants.{NoHome, Misshapen, IsNot, TooNew, Gone}
+use Rattle.config_checks.specs.declared.reason.Reason.TheVariants.{Deprecated, Outdated}
 use Rattle.config_checks.specs.declared.reason.Reason.TheVariants.{NotCanonical, OtherCase}
 use Rattle.config_checks.specs.Shapes.{shape_fault}
 use Rattle.config_checks.specs.declared.version.Version.{Version}
@@ -117,7 +118,8 @@ line_feed = 10
 
 -- ---- the finding
 
--- a finding; a key alone and an unknown key have no value, and a line that Git cannot read has no key either; an unknown
+-- a finding; a key alone and an unknown key have no value, and a line that Git cannot read has no key either;
+-- an unknown
 -- key has no row; `entry` is how many entries of the file precede that of the finding
 pub record Finding : Type 0 where
   pub file : List ℕ

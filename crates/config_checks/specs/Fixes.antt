@@ -1,5 +1,6 @@
 -- Which change of an entry mends its finding, and which changes are safe.
-use Rattle.std.specs.Prelude.{◌≡◌, ◌≤◌, ◌&&◌, ◌==◌, not, ⊤, ℕ, Bool, false, List, ◌++◌, codes, length, reverse, Option, None, Some}
+use Rattle.std.specs.Prelude.{◌≡◌, ◌≤◌, ◌&&◌, ◌==◌, not, ⊤, ℕ, Bool, false, List, ◌++◌, codes, length}
+use Rattle.std.specs.Prelude.{reverse, Option, None, Some}
 use Rattle.std.specs.Char.{is_ascii_digit}
 use Rattle.std.specs.List.{list_any}
 use denote.Ref.{Bor}
@@ -38,7 +39,8 @@ IsOnlyMeant (kinds.Word list) (Some t) word =
 IsOnlyMeant kind value word = ⊤
 
 -- with this value the setting has no finding, and if words are meant, this one alone is
-pub record MendsValue (rows : List Row) (options : Options) (setting : Setting) (code : Code) (new : List ℕ) : Type 0 where
+pub record MendsValue (rows : List Row) (options : Options) (setting : Setting) (code : Code)
+    (new : List ℕ) : Type 0 where
   pub clean : IsClean rows options setting.key.items (Some new)
   pub only : code ≡ kind.NotAWord → IsOnlyMeant clean.row.kind (value_of setting) new
 
@@ -65,15 +67,18 @@ pub record MendsKey (rows : List Row) (options : Options) (setting : Setting) (k
 abbrev pub Mends : List Row → Options → Setting → Finding → Fix → Type 0
 Mends rows options setting f (Value new) =
     (f.suggested_value ≡ Some new.now) × MendsValue rows options setting f.code new.now
-Mends rows options setting f (Name name) = (key : List ℕ) × (f.suggested_key ≡ Some key) × (f.suggested_value ≡ None)
+Mends rows options setting f (Name name) = (key : List ℕ) × (f.suggested_key ≡ Some key)
+    × (f.suggested_value ≡ None)
     × (f.code ≡ kind.UnknownKey) × IsRenamed setting.key.items key name.now × MendsKey rows options setting key
 
 -- a digit of the first text is not in the second one
 abbrev pub lacks_digit : List ℕ → List ℕ → Bool
 lacks_digit text other = list_any (λ b. is_ascii_digit b && not (list_any (λ c. c == b) other)) text
 
--- One typing error at most leads from one text to the other: a byte less, more or other, or two in the wrong order. The case
--- of letters is none, no digit is taken for another one, a text of fewer than four bytes has too many neighbors, and an `s`
+-- One typing error at most leads from one text to the other: a byte less, more or other, or two in the wrong
+-- order. The case
+-- of letters is none, no digit is taken for another one, a text of fewer than four bytes has too many
+-- neighbors, and an `s`
 -- at the end makes another word.
 pub record IsTypingError (was now : List ℕ) : Type 0 where
   pub edits : ℕ
@@ -89,7 +94,8 @@ pub record IsTypingError (was now : List ℕ) : Type 0 where
 pub data IsSafeValue (setting : Setting) (code : Code) (new : List ℕ) : Type 0 where
   spelled : code ≡ kind.NotCanonical → IsSafeValue setting code new
   asked : code ≡ kind.OtherValue → IsSafeValue setting code new
-  mistyped : (value : List ℕ) → value_of setting ≡ Some value → IsTypingError value new → IsSafeValue setting code new
+  mistyped : (value : List ℕ) → value_of setting ≡ Some value → IsTypingError value new
+      → IsSafeValue setting code new
 
 -- the last part of the key is a typing error of the new one
 pub record IsSafeName (setting : Setting) (name : List ℕ) : Type 0 where
@@ -97,7 +103,8 @@ pub record IsSafeName (setting : Setting) (name : List ℕ) : Type 0 where
   pub is : IsCut setting.key.items key
   pub mistyped : IsTypingError key.name name
 
--- the change of a setting with a finding of this code is safe: it undoes one typing error, or writes what was asked for
+-- the change of a setting with a finding of this code is safe: it undoes one typing error, or writes what was
+-- asked for
 abbrev pub IsSafe : Setting → Code → Fix → Type 0
 IsSafe setting code (Value new) = IsSafeValue setting code new.now
 IsSafe setting code (Name name) = IsSafeName setting name.now

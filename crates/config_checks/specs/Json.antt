@@ -1,5 +1,6 @@
 -- A finding as JSON.
-use Rattle.std.specs.Prelude.{◌≢◌, ◌++◌, List, ℕ, [], ◌∷◌, take, codes, Option, None, Some, option_map, if◌then◌else◌}
+use Rattle.std.specs.Prelude.{◌≢◌, ◌++◌, List, ℕ, [], ◌∷◌, take, codes, Option, None, Some, option_map}
+use Rattle.std.specs.Prelude.{if◌then◌else◌}
 use Rattle.std.specs.Fmt.{decimal}
 use Rattle.std.specs.List.{AllByRecursion}
 use Rattle.std.specs.Str.{is_utf8}
@@ -35,11 +36,13 @@ abbrev pub part_or_nothing : Option (List ℕ) → List ℕ
 part_or_nothing None = []
 part_or_nothing (Some t) = part t
 
--- what tells a finding from all others, and not its line: its file, code, key and value, and how many findings before it have
+-- what tells a finding from all others, and not its line: its file, code, key and value, and how many
+-- findings before it have
 -- the same four
 abbrev pub identity : ℕ → Finding → List ℕ
 identity equal f =
-    part f.file ++ (part (code_name f.code) ++ (part_or_nothing f.key ++ (part_or_nothing f.value ++ decimal equal)))
+    part f.file ++ (part (code_name f.code)
+    ++ (part_or_nothing f.key ++ (part_or_nothing f.value ++ decimal equal)))
 
 -- the first half of the SHA-256 of these bytes, in hexadecimal
 abbrev pub fingerprint_of : List ℕ → List ℕ

@@ -84,7 +84,8 @@ without_front front t = if starts_with nat_eq t front then drop (length front) t
 -- the text without the prefixes `-`, `version:`, `v:` and `*`, in this order, if it has them
 abbrev pub sort_name : List ℕ → List ℕ
 sort_name t =
-    without_front (codes "*") (without_front (codes "v:") (without_front (codes "version:") (without_front (codes "-") t)))
+    without_front (codes "*") (without_front (codes "v:")
+    (without_front (codes "version:") (without_front (codes "-") t)))
 
 -- the rest after a name is empty, or begins with a colon
 abbrev pub EndsName : List ℕ → Type 0

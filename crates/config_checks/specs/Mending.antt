@@ -1,7 +1,9 @@
 -- A text in which findings are mended.
 --
--- Look for: `IsMend`: the change is that of the entry which the finding names, and a guess only if guesses are wanted.
--- `HasMends`: no such change is left out. `IsMended`: `ChangesEntries` says of each other entry, and of each other byte,
+-- Look for: `IsMend`: the change is that of the entry which the finding names, and a guess only if guesses
+-- are wanted.
+-- `HasMends`: no such change is left out. `IsMended`: `ChangesEntries` says of each other entry, and of each
+-- other byte,
 -- that it stays.
 use Rattle.std.specs.Prelude.{◌≡◌, ◌≢◌, ◌⊎◌, ⊤, ℕ, Bool, true, false, List, [], ◌∷◌, ◌++◌, Option, None, Some, map}
 use Rattle.std.specs.List.{slice_get, AllByRecursion}
@@ -55,7 +57,8 @@ IsWanted guesses Safe = ⊤
 IsWanted guesses Unsafe = guesses ≡ true
 
 -- the change is wanted, and mends the finding about an entry of these settings
-pub record IsMend (rows : List Row) (options : Options) (guesses : Bool) (settings : List Setting) (proposal : Proposal)
+pub record IsMend (rows : List Row) (options : Options) (guesses : Bool) (settings : List Setting)
+    (proposal : Proposal)
     (mend : Mend) : Type 0 where
   pub entry : proposal.finding.entry ≡ Some mend.entry
   pub setting : Setting
@@ -83,18 +86,23 @@ abbrev pub IsCleanNow : List Row → Options → List Setting → Mend → Type 
 IsCleanNow rows options settings mend = (setting : Setting) × (slice_get settings mend.entry ≡ Some setting)
     × IsClean rows options setting.key.items (value_of setting)
 
--- The new text is the old one in which these changes are made, and no others: those that are wanted, and mend what is
+-- The new text is the old one in which these changes are made, and no others: those that are wanted, and mend
+-- what is
 -- proposed. Nothing is found any more at the entries that change.
-pub record IsMended (rows : List Row) (options : Options) (guesses : Bool) (file text : List ℕ) (proposals : List Proposal)
+pub record IsMended (rows : List Row) (options : Options) (guesses : Bool) (file text : List ℕ)
+    (proposals : List Proposal)
     (mends : List Mend) (new : List ℕ) : Type 0 where
   pub settings : List Setting
   pub of_file : HasSettings file text settings None
   pub have : HasMends rows options guesses settings proposals mends
   pub made : ChangesEntries (map change_of mends) text new
-  pub clean : (now : List Setting) → HasSettings file new now None → AllByRecursion (IsCleanNow rows options now) mends
+  pub clean : (now : List Setting) → HasSettings file new now None
+      → AllByRecursion (IsCleanNow rows options now) mends
 
--- why nothing is mended: memory is refused, the text is not a configuration file, or one of the changes cannot be made
-abbrev pub RefusesMending : List Row → Options → (guesses : Bool) → (file text : List ℕ) → List Proposal → EditError → Type 0
+-- why nothing is mended: memory is refused, the text is not a configuration file, or one of the changes
+-- cannot be made
+abbrev pub RefusesMending : List Row → Options → (guesses : Bool) → (file text : List ℕ) → List Proposal
+    → EditError → Type 0
 RefusesMending rows options guesses file text proposals (error.Memory e) = ⊤
 RefusesMending rows options guesses file text proposals (error.File e) =
     (settings : List Setting) × HasSettings file text settings (Some e)

@@ -1,5 +1,6 @@
 -- How many edits lead from one text to another, and which item of a list is the nearest.
-use Rattle.std.specs.Prelude.{◌≡◌, ◌≢◌, ℕ, ◌<◌, ◌≤◌, nat_eq, List, ◌∷◌, ◌++◌, length, map, take, slice_index_or, All}
+use Rattle.std.specs.Prelude.{◌≡◌, ◌≢◌, ℕ, ◌<◌, ◌≤◌, nat_eq, List, ◌∷◌, ◌++◌, length, map, take}
+use Rattle.std.specs.Prelude.{slice_index_or, All}
 use Rattle.std.specs.Prelude.{◌||◌, nat_lt, if◌then◌else◌}
 use Rattle.std.specs.Char.{to_ascii_lowercase}
 use Rattle.strsim.specs.Edits.{levenshtein_row}

@@ -21,11 +21,14 @@ use Rattle.config_checks.specs.declared.options.Options.{Options}
 use Rattle.config_checks.specs.declared.paths.KnownUsers.{KnownUsers}
 use Rattle.config_checks.specs.declared.row.Row.{Row}
 use Rattle.config_checks.specs.declared.reason.Reason.{Reason}
-use Rattle.config_checks.specs.declared.reason.Reason.TheVariants.{NoValue, Refused, OutOfRange, NoWord, NoHome, Misshapen, IsNot}
-use Rattle.config_checks.specs.declared.reason.Reason.TheVariants.{TooNew, Gone, Deprecated, Outdated, NotCanonical, OtherCase}
+use Rattle.config_checks.specs.declared.reason.Reason.TheVariants.{NoValue, Refused, OutOfRange, NoWord}
+use Rattle.config_checks.specs.declared.reason.Reason.TheVariants.{NoHome, Misshapen, IsNot}
+use Rattle.config_checks.specs.declared.reason.Reason.TheVariants.{TooNew, Gone, Deprecated, Outdated}
+use Rattle.config_checks.specs.declared.reason.Reason.TheVariants.{NotCanonical, OtherCase}
 use Rattle.config_checks.specs.declared.reason.Severity.{Severity}
 use Rattle.config_checks.specs.declared.reason.Severity.TheVariants.{Error, Warning, Note}
-use Rattle.config_checks.specs.Kinds.{IsPattern, IsSame, HasWord, IsNoWord, IsFirstWord, AreWords, HasDate, IsSortKey}
+use Rattle.config_checks.specs.Kinds.{IsPattern, IsSame, HasWord, IsNoWord, IsFirstWord, AreWords, HasDate}
+use Rattle.config_checks.specs.Kinds.{IsSortKey}
 use Rattle.config_checks.specs.Nearest.{FewEdits, AreFar, IsNearest}
 use Rattle.config_checks.specs.Paths.{IsHomeless}
 use Rattle.config_checks.specs.declared.shape.Shape.{Shape}
@@ -172,7 +175,8 @@ IsComparedTo (Some wanted) kind t (Some _) = ⊥
 
 -- why a value is wrong by its row: its kind does not take it, or the row wants another one
 pub data IsJudgedByRow (users : Option KnownUsers) (row : Row) (t : List ℕ) (r : Option Reason) : Type 0 where
-  refused : (reason : Reason) → IsJudgedText users row.kind t (Some reason) → r ≡ Some reason → IsJudgedByRow users row t r
+  refused : (reason : Reason) → IsJudgedText users row.kind t (Some reason) → r ≡ Some reason
+      → IsJudgedByRow users row t r
   taken : IsJudgedText users row.kind t None → IsComparedTo row.wanted row.kind t r → IsJudgedByRow users row t r
 
 -- a key alone is wrong if it needs a value; otherwise it means `true`
@@ -184,8 +188,10 @@ abbrev pub HasReason : Option KnownUsers → Row → Option (List ℕ) → Optio
 HasReason users row None r = IsJudgedAlone row.takes_no_value row r
 HasReason users row (Some t) r = IsJudgedByRow users row t r
 
--- A missing value is an error. What only a newer Git reads is a note, as is another spelling. What Git no longer reads
--- is a warning, as is a deprecated setting or value. A wrong value is a warning if Git continues after it, and otherwise an error.
+-- A missing value is an error. What only a newer Git reads is a note, as is another spelling. What Git no
+-- longer reads
+-- is a warning, as is a deprecated setting or value. A wrong value is a warning if Git continues after it,
+-- and otherwise an error.
 abbrev pub severity_of : (goes_on : Bool) → Reason → Severity
 severity_of goes_on NoValue = Error
 severity_of goes_on (TooNew since) = Note
@@ -256,11 +262,14 @@ abbrev pub IsSpelled : (wants_canonical : Bool) → SettingKind → Option (List
 IsSpelled true kind value r = HasSpelling kind value r
 IsSpelled false kind value r = r ≡ None
 
--- what replaces a deprecated setting or, if only one value is deprecated, that value; for others, how they should be spelled
-abbrev pub IsRemarkBy : (instead old : Option (Bor (List ℕ))) → (wants_canonical : Bool) → SettingKind → Option (List ℕ)
+-- what replaces a deprecated setting or, if only one value is deprecated, that value; for others, how they
+-- should be spelled
+abbrev pub IsRemarkBy : (instead old : Option (Bor (List ℕ))) → (wants_canonical : Bool) → SettingKind
+    → Option (List ℕ)
     → Option Reason → Type 0
 IsRemarkBy (Some word) None wants_canonical kind value r = r ≡ Some (Deprecated word)
-IsRemarkBy (Some word) (Some old) wants_canonical kind value r = (IsOld kind value old.now × (r ≡ Some (Outdated word)))
+IsRemarkBy (Some word) (Some old) wants_canonical kind value r =
+    (IsOld kind value old.now × (r ≡ Some (Outdated word)))
     ⊎ (¬ (IsOld kind value old.now) × IsSpelled wants_canonical kind value r)
 IsRemarkBy None old wants_canonical kind value r = IsSpelled wants_canonical kind value r
 
@@ -271,7 +280,8 @@ IsRemark wants_canonical row value r = IsRemarkBy row.instead row.old wants_cano
 -- what a check finds for a setting, by its options, its row and its value, if it finds anything
 pub data HasFinding (options : Options) (row : Row) (value : Option (List ℕ)) (r : Option Reason) : Type 0 where
   outside : (reason : Reason) → IsOutside options.git row reason → r ≡ Some reason → HasFinding options row value r
-  wrong : IsOf options.git row → (reason : Reason) → HasReason options.users row value (Some reason) → r ≡ Some reason
+  wrong : IsOf options.git row → (reason : Reason) → HasReason options.users row value (Some reason)
+      → r ≡ Some reason
       → HasFinding options row value r
   right : IsOf options.git row → HasReason options.users row value None → IsRemark options.canonical row value r
       → HasFinding options row value r

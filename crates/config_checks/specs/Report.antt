@@ -1,5 +1,6 @@
 -- What a check of a file finds: the findings of its entries, in their order.
-use Rattle.std.specs.Prelude.{◌≡◌, ⊤, ℕ, ◌+◌, ◌-◌, ◌==◌, if◌then◌else◌, codes, List, [], ◌∷◌, ◌++◌, Option, None, Some, option_map, option_copied}
+use Rattle.std.specs.Prelude.{◌≡◌, ⊤, ℕ, ◌+◌, ◌-◌, ◌==◌, if◌then◌else◌, codes, List, [], ◌∷◌, ◌++◌, Option}
+use Rattle.std.specs.Prelude.{None, Some, option_map, option_copied}
 use Rattle.std.specs.Fmt.{decimal}
 use Rattle.std.specs.List.{AllZip}
 use Rattle.config_file.specs.declared.errors.FileError as errors
@@ -18,7 +19,8 @@ use Rattle.config_checks.specs.declared.code.Code.TheVariants as kind
 use Rattle.config_checks.specs.declared.row.Row.{Row}
 use Rattle.config_checks.specs.declared.setting.Setting.{Setting}
 use Rattle.config_checks.specs.declared.reason.Reason.{Reason}
-use Rattle.config_checks.specs.declared.reason.Reason.TheVariants.{Refused, NoWord, IsNot, Deprecated, Outdated, NotCanonical, OtherCase}
+use Rattle.config_checks.specs.declared.reason.Reason.TheVariants.{Refused, NoWord, IsNot, Deprecated}
+use Rattle.config_checks.specs.declared.reason.Reason.TheVariants.{Outdated, NotCanonical, OtherCase}
 use Rattle.config_checks.specs.declared.reason.Severity.{Severity}
 use Rattle.config_checks.specs.declared.reason.Severity.TheVariants.{Error, Warning, Note}
 use Rattle.config_checks.specs.declared.suggestion.UnknownKey.{UnknownKey}
@@ -134,13 +136,16 @@ abbrev pub no_counts : Counts
 no_counts = record { entries = 0; unknown = 0; findings = 0; errors = 0; warnings = 0 }
 
 -- the finding of a setting, if there is one, and the counts before and after it
-pub data ReportsSetting (rows : List Row) (options : Options) (setting : Setting) (s : Counts) (said : List Finding) (s' : Counts)
+pub data ReportsSetting (rows : List Row) (options : Options) (setting : Setting) (s : Counts)
+    (said : List Finding) (s' : Counts)
     : Type 0 where
   unknown : IsUnknown rows setting.key.items → IsPassed rows setting.key.items → said ≡ []
       → s' ≡ record s { entries = s.entries + 1; unknown = s.unknown + 1 }
       → ReportsSetting rows options setting s said s'
-  misspelled : (key : UnknownKey) → IsUnknownKey rows setting.key.items key → said ≡ unknown_finding s.entries setting key ∷ []
-      → s' ≡ counted (unknown_severity setting.key.items) (record s { entries = s.entries + 1; unknown = s.unknown + 1 })
+  misspelled : (key : UnknownKey) → IsUnknownKey rows setting.key.items key
+      → said ≡ unknown_finding s.entries setting key ∷ []
+      → s' ≡ counted (unknown_severity setting.key.items)
+      (record s { entries = s.entries + 1; unknown = s.unknown + 1 })
       → ReportsSetting rows options setting s said s'
   right : (row : Row) → Decides rows setting.key.items row
       → HasFinding options row (value_of setting) None → said ≡ []
@@ -154,7 +159,8 @@ pub data ReportsSetting (rows : List Row) (options : Options) (setting : Setting
 -- the findings of these settings, in order, and their counts
 pub data Report (rows : List Row) (options : Options) : List Setting → List Finding → Counts → Type 0 where
   nothing : Report rows options [] [] no_counts
-  next : (settings : List Setting) (found : List Finding) (s : Counts) (setting : Setting) (said : List Finding) (s' : Counts)
+  next : (settings : List Setting) (found : List Finding) (s : Counts) (setting : Setting)
+      (said : List Finding) (s' : Counts)
       → Report rows options settings found s → ReportsSetting rows options setting s said s'
       → Report rows options (settings ++ setting ∷ []) (found ++ said) s'
 
@@ -169,7 +175,8 @@ HasSettings file text settings error =
     (entries : List Entry) × IsFile text entries error × AllZip (IsSettingOf file) entries settings
 
 -- all findings of a file, and their counts
-pub record IsReport (rows : List Row) (options : Options) (file text : List ℕ) (all : List Finding) (s' : Counts) : Type 0 where
+pub record IsReport (rows : List Row) (options : Options) (file text : List ℕ) (all : List Finding)
+    (s' : Counts) : Type 0 where
   pub settings : List Setting
   pub error : Option errors.FileError
   pub of_file : HasSettings file text settings error
@@ -201,7 +208,8 @@ Receives (Some had) None more = ⊥
 Receives (Some had) (Some has) more = has ≡ had ++ more
 
 -- all findings of the file are received; `known` and `known'` are what the receiver had before and after
-abbrev pub Completes : List Row → Options → List ℕ → List ℕ → Option (List Finding) → Option (List Finding) → Counts → Type 0
+abbrev pub Completes : List Row → Options → List ℕ → List ℕ → Option (List Finding) → Option (List Finding)
+    → Counts → Type 0
 Completes rows options file text known known' s =
     (all : List Finding) × Receives known known' all × IsReport rows options file text all s
 
@@ -214,7 +222,8 @@ pub record HasFirstSettings (file text : List ℕ) (first : List Setting) : Type
   pub are : AllZip (IsSettingOf file) before first
 
 -- the findings of some first settings of the file
-pub record BeginsReport (rows : List Row) (options : Options) (file text : List ℕ) (found : List Finding) : Type 0 where
+pub record BeginsReport (rows : List Row) (options : Options) (file text : List ℕ)
+    (found : List Finding) : Type 0 where
   pub first : List Setting
   pub of_file : HasFirstSettings file text first
   pub s : Counts

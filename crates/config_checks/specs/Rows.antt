@@ -1,6 +1,8 @@
 -- Rows: which row decides about a key, and how rows are written.
-use Rattle.std.specs.Prelude.{◌≡◌, ◌≢◌, ◌⊎◌, ℕ, ◌+◌, ◌<◌, ◌≤ℤ◌, ◌<ℤ◌, ◌==◌, ◌||◌, Bool, true, false, List, [], ◌∷◌, ◌++◌}
-use Rattle.std.specs.Prelude.{length, take, map, flat_map, codes, Option, None, Some, slice_index_or, All, option_copied}
+use Rattle.std.specs.Prelude.{◌≡◌, ◌≢◌, ◌⊎◌, ℕ, ◌+◌, ◌<◌, ◌≤ℤ◌, ◌<ℤ◌, ◌==◌, ◌||◌, Bool, true, false, List, []}
+use Rattle.std.specs.Prelude.{◌∷◌, ◌++◌}
+use Rattle.std.specs.Prelude.{length, take, map, flat_map, codes, Option, None, Some, slice_index_or, All}
+use Rattle.std.specs.Prelude.{option_copied}
 use Rattle.std.specs.Prelude.{nat_eq, if◌then◌else◌}
 use Rattle.std.specs.List.{slice_split, list_all, starts_with, take_while}
 use Rattle.gix_config_value.specs.Amount.{AmountText}
@@ -18,7 +20,8 @@ use Rattle.config_checks.specs.declared.table.RowFault.{RowFault}
 use Rattle.config_checks.specs.declared.table.BadRow.{BadRow}
 use Rattle.config_checks.specs.declared.table.Marks.{Marks}
 use Rattle.config_checks.specs.declared.version.Version.{Version}
-use Rattle.config_checks.specs.declared.table.RowFault.TheVariants.{NoKind, NoKey, UnknownKind, NoWords, Bounds, NotInOrder}
+use Rattle.config_checks.specs.declared.table.RowFault.TheVariants.{NoKind, NoKey, UnknownKind, NoWords}
+use Rattle.config_checks.specs.declared.table.RowFault.TheVariants.{Bounds, NotInOrder}
 use Rattle.config_checks.specs.declared.table.RowFault.TheVariants.{Words, NoVersion, Unwanted, Memory}
 use Rattle.config_checks.specs.Keys.{Covers}
 use Rattle.config_checks.specs.Versions.{IsVersion}
@@ -223,14 +226,17 @@ IsBadKind name words NoWords =
     (words ≡ []) × (ignores_case : Bool) × (form : Form) × (words_name ignores_case form ≡ name)
 IsBadKind name words (Words word) =
     ((rest : List (List ℕ)) × (words ≡ word.now ∷ rest)) × ((kind : SettingKind) × (plain_name kind ≡ Some name))
-IsBadKind name words Bounds = (name ≡ codes "int") × (words ≢ []) × ((low high : Amount) → ¬ (AreNumbers words low high))
+IsBadKind name words Bounds = (name ≡ codes "int") × (words ≢ [])
+    × ((low high : Amount) → ¬ (AreNumbers words low high))
 IsBadKind name words NotInOrder =
     (name ≡ codes "int") × (low : Amount) × (high : Amount) × AreNumbers words low high × (high.0 <ℤ low.0)
 IsBadKind name words (Memory e) = Unit {0}
 IsBadKind name words _ = ⊥
 
--- Why these fields are neither a row nor those of a blank line, or that memory ran out. The key has no dot, a version is
--- missing, no kind follows, no kind has the name and the words, or the kind takes no value such as the row wants: the
+-- Why these fields are neither a row nor those of a blank line, or that memory ran out. The key has no dot, a
+-- version is
+-- missing, no kind follows, no kind has the name and the words, or the kind takes no value such as the row
+-- wants: the
 -- first of these.
 abbrev pub IsBadRow : List (List ℕ) → RowFault → Type 0
 IsBadRow fields (Memory e) = Unit {0}

@@ -1,5 +1,7 @@
--- Texts that Git reads by rules of their own: refspecs, names of branches, the command lines of aliases, colors by age.
-use Rattle.std.specs.Prelude.{◌≡◌, ◌≢◌, ◌⊎◌, ℕ, ◌≤◌, ◌==◌, ◌||◌, ⊤, nat_lt, not, Bool, true, false, List, [], ◌∷◌, ◌++◌}
+-- Texts that Git reads by rules of their own: refspecs, names of branches, the command lines of aliases,
+-- colors by age.
+use Rattle.std.specs.Prelude.{◌≡◌, ◌≢◌, ◌⊎◌, ℕ, ◌≤◌, ◌==◌, ◌||◌, ⊤, nat_lt, not, Bool, true, false, List, []}
+use Rattle.std.specs.Prelude.{◌∷◌, ◌++◌}
 use Rattle.std.specs.Prelude.{Option, None, Some, codes, count_by, if◌then◌else◌, All}
 use Rattle.std.specs.List.{list_any, list_all, slice_split, fold}
 use Rattle.bstr.specs.Text.{Contains}
@@ -9,7 +11,8 @@ use Rattle.config_checks.specs.declared.shape.Quote.{Quote}
 use Rattle.config_checks.specs.declared.shape.Quote.TheVariants.{Outside, Single, Double, Escaped, DoubleEscaped}
 use Rattle.config_checks.specs.Kinds.{without_front}
 use Rattle.config_checks.specs.declared.shape.Shape.{Shape}
-use Rattle.config_checks.specs.declared.shape.Shape.TheVariants.{FetchRefspec, PushRefspec, Branch, Command, NoOption, ColorsByAge}
+use Rattle.config_checks.specs.declared.shape.Shape.TheVariants.{FetchRefspec, PushRefspec, Branch, Command}
+use Rattle.config_checks.specs.declared.shape.Shape.TheVariants.{NoOption, ColorsByAge}
 
 abbrev pub BeginsWith : List ℕ → List ℕ → Type 0
 BeginsWith t front = (rest : List ℕ) × (t ≡ front ++ rest)
@@ -21,7 +24,8 @@ EndsWith t end = (front : List ℕ) × (t ≡ front ++ end)
 
 -- a byte that no name has: a control character, a space, DEL, or one of ~ ^ : ? [ \
 abbrev pub is_no_ref_byte : ℕ → Bool
-is_no_ref_byte b = nat_lt b 33 || (b == 127) || (b == 126) || (b == 94) || (b == 58) || (b == 63) || (b == 91) || (b == 92)
+is_no_ref_byte b = nat_lt b 33 || (b == 127) || (b == 126) || (b == 94) || (b == 58) || (b == 63) ||
+    (b == 91) || (b == 92)
 
 abbrev pub is_slash : ℕ → Bool
 is_slash b = b == 47

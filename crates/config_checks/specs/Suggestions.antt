@@ -21,7 +21,8 @@ use Rattle.config_checks.specs.Rows.{IsUnknown}
 
 -- ---- how far two keys are apart
 
--- The two subsections are near, `n` edits apart. If only one of the keys has a subsection, and the names are the same,
+-- The two subsections are near, `n` edits apart. If only one of the keys has a subsection, and the names are
+-- the same,
 -- that is no edit, since the key lacks a subsection, or has one too many.
 abbrev pub SubsectionEdits : (same_name : Type 0) → Option (List ℕ) → Option (List ℕ) → ℕ → Type 0
 SubsectionEdits same_name (Some row) (Some subsection) n = FewEdits 5 row subsection n
@@ -43,14 +44,16 @@ IsOtherWord row t = IsFor (codes "branch") (codes "branches") row t ⊎ (IsFor (
     ⊎ (IsFor (codes "name") (codes "username") row t ⊎ (IsFor (codes "new") (codes "added") row t
     ⊎ (IsFor (codes "old") (codes "removed") row t ⊎ IsFor (codes "textconv") (codes "textconvert") row t))))
 
--- the texts are `n` edits apart: none if the second one is another word for the first, or so many as near texts are, or
+-- the texts are `n` edits apart: none if the second one is another word for the first, or so many as near
+-- texts are, or
 -- three if they are only alike
 pub data NearEdits (long : ℕ) (Alike : Type 0) (a b : List ℕ) (n : ℕ) : Type 0 where
   other_word : IsOtherWord a b → n ≡ 0 → NearEdits long Alike a b n
   few : ¬ (IsOtherWord a b) → FewEdits long a b n → NearEdits long Alike a b n
   alike : ¬ (IsOtherWord a b) → ((m : ℕ) → ¬ (FewEdits long a b m)) → Alike → n ≡ 3 → NearEdits long Alike a b n
 
--- how many edits lead from one name to the other; in a key without a subsection one of them may only lack a run of bytes
+-- how many edits lead from one name to the other; in a key without a subsection one of them may only lack a
+-- run of bytes
 -- of the other, or end otherwise
 abbrev pub NameEdits : (row key : Key) → ℕ → Type 0
 NameEdits row key = NearEdits 5 ((key.subsection ≡ None) × AreAlike row.name key.name) row.name key.name
@@ -115,20 +118,25 @@ HasSlots rows t =
 -- without a row. With one it is such a subsection of `color`, since Git takes no slot there but those of the rows.
 pub data IsOwn (rows : List Row) (key : Key) : Type 0 where
   alone : key.subsection ≡ None → ¬ (IsShared key.section) → HasSection rows key.section → IsOwn rows key
-  slot : (t : List ℕ) → key.subsection ≡ Some t → SameWord (codes "color") key.section → HasSlots rows t → IsOwn rows key
+  slot : (t : List ℕ) → key.subsection ≡ Some t → SameWord (codes "color") key.section → HasSlots rows t
+      → IsOwn rows key
 
--- Git stops at an unknown message of git-fsck(1) and at an unknown slot of git-grep(1), and ignores all other unknown keys
+-- Git stops at an unknown message of git-fsck(1) and at an unknown slot of git-grep(1), and ignores all other
+-- unknown keys
 abbrev pub unknown_severity : (listed : List ℕ) → Severity
 unknown_severity key =
-    if starts_with nat_eq key (codes "fsck.") || starts_with nat_eq key (codes "color.grep.") then Error else Warning
+    if starts_with nat_eq key (codes "fsck.") || starts_with nat_eq key
+    (codes "color.grep.") then Error else Warning
 
 -- ---- a name in another section
 
 -- a section whose names are those of commands, or of what helpers ask for
 abbrev pub IsTopic : List ℕ → Type 0
-IsTopic t = SameWord (codes "advice") t ⊎ (SameWord (codes "color") t ⊎ (SameWord (codes "credential") t ⊎ SameWord (codes "pager") t))
+IsTopic t = SameWord (codes "advice") t
+    ⊎ (SameWord (codes "color") t ⊎ (SameWord (codes "credential") t ⊎ SameWord (codes "pager") t))
 
--- The key of the row has the key's name in another section, and neither key has a subsection. A `color` may be that of
+-- The key of the row has the key's name in another section, and neither key has a subsection. A `color` may
+-- be that of
 -- many commands.
 pub record IsMoved (row key : Key) : Type 0 where
   pub row_alone : row.subsection ≡ None
@@ -159,12 +167,14 @@ IsElsewhere rows key row = HasSection rows key.section × IsFirstSuch (IsMovedRo
 abbrev pub IsNowhere : List Row → Key → Type 0
 IsNowhere rows key = ¬ (HasSection rows key.section) ⊎ HasNone (IsMovedRow key) rows
 
--- the row whose key is suggested: the nearest one or, if all rows are far, the first with the name in another section
+-- the row whose key is suggested: the nearest one or, if all rows are far, the first with the name in another
+-- section
 pub data IsSuggested (rows : List Row) (key : Key) (row : Row) : Type 0 where
   near : IsNearest (RowEdits key) rows row → IsSuggested rows key row
   moved : AreFar (RowEdits key) rows → IsElsewhere rows key row → IsSuggested rows key row
 
--- what is suggested for an unknown key: the key of such a row, or nothing if there is none and only rows have settings
+-- what is suggested for an unknown key: the key of such a row, or nothing if there is none and only rows have
+-- settings
 -- where the key is (`IsOwn`)
 abbrev pub Suggests : List Row → Key → Option Key → Type 0
 Suggests rows key None = AreFar (RowEdits key) rows × (IsNowhere rows key × IsOwn rows key)

@@ -23,7 +23,8 @@ wrong_code wrongs.MissingSetting = kind.MissingSetting
 wrong_code wrongs.EndlessAlias = kind.EndlessAlias
 wrong_code wrongs.SubmoduleName = kind.SubmoduleName
 
--- Git stops at most of this, ignores a condition and a submodule that it does not know, and passes a file that is not there
+-- Git stops at most of this, ignores a condition and a submodule that it does not know, and passes a file
+-- that is not there
 abbrev pub wrong_severity : Wrong → Severity
 wrong_severity wrongs.Missing = Note
 wrong_severity (wrongs.Unread why) = Warning

@@ -30,11 +30,13 @@ use Rattle.config_edit.specs.Edit as spec
 use Rattle.config_edit.specs.Edit.{Content, IsIn, WithoutIn, NoneIn, SameEntry, AddsContent}
 use Rattle.config_edit.specs.Edit.{HasValue, CanFollow, IsPlace, EndsParts, IsFeedAt, IsOpen}
 use Rattle.config_edit.specs.Cut as cut
-use Rattle.config_edit.specs.Cut.{absent, Part, Cuts, part_bytes, parts_bytes, ends_line, ends_in_header, section_from}
+use Rattle.config_edit.specs.Cut.{absent, Part, Cuts, part_bytes, parts_bytes, ends_line, ends_in_header}
+use Rattle.config_edit.specs.Cut.{section_from}
 use Rattle.config_edit.specs.Reading.{Holds, Ends, Passed, anywhere, at_end, IsRead, IsMade, IsPiece}
 use Rattle.config_edit.specs.Reading.{IsHeaderAt, contents_in, section_after, IsPast, IsEndOf, Closes}
 use Rattle.config_edit.specs.Reading as edit
-use Rattle.config_edit.specs.Reading.{line_ends, is_item, holds_header, IsPlaceIn, IsPlaceSoFar, Placing, ArePlaces}
+use Rattle.config_edit.specs.Reading.{line_ends, is_item, holds_header, IsPlaceIn, IsPlaceSoFar, Placing}
+use Rattle.config_edit.specs.Reading.{ArePlaces}
 use Rattle.config_edit.specs.Reading.{EndsNoLine, IsAdded, IsOpenEntry, IsOpenHeld, new_line}
 use Rattle.config_edit.specs.Reading.{IsEntry, IsLineEnd}
 use Rattle.config_edit.proofs.OnePart.{feed_is_end}
@@ -86,8 +88,10 @@ closes_more : {text rest front : List ℕ} {contents : List Content} {section : 
     (piece : Piece)
     → IsPast text rest front contents section → IsPiece rest piece
     → length piece.rest.now < length rest → IsEndOf piece e
-    → Closes None (front ++ piece.bytes.now) (contents ++ contents_in piece.held section) (section_after piece.held section) e
-closes_more {rest = rest} {front = front} {contents = contents} {section = section} {e = e} piece past is shorter end_is = λ line_end line_is.
+    → Closes None (front ++ piece.bytes.now) (contents ++ contents_in piece.held section)
+    (section_after piece.held section) e
+closes_more {rest = rest} {front = front} {contents = contents} {section = section}
+    {e = e} piece past is shorter end_is = λ line_end line_is.
     let holds = passed_holds (some_left rest piece.rest.now shorter) past.passed in
     let (now, more, same) = piece_closes piece is end_is section line_end line_is in (
       contents ++ now,
@@ -97,7 +101,8 @@ closes_more {rest = rest} {front = front} {contents = contents} {section = secti
     )
 
 -- the parts behind one that is not the last place
-last_here : (key : Key) (parts : List Part) (more left : List Part) → [] ≡ more ++ left → CanFollow key (parts ++ more)
+last_here : (key : Key) (parts : List Part) (more left : List Part) → [] ≡ more ++ left
+    → CanFollow key (parts ++ more)
     → more ≡ []
 last_here key parts [] left e can = refl
 last_here key parts (part ∷ more) left e can = cc
@@ -119,15 +124,21 @@ item_held (held.Entry parts) blanks bytes rest is_line part (between, tail, is, 
 item_held h blanks bytes rest is_line part is = rw is refl
 
 -- a part behind which no new entry can stand
-cannot_follow : {section : Option Section} (key : Key) (before : List Part) (h : Held) (blanks bytes rest : List ℕ) (is_line : Bool)
-    (part : Part) → IsPartOf h blanks bytes rest is_line part → section_from None (before ++ part ∷ []) ≡ section
-    → ¬ (IsIn key section) ⊎ ((is_item h ≡ false) × (ends_in_header before ≡ false)) → ¬ (CanFollow key (before ++ part ∷ []))
-cannot_follow key before h blanks bytes rest is_line part of section_is (inl outside) = λ (front, last, joined, in_section, either).
+cannot_follow : {section : Option Section} (key : Key) (before : List Part) (h : Held)
+    (blanks bytes rest : List ℕ) (is_line : Bool)
+    (part : Part) → IsPartOf h blanks bytes rest is_line part
+    → section_from None (before ++ part ∷ []) ≡ section
+    → ¬ (IsIn key section) ⊎ ((is_item h ≡ false) × (ends_in_header before ≡ false))
+    → ¬ (CanFollow key (before ++ part ∷ []))
+cannot_follow key before h blanks bytes rest is_line part of section_is (inl outside) =
+    λ (front, last, joined, in_section, either).
     outside (subst (λ s. IsIn key s) section_is in_section)
-cannot_follow key before h blanks bytes rest is_line part of section_is (inr (no_item, no_header)) = λ (front, last, joined, in_section, either).
+cannot_follow key before h blanks bytes rest is_line part of section_is (inr (no_item, no_header)) =
+    λ (front, last, joined, in_section, either).
     let (fronts, parts) = same_last before front part last joined in
     elim either [
-      | inl item ↦ true≢false (sym (rw (← parts) at item) ∙ item_held h blanks bytes rest is_line part of ∙ no_item)
+      | inl item ↦ true≢false (sym (rw (← parts) at item) ∙ item_held h blanks bytes rest is_line part of
+          ∙ no_item)
       | inr header ↦ true≢false (sym (rw (← fronts) at header) ∙ no_header)
     ]
 
@@ -152,7 +163,8 @@ abbrev lines_of : Outcome → ℕ
 lines_of (Ok p) = p.1
 lines_of (Err p) = 0
 
-pub one_ending : {raw first second : List ℕ} → SpellsValue raw first spells.outside → SpellsValue raw second spells.at_backslash → ⊥
+pub one_ending : {raw first second : List ℕ} → SpellsValue raw first spells.outside
+    → SpellsValue raw second spells.at_backslash → ⊥
 one_ending {raw = raw} closed_is open_is =
     let taken = value_is raw (Ok (raw, line_feeds raw, [])) (closed (sym (append-nil raw)) closed_is tt) in
     let other = value_is raw (Ok (raw, line_feeds raw + 1, [])) (spells.open_end open_is) in
@@ -167,8 +179,10 @@ open_there parts raw held takes other = elim (how_ends takes) [
   | before_nothing text s lines none ↦ (text, s)
 ]
 
-open_back : {text name at : List ℕ} (parts : EntryParts) (was : Option (List ℕ)) (blanks key between tail : List ℕ) (is_line : Bool)
-    → value_of parts.value ≡ was → TakesEntry text name was parts.lines at → IsOpen (cut.entry blanks key between was tail is_line)
+open_back : {text name at : List ℕ} (parts : EntryParts) (was : Option (List ℕ))
+    (blanks key between tail : List ℕ) (is_line : Bool)
+    → value_of parts.value ≡ was → TakesEntry text name was parts.lines at
+    → IsOpen (cut.entry blanks key between was tail is_line)
     → IsOpenEntry parts
 open_back parts None blanks key between tail is_line held takes is = absurd is
 open_back parts (Some raw) blanks key between tail is_line held takes (value, s) = elim (how_ends takes) [
@@ -177,20 +191,24 @@ open_back parts (Some raw) blanks key between tail is_line held takes (value, s)
 ]
 
 -- how the part of a piece ends
-ends_held : (h : Held) (blanks bytes rest : List ℕ) (is_line : Bool) (part : Part) → IsMade h blanks bytes rest is_line
+ends_held : (h : Held) (blanks bytes rest : List ℕ) (is_line : Bool) (part : Part)
+    → IsMade h blanks bytes rest is_line
     → (holds_header h ≡ true → is_line ≡ false) → IsPartOf h blanks bytes rest is_line part
     → (ends_line part ≡ is_line) × (IsOpen part → IsOpenHeld h) × (IsOpenHeld h → IsOpen part)
 ends_held (held.Header section) blanks bytes rest is_line part made not_ended (inner, is) =
     (rw is (sym (not_ended refl)), λ o. rw is at o, λ o. absurd o)
 ends_held (held.Entry parts) blanks bytes rest is_line part made not_ended (between, tail, is, left) = (
   rw is refl,
-  λ o. open_back parts (value_of parts.value) blanks parts.key.now between tail is_line refl made.takes (rw is at o),
-  λ (raw, held, other). rw is (subst (λ v. IsOpen (cut.entry blanks parts.key.now between v tail is_line)) (sym held)
+  λ o. open_back parts (value_of parts.value) blanks parts.key.now between tail is_line refl made.takes
+      (rw is at o),
+  λ (raw, held, other). rw is (subst (λ v. IsOpen (cut.entry blanks parts.key.now between v tail is_line))
+      (sym held)
       (open_there parts raw held (rw held at made.takes) other)),
 )
 ends_held h blanks bytes rest is_line part made not_ended is = (rw is refl, λ o. rw is at o, λ o. absurd o)
 
-part_ends : {text : List ℕ} {f : End} (feed : List ℕ) (before : List Part) (part : Part) (piece : Piece) → IsPiece text piece
+part_ends : {text : List ℕ} {f : End} (feed : List ℕ) (before : List Part) (part : Part) (piece : Piece)
+    → IsPiece text piece
     → IsEndOf piece f → (holds_header piece.held ≡ true → piece.is_line ≡ false)
     → IsPartOf piece.held piece.blanks.now piece.bytes.now piece.rest.now piece.is_line part
     → EndsParts feed (before ++ part ∷ []) (line_ends f feed)
@@ -207,19 +225,24 @@ places_at_end : (key : Key) (text : List ℕ) (contents : List Content) (section
     → MatchOption inside
     (NoneIn key contents × ((front back : List Part) → parts ≡ front ++ back → ¬ (CanFollow key front)))
     (λ place. (p : IsPlaceIn key text [] contents section place) × (parts ≡ p.parts ++ p.later))
-places_at_end key text contents section is_inside after None parts (nothing, false_is, cuts, never) = (nothing, never)
+places_at_end key text contents section is_inside after None parts (nothing, false_is, cuts, never) =
+    (nothing, never)
 places_at_end key text contents section is_inside after (Some place) parts r = r
 
 module _ {key : Key} {text rest : List ℕ} {was before : Bool} {inside : Option Insertion} {e f : End}
     (p : Placing key text rest was before inside e) {piece : Piece} (is : IsPiece rest piece)
-    (shorter : length piece.rest.now < length rest) (end_is : IsEndOf piece f) (not_ended : holds_header piece.held ≡ true → piece.is_line ≡ false)
+    (shorter : length piece.rest.now < length rest) (end_is : IsEndOf piece f)
+    (not_ended : holds_header piece.held ≡ true → piece.is_line ≡ false)
     (is_inside after : Bool)
-    (inside_is : IsTrue is_inside ↔ IsIn key (section_after piece.held p.section)) (after_is : after ≡ holds_header piece.held) where
-  more_is : length p.contents + length (contents_in piece.held p.section) ≡ length (p.contents ++ contents_in piece.held p.section)
+    (inside_is : IsTrue is_inside ↔ IsIn key (section_after piece.held p.section))
+    (after_is : after ≡ holds_header piece.held) where
+  more_is : length p.contents + length (contents_in piece.held p.section)
+      ≡ length (p.contents ++ contents_in piece.held p.section)
   more_is = sym (length-append p.contents (contents_in piece.held p.section))
 
   placing_more : (now : Option Insertion) → (m : CutMore text p.section (length p.contents) p.parts piece)
-      → IsPlaceSoFar key text piece.rest.now (p.contents ++ contents_in piece.held p.section) (section_after piece.held p.section) is_inside after now (p.parts ++ m.part ∷ [])
+      → IsPlaceSoFar key text piece.rest.now (p.contents ++ contents_in piece.held p.section)
+      (section_after piece.held p.section) is_inside after now (p.parts ++ m.part ∷ [])
       → Placing key text piece.rest.now is_inside after now f
   placing_more now m place =
       record {
@@ -266,7 +289,8 @@ module _ {key : Key} {text rest : List ℕ} {was before : Bool} {inside : Option
         later = [];
         joined = past.joined;
         cut = refl;
-        front_is = append_cancel_right (p.front ++ piece.bytes.now) (parts_bytes parts) piece.rest.now (sym past.joined ∙ m.cut.joined);
+        front_is = append_cancel_right (p.front ++ piece.bytes.now) (parts_bytes parts) piece.rest.now
+            (sym past.joined ∙ m.cut.joined);
         cuts = rw (append-nil parts) joined;
         can_follow = can;
         is_last = last_here key parts;
@@ -282,7 +306,8 @@ module _ {key : Key} {text rest : List ℕ} {was before : Bool} {inside : Option
   place_kept : (now : Option Insertion) (m : CutMore text p.section (length p.contents) p.parts piece)
       → IsPlaceSoFar key text rest p.contents p.section was before now p.parts
       → (is_inside ≡ false) ⊎ ((is_item piece.held ≡ false) × (before ≡ false))
-      → IsPlaceSoFar key text piece.rest.now (p.contents ++ contents_in piece.held p.section) (section_after piece.held p.section) is_inside after now (p.parts ++ m.part ∷ [])
+      → IsPlaceSoFar key text piece.rest.now (p.contents ++ contents_in piece.held p.section)
+      (section_after piece.held p.section) is_inside after now (p.parts ++ m.part ∷ [])
   place_kept None m (nothing, false_is, cuts, never) either =
       let no_item : (is_inside ≡ false) ⊎ (is_item piece.held ≡ false) = elim either [ inl off ↦ inl off | inr both ↦ inr both.0 ] in
       let off = still_outside key p.section was is_inside piece.held p.inside_is false_is inside_is no_item in
@@ -318,7 +343,8 @@ module _ {key : Key} {text rest : List ℕ} {was before : Bool} {inside : Option
         cuts = rw joined at (rw more_is at m.cut);
         can_follow = r.can_follow;
         is_last = λ front back e can. elim (cut_last r.later front back m.part e) [
-          | inl (none, all) ↦ absurd (cannot (subst (λ t. CanFollow key t) (ap (λ f. r.parts ++ f) all ∙ sym joined) can))
+          | inl (none, all) ↦ absurd (cannot
+              (subst (λ t. CanFollow key t) (ap (λ f. r.parts ++ f) all ∙ sym joined) can))
           | inr (left, is_front) ↦ r.is_last front left is_front can
         ];
         are_ends = r.are_ends;
@@ -344,7 +370,8 @@ pub placing_ends : {key : Key} {text rest : List ℕ} {contents : List Content} 
     (places : Places)
     → Placing key text rest is_inside after places.inside places.end → Ends None text contents
     → (rest ≡ []) ⊎ (¬ (IsRead rest)) → ArePlaces key text contents places
-placing_ends {key = key} {text = text} {contents = contents} {is_inside = is_inside} {after = after} places p whole left =
+placing_ends {key = key} {text = text} {contents = contents} {is_inside = is_inside}
+    {after = after} places p whole left =
     let (rest_is, text_is, contents_are) = all_passed p.past.joined p.past.passed whole left in
     let cuts = rw rest_is at p.cuts.cuts in
     record {
@@ -353,12 +380,14 @@ placing_ends {key = key} {text = text} {contents = contents} {is_inside = is_ins
       closes = rw (← text_is, contents_are) at p.closes;
       cuts = rw append-nil at (cuts [] cut.ends);
       are_ends = p.are_ends;
-      inside = places_at_end key text contents p.section is_inside after places.inside p.parts (rw (rest_is, contents_are) at p.place);
+      inside = places_at_end key text contents p.section is_inside after places.inside p.parts
+          (rw (rest_is, contents_are) at p.place);
     }
 
 -- the line of a new entry
 pub name_parts : (name : List ℕ) → is_name name ≡ true
-    → (b : ℕ) × (more : List ℕ) × (name ≡ b ∷ more) × (is_ascii_alphabetic b ≡ true) × (list_all is_key_byte name ≡ true)
+    → (b : ℕ) × (more : List ℕ) × (name ≡ b ∷ more) × (is_ascii_alphabetic b ≡ true)
+    × (list_all is_key_byte name ≡ true)
 name_parts [] is = absurd (true≢false (sym is))
 name_parts (b ∷ more) is =
     let (letter, all) = and_parts (is_ascii_alphabetic b) (list_all is_key_byte more) is in
@@ -366,7 +395,8 @@ name_parts (b ∷ more) is =
 
 line_holds : (name value feed : List ℕ) → is_name name ≡ true → is_spellable value ≡ true → IsLineEnd feed
     → (section : Option Section)
-    → (raw : List ℕ) × HasValue (Some raw) value × Holds section (new_line name value feed) ((section, name, Some raw) ∷ []) section
+    → (raw : List ℕ) × HasValue (Some raw) value
+    × Holds section (new_line name value feed) ((section, name, Some raw) ∷ []) section
 line_holds name value feed is spellable is_feed section =
     let (return, feed_is, return_is) = return_of feed is_feed in
     let (b, more, name_is, letter, key_bytes) = name_parts name is in
@@ -385,10 +415,26 @@ line_holds name value feed is spellable is_feed section =
     record {
       front = name ++ 32 ∷ 61 ∷ raw;
       tail = 10 ∷ [];
-      begins = (b, more ++ 32 ∷ after, append_assoc name (32 ∷ 61 ∷ raw) (10 ∷ []) ∙ ap (λ n. n ++ 32 ∷ after) name_is, letter);
-      takes = rw (append_assoc name (32 ∷ 61 ∷ raw) (10 ∷ [])) (valued key_takes refl (closed refl whole (inl refl)));
+      begins = (
+        b,
+        more ++ 32 ∷ after,
+        append_assoc name (32 ∷ 61 ∷ raw) (10 ∷ [])
+            ∙ ap (λ n. n ++ 32 ∷ after) name_is,
+        letter,
+      );
+      takes = rw (append_assoc name (32 ∷ 61 ∷ raw) (10 ∷ []))
+          (valued key_takes refl (closed refl whole (inl refl)));
       left = refl;
-      is_tail = record { blanks = []; comment = []; are_blank = refl; is_comment = absent; ends = inl (refl, refl) };
+      is_tail = record {
+        blanks = [];
+        comment = [];
+        are_blank = refl;
+        is_comment = absent;
+        ends = inl (
+          refl,
+          refl,
+        );
+      };
       joined = ap (λ f. 9 ∷ (name ++ 32 ∷ 61 ∷ 32 ∷ (git_spelled value ++ f))) feed_is ∙ simp append_assoc;
     } in
     (raw, (spells.outside, whole), entry_holds (9 ∷ []) refl entry section)
@@ -397,7 +443,8 @@ pub cut_bytes : {text : List ℕ} {parts : List Part} → Cuts text parts → te
 cut_bytes cut.ends = refl
 cut_bytes (cut.begins part is more) = ap (λ t. part_bytes part ++ t) (cut_bytes more)
 
-feed_of : {front text feed also other : List ℕ} → IsFeedAt front text feed → front ≡ also → text ≡ other → IsFeedAt also other feed
+feed_of : {front text feed also other : List ℕ} → IsFeedAt front text feed → front ≡ also → text ≡ other
+    → IsFeedAt also other feed
 feed_of is fronts texts = rw (fronts, texts) at is
 
 -- an entry behind a text that is closed, or behind a header that is put there
@@ -407,10 +454,12 @@ added : {key : Key} {value text new : List ℕ} {contents : List Content} {there
     → Holds there headed [] (Some s) → Ends (Some s) back after → IsIn key (Some s) → NoneIn key after
     → contents ≡ before ++ after → text ≡ front ++ back
     → new ≡ front ++ (line_ends e feed ++ (headed ++ (new_line key.name value feed ++ back)))
-    → Cuts text (parts ++ later) → front ≡ parts_bytes parts → IsFeedAt front text feed → EndsParts feed parts (line_ends e feed)
+    → Cuts text (parts ++ later) → front ≡ parts_bytes parts → IsFeedAt front text feed
+    → EndsParts feed parts (line_ends e feed)
     → IsPlace key header feed parts later headed
     → IsAdded key value text contents new
-added {key = key} {value = value} {text = text} {s = s} parts later front back feed header headed before after e is_a_name spellable closes head
+added {key = key} {value = value} {text = text}
+    {s = s} parts later front back feed header headed before after e is_a_name spellable closes head
     left in_section last old_is joined new_is cuts front_is feed_at ends_parts place =
     let is_feed = feed_is_end feed_at in
     let ends = line_ends e feed in
@@ -473,20 +522,23 @@ added_inside {key = key} value text new feed front {place = place} is_a_name spe
     let head : Holds r.there [] [] (Some s) = subst (λ t. Holds r.there [] [] t) there_is (holds_nothing r.there) in
     let cuts = rw append-nil at (r.cuts.cuts [] cut.ends) in
     added r.parts r.later r.front rest feed [] [] r.before r.after place.end is_a_name spellable r.closes head later_there in_there
-    r.last r.contents_are r.joined (rw front_is at new_is) cuts r.front_is (rw front_is at feed_at) (r.are_ends feed)
+    r.last r.contents_are r.joined (rw front_is at new_is) cuts r.front_is (rw front_is at feed_at)
+    (r.are_ends feed)
     (spec.inside r.can_follow r.is_last)
 
 -- a new section
 listed_as_stem : (name : List ℕ) (raw text : Option (List ℕ)) → SpellsOptional SpellsSubsection raw text
     → IsListedSection (name, raw) ((map to_ascii_lowercase name ++ dotted text) ++ 46 ∷ [])
 listed_as_stem name None None spells = rw append-nil listing.plain
-listed_as_stem name (Some raw) (Some text) spells = simp append_assoc (simp append_assoc at (listing.quoted {name = name} spells))
+listed_as_stem name (Some raw) (Some text) spells =
+    simp append_assoc (simp append_assoc at (listing.quoted {name = name} spells))
 listed_as_stem name None (Some text) spells = absurd spells
 listed_as_stem name (Some raw) None spells = absurd spells
 
 names_in : (key : Key) (section : Section) → SpellsSection section key.section key.subsection
     → IsIn key (Some section)
-names_in key section (name_is, spells) = rw (← name_is) (listed_as_stem section.0 section.1 key.subsection spells)
+names_in key section (name_is, spells) =
+    rw (← name_is) (listed_as_stem section.0 section.1 key.subsection spells)
 
 -- a text without a header of the key
 pub record NoPlaces (key : Key) (text : List ℕ) (contents : List Content) (e : End) : Type 0 where
@@ -502,7 +554,8 @@ pub added_behind : (key : Key) (value text new feed : List ℕ) (contents : List
     → is_section key.section key.subsection ≡ true → (places : NoPlaces key text contents e)
     → Closes None text contents section e
     → IsFeedAt text text feed
-    → new ≡ text ++ (line_ends e feed ++ ((91 ∷ spelled_section key.section key.subsection) ++ (feed ++ new_line key.name value feed)))
+    → new ≡ text ++ (line_ends e feed
+    ++ ((91 ∷ spelled_section key.section key.subsection) ++ (feed ++ new_line key.name value feed)))
     → IsAdded key value text contents new
 added_behind key value text new feed contents section e is_a_name spellable is_a_section places closes feed_at new_is =
     let line = new_line key.name value feed in
@@ -511,9 +564,11 @@ added_behind key value text new feed contents section e is_a_name spellable is_a
     let (inner, s, header_is, names, header_at) = holds_header in
     let at : IsHeaderAt s [] header = record { inner = inner; joined = header_is; header = header_at } in
     let head : Holds section (header ++ feed) [] (Some s) =
-    holds_join header feed (header_holds refl at section) (end_holds (Some s) feed (inr (feed_is_end feed_at))) in
+    holds_join header feed (header_holds refl at section)
+    (end_holds (Some s) feed (inr (feed_is_end feed_at))) in
     added places.parts [] text [] feed header (header ++ feed) contents [] e is_a_name spellable closes head
-    (passed_ends refl (anywhere (holds_nothing (Some s)))) (names_in key s names) spec.none (sym (append-nil contents))
+    (passed_ends refl (anywhere (holds_nothing (Some s)))) (names_in key s names) spec.none
+    (sym (append-nil contents))
     (sym (append-nil text)) (rw (append-nil line, append_assoc header feed line) new_is)
     (rw (append-nil places.parts) places.cuts) (cut_bytes places.cuts) feed_at (places.are_ends feed)
     (spec.at_end places.never (holds_header, refl))
@@ -523,7 +578,8 @@ pub inside_after_header : (key : Key) (before : Option Section) (is_inside : Boo
     (blanks bytes rest : List ℕ) (is_line : Bool)
     → IsMade h blanks bytes rest is_line
     → (section : code.Section) → h ≡ held.Header section
-    → ((text : List ℕ) → IsListedSection (section_of section) text → (IsTrue is_inside ↔ IsListedSection (section_of section) (stem key ++ 46 ∷ [])))
+    → ((text : List ℕ) → IsListedSection (section_of section) text
+    → (IsTrue is_inside ↔ IsListedSection (section_of section) (stem key ++ 46 ∷ [])))
     → (IsTrue is_inside ↔ IsIn key (section_after h before))
 inside_after_header key before is_inside h blanks bytes rest is_line made section e asks =
     let (listed, spelled) = header_listed h blanks bytes rest is_line made section e in
@@ -534,13 +590,15 @@ pub inside_after_other : (key : Key) (section : Option Section) (is_inside : Boo
     → (IsTrue is_inside ↔ IsIn key (section_after h section))
 inside_after_other key section is_inside h other both = rw (other_after h section other) both
 
-pub place_within : {key : Key} {text rest : List ℕ} {is_inside after : Bool} (inside : Option Insertion) {e : End}
+pub place_within : {key : Key} {text rest : List ℕ} {is_inside after : Bool} (inside : Option Insertion)
+    {e : End}
     → Placing key text rest is_inside after inside e
     → IfSome inside (λ place. (front : List ℕ) × (text ≡ front ++ place.rest.now))
 place_within None p = tt
 place_within (Some place) p = (p.place.0.front, p.place.0.joined)
 
-pub header_after : (h : Held) (is : Bool) → ((new : code.Section) → h ≡ held.Header new → ⊥) → is ≡ false → is ≡ holds_header h
+pub header_after : (h : Held) (is : Bool) → ((new : code.Section) → h ≡ held.Header new → ⊥) → is ≡ false
+    → is ≡ holds_header h
 header_after (held.Header new) is other e = absurd (other new refl)
 header_after h is other e = e
 

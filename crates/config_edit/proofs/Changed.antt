@@ -135,10 +135,13 @@ parts_blank a b all =
 pub both_blank : (a b : List ℕ) → AreBlank a → AreBlank b → AreBlank (a ++ b)
 both_blank a b all also = rw (list_all-append is_blank a b, all, also) refl
 
-pub put_in_blanks : (blanks lead trail between tail value : List ℕ) (spaced signed : Bool) → is_spellable value ≡ true
+pub put_in_blanks : (blanks lead trail between tail value : List ℕ) (spaced signed : Bool)
+    → is_spellable value ≡ true
     → AreBlank blanks → blanks ≡ lead ++ trail → PartsBlanks lead trail
-    → (IsTrue spaced ↔ ((lead ≡ []) × (between ≢ 61 ∷ []))) → (IsTrue signed ↔ ((trail ≡ []) × BeginsWithSign tail))
-    → IsPutIn between tail blanks value (lead ++ ((space_if spaced ++ (git_spelled value ++ space_if signed)) ++ trail))
+    → (IsTrue spaced ↔ ((lead ≡ []) × (between ≢ 61 ∷ [])))
+    → (IsTrue signed ↔ ((trail ≡ []) × BeginsWithSign tail))
+    → IsPutIn between tail blanks value
+    (lead ++ ((space_if spaced ++ (git_spelled value ++ space_if signed)) ++ trail))
 put_in_blanks blanks lead trail between tail value spaced signed spellable all joined parts is also =
     let spelling = git_spelling value spellable in
     let both = rw joined at all in
@@ -180,14 +183,16 @@ last_of (c ∷ d ∷ a) [] x y e = absurd (cc)
 last_of (c ∷ a) (d ∷ b) x y e =
     let (fronts, lasts) = last_of a b x y (cc) in (cc, lasts)
 
-pub some_last : {A : Type 0} (xs : List A) → (xs ≡ []) ⊎ ((front : List A) × (last : A) × (xs ≡ front ++ last ∷ []))
+pub some_last : {A : Type 0} (xs : List A)
+    → (xs ≡ []) ⊎ ((front : List A) × (last : A) × (xs ≡ front ++ last ∷ []))
 some_last [] = inl refl
 some_last (x ∷ xs) = elim (some_last xs) [
   | inl none ↦ inr ([], x, ap (λ t. x ∷ t) none)
   | inr (front, last, is) ↦ inr (x ∷ front, last, ap (λ t. x ∷ t) is)
 ]
 
-pub last_holds : (test : ℕ → Bool) (front : List ℕ) (b : ℕ) → list_all test (front ++ b ∷ []) ≡ true → test b ≡ true
+pub last_holds : (test : ℕ → Bool) (front : List ℕ) (b : ℕ) → list_all test (front ++ b ∷ []) ≡ true
+    → test b ≡ true
 last_holds test front b all =
     let (before, last) = and_parts (list_all test front) (list_all test (b ∷ [])) (sym (list_all-append test front (b ∷ [])) ∙ all) in
     (and_parts (test b) true last).0
@@ -206,7 +211,12 @@ key_last {key = key} t (l, more, text_is, letter) = elim (some_last key) [
       let e : l ∷ more ≡ t.spaced = sym text_is ∙ t.key_run.joined ∙ ap (λ k. k ++ t.spaced) none in
       let stops : is_key_byte l ≡ false = subst (StopsRun is_key_byte) (sym e) t.key_run.longest in
       absurd (true≢false (sym (letter_is_key_byte l letter) ∙ stops))
-  | inr (front, b, is) ↦ (front, b, is, key_no_blank b (last_holds is_key_byte front b (rw is at t.key_run.pass)))
+  | inr (front, b, is) ↦ (
+    front,
+    b,
+    is,
+    key_no_blank b (last_holds is_key_byte front b (rw is at t.key_run.pass)),
+  )
 ]
 
 -- an entry with another value
@@ -218,7 +228,8 @@ pub record CanHold (key raw at front : List ℕ) : Type 0 where
   pub joined : front ≡ start ++ raw
   pub ends : EndsValue at
   pub holds : (put value other : List ℕ) → SpellsValue put value outside → EndsValue other
-      → TakesEntry ((start ++ put) ++ other) key (Some put) (line_feeds put) other × BeginsWithLetter ((start ++ put) ++ other)
+      → TakesEntry ((start ++ put) ++ other) key (Some put) (line_feeds put) other
+      × BeginsWithLetter ((start ++ put) ++ other)
 
 pub value_ends : {after raw rest : List ℕ} {lines : ℕ} → TakesValue after raw lines rest
     → (after ≡ raw ++ rest) × EndsValue rest
@@ -234,10 +245,20 @@ pub record Behind (text key : List ℕ) (value : Option (List ℕ)) (rest : List
   pub alone_is : value ≡ None → between ≡ spaces
   pub valued_is : (raw : List ℕ) → value ≡ Some raw → between ≡ spaces ++ 61 ∷ []
 
-pub behind : {text key rest : List ℕ} {value : Option (List ℕ)} {lines : ℕ} → TakesEntry text key value lines rest
+pub behind : {text key rest : List ℕ} {value : Option (List ℕ)} {lines : ℕ}
+    → TakesEntry text key value lines rest
     → Behind text key value rest
 behind (alone {rest = rest} t end) =
-    record { between = t.spaces; spaces = t.spaces; joined = key_joined rest t ∙ simp append-nil; are_spaces = t.space_run.pass; alone_is = λ none. refl; valued_is = λ raw some. cc }
+    record {
+      between = t.spaces;
+      spaces = t.spaces;
+      joined = key_joined rest t
+          ∙ simp append-nil;
+      are_spaces = t.space_run.pass;
+      alone_is = λ none. refl;
+      valued_is =
+          λ raw some. cc;
+    }
 behind (valued {b = b} t is_sign value) =
     let ends = (value_ends value).0 in
     record {
@@ -250,7 +271,8 @@ behind (valued {b = b} t is_sign value) =
     }
 
 -- what is appended one after the other
-pub appended : {first second third : List ℕ} (text start put tail : List ℕ) → third ≡ second ++ tail → second ≡ first ++ put
+pub appended : {first second third : List ℕ} (text start put tail : List ℕ) → third ≡ second ++ tail
+    → second ≡ first ++ put
     → first ≡ text ++ start → third ≡ text ++ (start ++ (put ++ tail))
 appended text start put tail last then one = rw (last, then, one) (simp append_assoc)
 
@@ -269,10 +291,14 @@ spaced_of lead key spaces t begins all start_is tests = elim (some_last spaces) 
   | inl none ↦
       let (front, b, key_is, other) = key_last t begins in
       let whole : lead ++ (key ++ (spaces ++ 61 ∷ [])) ≡ (lead ++ front) ++ b ∷ 61 ∷ [] =
-      ap (λ k. lead ++ (k ++ (spaces ++ 61 ∷ []))) key_is ∙ ap (λ s. lead ++ ((front ++ b ∷ []) ++ (s ++ 61 ∷ []))) none
+      ap (λ k. lead ++ (k ++ (spaces ++ 61 ∷ []))) key_is
+      ∙ ap (λ s. lead ++ ((front ++ b ∷ []) ++ (s ++ 61 ∷ []))) none
       ∙ simp append_assoc in
-      let off = tests (lead ++ front) b 61 (start_is ∙ whole) in
-      (λ is. absurd (true≢false (sym is ∙ off ∙ other)), λ differs. absurd (differs (ap (λ s. s ++ 61 ∷ []) none)))
+      let off = tests (lead ++ front) b 61 (start_is ∙ whole) in (
+        λ is. absurd (true≢false (sym is ∙ off ∙ other)),
+        λ differs.
+            absurd (differs (ap (λ s. s ++ 61 ∷ []) none)),
+      )
   | inr (front, b, is) ↦
       let whole : lead ++ (key ++ (spaces ++ 61 ∷ [])) ≡ (lead ++ (key ++ front)) ++ b ∷ 61 ∷ [] =
       ap (λ s. lead ++ (key ++ (s ++ 61 ∷ []))) is ∙ simp append_assoc in
@@ -293,7 +319,8 @@ closed_of lead key spaces core blanks t begins are_spaces joined all last = (
     | inr (front, b, is) ↦
         let blank = space_blank b (last_holds is_space front b (rw is at are_spaces)) in
         let core_is : core ≡ (lead ++ (key ++ front)) ++ b ∷ [] =
-        sym (append-nil core) ∙ ap (λ x. core ++ x) (sym no_blanks) ∙ sym joined ∙ ap (λ s. lead ++ (key ++ s)) is ∙ simp append_assoc in
+        sym (append-nil core) ∙ ap (λ x. core ++ x) (sym no_blanks) ∙ sym joined
+        ∙ ap (λ s. lead ++ (key ++ s)) is ∙ simp append_assoc in
         absurd (true≢false (sym blank ∙ last (lead ++ (key ++ front)) b core_is))
   ],
   λ no_spaces. elim (some_last blanks) [
@@ -302,14 +329,16 @@ closed_of lead key spaces core blanks t begins are_spaces joined all last = (
         let (more, k, key_is, other) = key_last t begins in
         let ends : (core ++ front) ++ b ∷ [] ≡ (lead ++ more) ++ k ∷ [] =
         append_assoc core front (b ∷ []) ∙ ap (λ x. core ++ x) (sym is) ∙ sym joined
-        ∙ ap (λ s. lead ++ (key ++ s)) no_spaces ∙ ap (λ k. lead ++ (k ++ [])) key_is ∙ simp (append_assoc, append-nil) in
+        ∙ ap (λ s. lead ++ (key ++ s)) no_spaces ∙ ap (λ k. lead ++ (k ++ [])) key_is
+        ∙ simp (append_assoc, append-nil) in
         let same = (last_of (core ++ front) (lead ++ more) b k ends).1 in
         let blank = last_holds is_blank front b (rw is at all) in
         absurd (true≢false (sym blank ∙ ap is_blank same ∙ other))
   ],
 )
 
-pub key_taken : {text key rest : List ℕ} {value : Option (List ℕ)} {lines : ℕ} → TakesEntry text key value lines rest
+pub key_taken : {text key rest : List ℕ} {value : Option (List ℕ)} {lines : ℕ}
+    → TakesEntry text key value lines rest
     → (left : List ℕ) × TakesKey text key left
 key_taken (alone {rest = rest} t end) = (rest, t)
 key_taken (valued {b = b} {after = after} t is_sign value) = (b ∷ after, t)
@@ -318,7 +347,8 @@ pub can_hold : {text key raw at : List ℕ} {lines : ℕ} {held : Option (List �
     → text ≡ front ++ at → held ≡ Some raw → BeginsWithLetter text
     → TakesEntry text key held lines at → CanHold key raw at front
 can_hold front joined e begins (alone takes end) = cc
-can_hold {text = text} {key = key} {raw = raw} {at = at} front joined e begins (valued {after = after} {raw = raw_too} takes is taken) =
+can_hold {text = text} {key = key} {raw = raw} {at = at} front joined e begins
+    (valued {after = after} {raw = raw_too} takes is taken) =
     let same : raw_too ≡ raw = cc in
     let (before, text_is, key_takes) = key_before_value takes is in
     let (after_is, ends) = value_ends taken in
@@ -357,7 +387,8 @@ IsEntryIn parts piece =
     piece.blanks.now piece.bytes.now piece.rest.now piece.is_line
 
 -- an entry, whose bytes these are now behind its key
-pub shaped_by : {parts : EntryParts} {piece : Piece} {value put : List ℕ} (e : IsEntryIn parts piece) (between bytes : List ℕ)
+pub shaped_by : {parts : EntryParts} {piece : Piece} {value put : List ℕ} (e : IsEntryIn parts piece)
+    (between bytes : List ℕ)
     → e.front ≡ parts.key.now ++ (between ++ value_bytes (value_of parts.value))
     → put ≡ piece.blanks.now ++ ((parts.key.now ++ (between ++ bytes)) ++ e.tail)
     → ChangesValueTo value between e.tail (value_of parts.value) bytes
@@ -380,10 +411,12 @@ pub front_is_behind : (parts : EntryParts) (piece : Piece) (e : IsEntryIn parts 
     (b : Behind (e.front ++ parts.rest.now) parts.key.now (value_of parts.value) parts.rest.now)
     → e.front ≡ parts.key.now ++ (b.between ++ value_bytes (value_of parts.value))
 front_is_behind parts piece e b =
-    append_cancel_right e.front (parts.key.now ++ (b.between ++ value_bytes (value_of parts.value))) parts.rest.now b.joined
+    append_cancel_right e.front (parts.key.now
+    ++ (b.between ++ value_bytes (value_of parts.value))) parts.rest.now b.joined
 
 -- what precedes the bytes of a value that is there
-pub start_is_behind : (parts : EntryParts) (piece : Piece) (raw start between : List ℕ) (e : IsEntryIn parts piece)
+pub start_is_behind : (parts : EntryParts) (piece : Piece) (raw start between : List ℕ)
+    (e : IsEntryIn parts piece)
     → e.front ≡ parts.key.now ++ (between ++ raw) → piece.bytes.now ≡ (start ++ raw) ++ e.tail
     → start ≡ piece.blanks.now ++ (parts.key.now ++ between)
 start_is_behind parts piece raw start between e front_is bytes_is =
@@ -394,7 +427,8 @@ start_is_behind parts piece raw start between e front_is bytes_is =
 
 pub value_changed : {parts : EntryParts} {piece : Piece} (raw value put start between tail : List ℕ)
     → value_of parts.value ≡ Some raw
-    → (e : IsEntryIn parts piece) → tail ≡ e.tail → e.front ≡ parts.key.now ++ (between ++ value_bytes (value_of parts.value))
+    → (e : IsEntryIn parts piece) → tail ≡ e.tail
+    → e.front ≡ parts.key.now ++ (between ++ value_bytes (value_of parts.value))
     → piece.bytes.now ≡ (start ++ raw) ++ e.tail → IsPutIn between tail raw value put
     → ¬ (HasValue (value_of parts.value) value) → IsValued (Some value) parts piece (start ++ (put ++ tail))
 value_changed {parts = parts} {piece = piece} raw value put start between tail held e tail_is front_is bytes_is put_in_tail other =
@@ -405,7 +439,8 @@ value_changed {parts = parts} {piece = piece} raw value put start between tail h
     let blanks = piece.blanks.now in
     let raw_front : e.front ≡ key ++ (between ++ raw) = front_is ∙ ap (λ w. key ++ (between ++ value_bytes w)) held in
     let c_is : c.start ≡ key ++ between =
-    append_cancel_right c.start (key ++ between) raw (sym c.joined ∙ raw_front ∙ sym (append_assoc key between raw)) in
+    append_cancel_right c.start (key ++ between) raw (sym c.joined ∙ raw_front
+    ∙ sym (append_assoc key between raw)) in
     let start_is = start_is_behind parts piece raw start between e raw_front bytes_is in
     let whole : start ++ (put ++ tail) ≡ blanks ++ ((key ++ (between ++ put)) ++ e.tail) =
     ap (λ t. start ++ (put ++ t)) tail_is ∙ ap (λ s. s ++ (put ++ e.tail)) start_is ∙ simp append_assoc in
@@ -424,7 +459,8 @@ value_changed {parts = parts} {piece = piece} raw value put start between tail h
         is_tail = e.is_tail;
         joined = whole;
       };
-      shaped = shaped_by e between put front_is whole (inr (other, rw held is_put.puts)) (λ has. absurd (other has));
+      shaped = shaped_by e between put front_is whole (inr (other, rw held is_put.puts)) (λ has.
+          absurd (other has));
     }
 
 -- a value for a key alone
@@ -465,13 +501,27 @@ unblanked {rest = rest} t =
       | inl (is, joined) ↦ (
         t.comment ++ 10 ∷ [],
         joined,
-        record { blanks = []; comment = t.comment; are_blank = refl; is_comment = t.is_comment; ends = inl (is, refl) },
+        record {
+          blanks = [];
+          comment = t.comment;
+          are_blank = refl;
+          is_comment = t.is_comment;
+          ends = inl
+              (is, refl);
+        },
         rw append_assoc (comment_ends_value (10 ∷ rest) t.is_comment (inl refl)),
       )
       | inr (is, none, joined) ↦ (
         t.comment,
         joined,
-        record { blanks = []; comment = t.comment; are_blank = refl; is_comment = t.is_comment; ends = inr (is, none, refl) },
+        record {
+          blanks = [];
+          comment = t.comment;
+          are_blank = refl;
+          is_comment = t.is_comment;
+          ends = inr
+              (is, none, refl);
+        },
         comment_ends_value rest t.is_comment (rw none tt),
       )
     ]
@@ -490,10 +540,13 @@ letter_in_front (x ∷ front) at other (b, more, e, letter) end = (b, front ++ o
 pub with_value : {text key at : List ℕ} {lines : ℕ} {held : Option (List ℕ)} (front gap raw value : List ℕ)
     {rest : List ℕ}
     → text ≡ front ++ at → held ≡ None → BeginsWithLetter text
-    → TakesEntry text key held lines at → list_all is_space gap ≡ true → SpellsValue raw value outside → EndsValue rest
-    → TakesEntry ((front ++ gap) ++ 61 ∷ (raw ++ rest)) key (Some raw) (line_feeds raw) rest × BeginsWithLetter ((front ++ gap) ++ 61 ∷ (raw ++ rest))
+    → TakesEntry text key held lines at → list_all is_space gap ≡ true → SpellsValue raw value outside
+    → EndsValue rest
+    → TakesEntry ((front ++ gap) ++ 61 ∷ (raw ++ rest)) key (Some raw) (line_feeds raw) rest
+    × BeginsWithLetter ((front ++ gap) ++ 61 ∷ (raw ++ rest))
 with_value front gap raw value joined none begins (valued takes is taken) is_gap spells ends = cc
-with_value {key = key} {at = at} front gap raw value {rest = rest} joined none begins (alone takes end) is_gap spells ends =
+with_value {key = key} {at = at} front gap raw value {rest = rest} joined none begins
+    (alone takes end) is_gap spells ends =
     let front_is : front ≡ key ++ takes.spaces =
     append_cancel_right front (key ++ takes.spaces) at (sym joined ∙ key_joined at takes) in
     let key_takes = key_before takes gap (61 ∷ (raw ++ rest)) is_gap refl refl in
@@ -541,7 +594,8 @@ value_given {parts = parts} {piece = piece} {value = value} close between held e
       };
       shaped = shaped_by e between put front_is
           (ap (λ f. (piece.blanks.now ++ f) ++ (put ++ e.tail)) key_front ∙ simp append_assoc)
-          (inr (rw held (λ none. none), rw held (spec.behind_key is_gap (spelling, refl)))) (rw held (λ has. absurd has));
+          (inr (rw held (λ none. none), rw held (spec.behind_key is_gap (spelling, refl))))
+          (rw held (λ has. absurd has));
     }
 
 -- how the bytes of a value end: before what follows them, or at a backslash that ends the text
@@ -601,5 +655,6 @@ value_kept {parts = parts} {piece = piece} how e =
       value_is = rw held at (has_of parts how);
       entry = rw held at e;
       shaped = shaped_by e b.between (value_bytes (value_of parts.value)) front_is
-          (e.joined ∙ ap (λ f. piece.blanks.now ++ (f ++ e.tail)) front_is) (inl (has_of parts how, refl)) (λ has. how);
+          (e.joined ∙ ap (λ f. piece.blanks.now ++ (f ++ e.tail)) front_is) (inl (has_of parts how, refl))
+          (λ has. how);
     }

@@ -1,6 +1,8 @@
 -- Texts without the sections of a key.
-use Rattle.std.proofs.Common.{◌≡◌, ◌≢◌, ℕ, ◌<◌, Bool, true, false, List, [], ◌∷◌, ◌++◌, Option, Some, None, length}
-use Rattle.std.proofs.Common.{MatchOption, IfSome, not, is_some, refl, sym, ap, ◌∙◌, subst, append_assoc, append-nil, inl, inr}
+use Rattle.std.proofs.Common.{◌≡◌, ◌≢◌, ℕ, ◌<◌, Bool, true, false, List, [], ◌∷◌, ◌++◌, Option, Some, None}
+use Rattle.std.proofs.Common.{length}
+use Rattle.std.proofs.Common.{MatchOption, IfSome, not, is_some, refl, sym, ap, ◌∙◌, subst, append_assoc}
+use Rattle.std.proofs.Common.{append-nil, inl, inr}
 use Rattle.std.proofs.Common.{◌⊎◌, arith, true≢false}
 use Rattle.std.specs.Prelude.{⊤}
 use Rattle.std.proofs.lemmas.Bool.Decides.{nat_tests}
@@ -20,7 +22,8 @@ use Rattle.config_edit.specs.Edit as edit
 use Rattle.config_edit.specs.Edit.{Content, IsIn, WithoutIn, IsEndOfLine}
 use Rattle.config_edit.specs.Cut as cut
 use Rattle.config_edit.specs.Cut.{Part, IsPart, Cuts, IsTail, IsComment, absent, present, HasComment}
-use Rattle.config_edit.specs.Cut.{AreBlank, part_bytes, parts_bytes, ends_line, section_behind, is_header, HaveNoHeader}
+use Rattle.config_edit.specs.Cut.{AreBlank, part_bytes, parts_bytes, ends_line, section_behind, is_header}
+use Rattle.config_edit.specs.Cut.{HaveNoHeader}
 use Rattle.config_edit.proofs.Changed.{both_blank}
 use Rattle.config_edit.specs.Sections as spec
 use Rattle.std.specs.List.{AllByRecursion}
@@ -36,7 +39,8 @@ use Rattle.config_edit.proofs.CutLoops as loops
 use Rattle.config_edit.proofs.Edits.{without_in_both, some_left}
 use Rattle.config_edit.proofs.OnePart.{line_end_of, line_end_once}
 use Rattle.config_edit.proofs.Cuts.{part_of, one_cut, IsPartOf, no_part, same_last}
-use Rattle.config_edit.proofs.PartsRead.{part_contents, contents_of, part_moved, behind_begins, behind_more, behind_all}
+use Rattle.config_edit.proofs.PartsRead.{part_contents, contents_of, part_moved, behind_begins, behind_more}
+use Rattle.config_edit.proofs.PartsRead.{behind_all}
 use Rattle.config_edit.proofs.PartsRead.{some_bytes, header_held, header_in, found_before, all_front}
 
 -- what the parts of pieces are
@@ -49,8 +53,10 @@ line_of h blanks bytes rest is_line part ends is = rw is refl
 no_header_part : (h : Held) (blanks bytes rest : List ℕ) (is_line : Bool) (part : Part)
     → ((header : code.Section) → h ≡ held.Header header → ⊥)
     → IsPartOf h blanks bytes rest is_line part → is_header part ≡ false
-no_header_part (held.Header section) blanks bytes rest is_line part no_header is = absurd (no_header section refl)
-no_header_part h blanks bytes rest is_line part no_header is = is_header_held h blanks bytes rest is_line part is
+no_header_part (held.Header section) blanks bytes rest is_line part no_header is =
+    absurd (no_header section refl)
+no_header_part h blanks bytes rest is_line part no_header is =
+    is_header_held h blanks bytes rest is_line part is
 
 header_is : (key : Key) (part : Part) → IsHeaderIn key part → is_header part ≡ true
 header_is key (cut.header blanks section inner) is = refl
@@ -62,10 +68,12 @@ comment_part : (h : Held) (blanks bytes rest : List ℕ) (is_line : Bool) (part 
 comment_part held.Comment blanks bytes rest is_line part e (t, has) is = rw is has
 comment_part h blanks bytes rest is_line part e made is = cc
 
-no_comment_part : (h : Held) (blanks bytes rest : List ℕ) (is_line : Bool) (part : Part) → (h ≡ held.Comment → ⊥)
+no_comment_part : (h : Held) (blanks bytes rest : List ℕ) (is_line : Bool) (part : Part)
+    → (h ≡ held.Comment → ⊥)
     → IsMade h blanks bytes rest is_line → IsPartOf h blanks bytes rest is_line part → ¬ (IsCommentLine part)
 no_comment_part (held.Header section) blanks bytes rest is_line part other made (inner, is) = rw is (λ h. h)
-no_comment_part (held.Entry parts) blanks bytes rest is_line part other made (between, tail, is, left) = rw is (λ h. h)
+no_comment_part (held.Entry parts) blanks bytes rest is_line part other made (between, tail, is, left) =
+    rw is (λ h. h)
 no_comment_part held.Nothing blanks bytes rest is_line part other (t, none) is = rw is none
 no_comment_part held.Comment blanks bytes rest is_line part other made is = absurd (other refl)
 
@@ -87,12 +95,16 @@ clearing_begins key text =
     record { done = []; behind = behind_begins text; clears = λ later more any c. c; found = tt }
 
 -- a piece that stays
-keeps_part : {key : Key} {later : List Part} {more : List ℕ} {in_line : Bool} (part : Part) (bytes : List ℕ) (is_line : Bool)
-    → part_bytes part ≡ bytes → ends_line part ≡ is_line → ¬ (IsHeaderIn key part) → Clears key (not is_line) later more
+keeps_part : {key : Key} {later : List Part} {more : List ℕ} {in_line : Bool} (part : Part) (bytes : List ℕ)
+    (is_line : Bool)
+    → part_bytes part ≡ bytes → ends_line part ≡ is_line → ¬ (IsHeaderIn key part)
+    → Clears key (not is_line) later more
     → Clears key in_line (part ∷ later) (bytes ++ more)
-keeps_part part bytes is_line bytes_are ends other c = rw (← bytes_are) (spec.kept part other (rw (← ends) at c))
+keeps_part part bytes is_line bytes_are ends other c =
+    rw (← bytes_are) (spec.kept part other (rw (← ends) at c))
 
-pub piece_kept : {Next : List Part → Type 0} {key : Key} {text rest new : List ℕ} {is_found in_line : Bool} (piece : Piece)
+pub piece_kept : {Next : List Part
+    → Type 0} {key : Key} {text rest new : List ℕ} {is_found in_line : Bool} (piece : Piece)
     → IsKept Next key text rest new is_found in_line → IsPiece rest piece → length piece.rest.now < length rest
     → ¬ (IsHeaderHeld key piece.held)
     → ((part : Part) → IsPartOf piece.held piece.blanks.now piece.bytes.now piece.rest.now piece.is_line part
@@ -112,19 +124,34 @@ piece_kept {key = key} {new = new} {is_found = is_found} piece r is shorter othe
       found = found_before key r.done part is_found r.found not_in;
     }
 
-not_held : (key : Key) (h : Held) → ((header : code.Section) → h ≡ held.Header header → ⊥) → ¬ (IsHeaderHeld key h)
+not_held : (key : Key) (h : Held) → ((header : code.Section) → h ≡ held.Header header → ⊥)
+    → ¬ (IsHeaderHeld key h)
 not_held key (held.Header section) no_header = absurd (no_header section refl)
 not_held key h no_header = λ is. is
 
 -- where a header follows, and nothing is lost before it, or this section
-pub at_header : (key : Key) (text rest new put : List ℕ) (is_found in_line starts_line goes_on : Bool) (was : Option Lost)
+pub at_header : (key : Key) (text rest new put : List ℕ) (is_found in_line starts_line goes_on : Bool)
+    (was : Option Lost)
     → Clearing key text rest new is_found was in_line starts_line
-    → MatchOption was ((put ≡ new) × (goes_on ≡ in_line)) (λ last. (comments : List ℕ) × (last.comments.now ≡ comments ++ rest)
-    × (put ≡ new ++ (end_of in_line last.line_end.now ++ comments)) × (goes_on ≡ goes_on_behind in_line last.line_end.now))
+    → MatchOption was ((put ≡ new) × (goes_on ≡ in_line)) (λ last. (comments : List ℕ)
+    × (last.comments.now ≡ comments ++ rest)
+    × (put ≡ new ++ (end_of in_line last.line_end.now ++ comments))
+    × (goes_on ≡ goes_on_behind in_line last.line_end.now))
     → IsKept BeginsWithHeader key text rest put is_found goes_on
 at_header key text rest new put is_found in_line starts_line goes_on None r (put_is, goes_is) =
-    rw (put_is, goes_is) (record { done = r.done; behind = r.behind; clears = λ later more begins c. r.clears later more tt c; found = r.found })
-at_header key text rest new put is_found in_line starts_line goes_on (Some lost) (r, found) (comments, is, put_is, goes_is) =
+    rw (put_is, goes_is) (record {
+      done = r.done;
+      behind = r.behind;
+      clears = λ later more begins c.
+          r.clears later more tt c;
+      found = r.found;
+    })
+at_header key text rest new put is_found in_line starts_line goes_on (Some lost) (r, found) (
+  comments,
+  is,
+  put_is,
+  goes_is,
+) =
     let same : comments ≡ parts_bytes r.comments =
     append_cancel_right comments (parts_bytes r.comments) rest (sym is ∙ r.cut) in
     let left = end_of in_line lost.line_end.now ++ parts_bytes r.comments in
@@ -139,15 +166,18 @@ at_header key text rest new put is_found in_line starts_line goes_on (Some lost)
     })
 
 -- the header that follows
-pub then_header : (key : Key) (text rest put : List ℕ) (is_found in_line : Bool) (now : Option Lost) (piece : Piece)
-    → IsKept BeginsWithHeader key text rest put is_found in_line → IsPiece rest piece → length piece.rest.now < length rest
+pub then_header : (key : Key) (text rest put : List ℕ) (is_found in_line : Bool) (now : Option Lost)
+    (piece : Piece)
+    → IsKept BeginsWithHeader key text rest put is_found in_line → IsPiece rest piece
+    → length piece.rest.now < length rest
     → (header : code.Section) → piece.held ≡ held.Header header
     → MatchOption now (¬ (IsIn key (Some (section_of header)))) (λ lost. IsIn key (Some (section_of header))
     × (lost.comments.now ≡ piece.rest.now) × (lost.line_end.now ≡ []))
     → ClearsPiece key text piece put is_found in_line now
 then_header key text rest put is_found in_line None piece r is shorter header e other =
     piece_kept piece r is shorter (λ h. other (subst (λ h. IsHeaderHeld key h) e h))
-    (λ part held_is later. is_header_held piece.held _ _ _ piece.is_line part held_is ∙ ap (λ h. holds_header h) e)
+    (λ part held_is later. is_header_held piece.held _ _ _ piece.is_line part held_is
+    ∙ ap (λ h. holds_header h) e)
 then_header key text rest put is_found in_line (Some lost) piece r is shorter header e (is_in, cut, end_is) =
     let (part, bytes_are, is_part, held_is) = part_of piece (some_bytes piece is shorter) is in
     let in_key : IsHeaderIn key part = header_held key piece.held _ _ _ piece.is_line part held_is (subst (λ h. IsHeaderHeld key h) (sym e) is_in) in
@@ -172,9 +202,11 @@ then_header key text rest put is_found in_line (Some lost) piece r is shorter he
 bytes_more : (parts : List Part) (part : Part) (rest : List ℕ)
     → parts_bytes parts ++ (part_bytes part ++ rest) ≡ parts_bytes (parts ++ part ∷ []) ++ rest
 bytes_more parts part rest =
-    sym (ap (λ b. b ++ rest) (loops.bytes_more parts part) ∙ append_assoc (parts_bytes parts) (part_bytes part) rest)
+    sym (ap (λ b. b ++ rest) (loops.bytes_more parts part)
+    ∙ append_assoc (parts_bytes parts) (part_bytes part) rest)
 
-comment_more : {body comments : List Part} (starts_line : Bool) (rest : List ℕ) (part : Part) → EndsInComments body comments
+comment_more : {body comments : List Part} (starts_line : Bool) (rest : List ℕ) (part : Part)
+    → EndsInComments body comments
     → IsAtLine body starts_line rest → starts_line ≡ true → IsCommentLine part
     → EndsInComments (body ++ part ∷ []) (comments ++ part ∷ [])
 comment_more starts_line rest part spec.header_alone at starts is = absurd (true≢false (sym starts ∙ at))
@@ -182,11 +214,14 @@ comment_more starts_line rest part (spec.lines {comments = comments} own lines n
     rw (append_assoc lines comments (part ∷ []))
     (spec.lines own lines none (all_appended IsCommentLine comments (part ∷ []) all (is, tt)))
 
-other_more : {body comments : List Part} (starts_line : Bool) (rest : List ℕ) (part : Part) → EndsInComments body comments
+other_more : {body comments : List Part} (starts_line : Bool) (rest : List ℕ) (part : Part)
+    → EndsInComments body comments
     → IsAtLine body starts_line rest → rest ≢ [] → ¬ ((starts_line ≡ true) × IsCommentLine part)
     → EndsInComments (body ++ part ∷ []) []
-other_more starts_line rest part spec.header_alone at some other = spec.lines part [] (λ front last e. absurd (no_part front last e)) tt
-other_more starts_line rest part (spec.lines {comments = comments} own lines none all) (inr nothing) some other = absurd (some nothing)
+other_more starts_line rest part spec.header_alone at some other =
+    spec.lines part [] (λ front last e. absurd (no_part front last e)) tt
+other_more starts_line rest part (spec.lines {comments = comments} own lines none all)
+    (inr nothing) some other = absurd (some nothing)
 other_more starts_line rest part (spec.lines {comments = comments} own lines none all) (inl starts) some other =
     let not_last : EndsInNoComment ((lines ++ comments) ++ part ∷ []) =
     λ front last e is. other (starts, rw (sym (same_last (lines ++ comments) front part last e).1) at is) in
@@ -194,13 +229,16 @@ other_more starts_line rest part (spec.lines {comments = comments} own lines non
     spec.lines own ((lines ++ comments) ++ part ∷ []) not_last tt in
     rw append-nil at more
 
-at_line_more : (body : List Part) (part : Part) (is_line : Bool) (rest : List ℕ) → (is_line ≡ true) ⊎ (rest ≡ [])
+at_line_more : (body : List Part) (part : Part) (is_line : Bool) (rest : List ℕ)
+    → (is_line ≡ true) ⊎ (rest ≡ [])
     → IsAtLine (body ++ part ∷ []) is_line rest
 at_line_more [] part is_line rest at = at
 at_line_more (first ∷ body) part is_line rest at = at
 
-pub piece_lost : {key : Key} {text rest new : List ℕ} {in_line starts_line : Bool} (piece : Piece) (before after : Lost)
-    → IsLost key text rest new before in_line starts_line → IsPiece rest piece → length piece.rest.now < length rest
+pub piece_lost : {key : Key} {text rest new : List ℕ} {in_line starts_line : Bool} (piece : Piece)
+    (before after : Lost)
+    → IsLost key text rest new before in_line starts_line → IsPiece rest piece
+    → length piece.rest.now < length rest
     → ((header : code.Section) → piece.held ≡ held.Header header → ⊥)
     → ((after.comments.now ≡ before.comments.now) × (starts_line ≡ true) × (piece.held ≡ held.Comment))
     ⊎ ((after.comments.now ≡ piece.rest.now) × ¬ ((starts_line ≡ true) × (piece.held ≡ held.Comment)))
@@ -217,7 +255,8 @@ piece_lost {rest = rest} {starts_line = starts_line} piece before after r is sho
     × EndsInComments (r.body ++ part ∷ []) comments = elim how [
       | inl (same, starts, comment) ↦ (
         r.comments ++ part ∷ [],
-        same ∙ r.cut ∙ ap (λ x. parts_bytes r.comments ++ x) (is.joined ∙ ap (λ b. b ++ piece.rest.now) (sym bytes_are))
+        same ∙ r.cut ∙ ap (λ x. parts_bytes r.comments ++ x) (is.joined
+            ∙ ap (λ b. b ++ piece.rest.now) (sym bytes_are))
             ∙ bytes_more r.comments part piece.rest.now,
         comment_more starts_line rest part r.ends r.at_line starts
             (comment_part h blanks piece.bytes.now piece.rest.now piece.is_line part comment is.made held_is),
@@ -226,7 +265,8 @@ piece_lost {rest = rest} {starts_line = starts_line} piece before after r is sho
         [],
         same,
         other_more starts_line rest part r.ends r.at_line (some_left rest piece.rest.now shorter)
-            (λ both. no_comment_part h blanks piece.bytes.now piece.rest.now piece.is_line part (λ e. other (both.0, e)) is.made held_is both.1),
+            (λ both. no_comment_part h blanks piece.bytes.now piece.rest.now piece.is_line part (λ e.
+            other (both.0, e)) is.made held_is both.1),
       )
     ] in
     record {
@@ -245,11 +285,14 @@ piece_lost {rest = rest} {starts_line = starts_line} piece before after r is sho
         | inl (line, is_end) ↦ spec.here (r.head ∷ r.body) part (ends ∙ line) (rw (← bytes_are) at is_end)
         | inr (unended, same) ↦ rw same (spec.before (r.head ∷ r.body) part (ends ∙ unended) r.last_end)
       ];
-      at_line = at_line_more r.body part piece.is_line piece.rest.now (rw ends at (line_or_end part piece.rest.now is_part not_header));
+      at_line = at_line_more r.body part piece.is_line piece.rest.now
+          (rw ends at (line_or_end part piece.rest.now is_part not_header));
     }
 
-pub piece_clears : (key : Key) (text rest new : List ℕ) (is_found in_line starts_line : Bool) (was now : Option Lost) (piece : Piece)
-    → Clearing key text rest new is_found was in_line starts_line → IsPiece rest piece → length piece.rest.now < length rest
+pub piece_clears : (key : Key) (text rest new : List ℕ) (is_found in_line starts_line : Bool)
+    (was now : Option Lost) (piece : Piece)
+    → Clearing key text rest new is_found was in_line starts_line → IsPiece rest piece
+    → length piece.rest.now < length rest
     → ((header : code.Section) → piece.held ≡ held.Header header → ⊥)
     → MatchOption was (now ≡ None) (λ before. MatchOption now ⊥ (λ after.
     (((after.comments.now ≡ before.comments.now) × (starts_line ≡ true) × (piece.held ≡ held.Comment))
@@ -259,9 +302,15 @@ pub piece_clears : (key : Key) (text rest new : List ℕ) (is_found in_line star
     → ClearsPiece key text piece new is_found in_line now
 piece_clears key text rest new is_found in_line starts_line None now piece r is shorter no_header none =
     rw none (piece_kept piece r is shorter (not_held key piece.held no_header) (λ part held_is later. tt))
-piece_clears key text rest new is_found in_line starts_line (Some before) None piece (r, found) is shorter no_header never =
+piece_clears key text rest new is_found in_line starts_line (Some before) None piece (
+  r,
+  found,
+) is shorter no_header never =
     absurd never
-piece_clears key text rest new is_found in_line starts_line (Some before) (Some after) piece (r, found) is shorter no_header (how, ends) =
+piece_clears key text rest new is_found in_line starts_line (Some before) (Some after) piece (
+  r,
+  found,
+) is shorter no_header (how, ends) =
     piece_lost piece before after r is shorter no_header how ends
 
 -- whether something is lost after the piece
@@ -271,7 +320,8 @@ pub still_lost : (key : Key) (text new : List ℕ) (is_found in_line : Bool) (lo
 still_lost key text new is_found in_line None piece r none = absurd (true≢false (sym none))
 still_lost key text new is_found in_line (Some lost) piece r some = (r, refl)
 
-pub nothing_lost : (key : Key) (text new : List ℕ) (is_found in_line : Bool) (lost : Option Lost) (piece : Piece)
+pub nothing_lost : (key : Key) (text new : List ℕ) (is_found in_line : Bool) (lost : Option Lost)
+    (piece : Piece)
     → ClearsPiece key text piece new is_found in_line lost → is_some lost ≡ false
     → Clearing key text piece.rest.now (new ++ piece.bytes.now) is_found lost (not piece.is_line) piece.is_line
 nothing_lost key text new is_found in_line None piece r none = r
@@ -279,14 +329,21 @@ nothing_lost key text new is_found in_line (Some lost) piece r some = absurd (tr
 
 -- at the end of the text
 pub kept_ends : {key : Key} {text rest new : List ℕ} {contents : List Content} {is_found in_line : Bool}
-    → IsKept (λ later. ⊤) key text rest new is_found in_line → Ends None text contents → (rest ≡ []) ⊎ (¬ (IsRead rest))
+    → IsKept (λ later. ⊤) key text rest new is_found in_line → Ends None text contents
+    → (rest ≡ []) ⊎ (¬ (IsRead rest))
     → (found : Bool) → is_found ≡ found
     → (parts : List Part) × Cuts text parts × Clears key false parts new × IsFoundIn key parts found
-kept_ends r whole left found same =
-    (r.done, behind_all r.behind whole left, rw (append-nil, append-nil) at (r.clears [] [] tt spec.none), rw same at r.found)
+kept_ends r whole left found same = (
+  r.done,
+  behind_all r.behind whole left,
+  rw (append-nil, append-nil) at (r.clears [] [] tt spec.none),
+  rw same at r.found,
+)
 
-pub lost_ends : {key : Key} {text rest new : List ℕ} {contents : List Content} {lost : Lost} {in_line starts_line : Bool}
-    → IsLost key text rest new lost in_line starts_line → Ends None text contents → (rest ≡ []) ⊎ (¬ (IsRead rest))
+pub lost_ends : {key : Key} {text rest new : List ℕ} {contents : List Content} {lost : Lost}
+    {in_line starts_line : Bool}
+    → IsLost key text rest new lost in_line starts_line → Ends None text contents
+    → (rest ≡ []) ⊎ (¬ (IsRead rest))
     → (parts : List Part) × Cuts text parts × Clears key false parts (new ++ end_of in_line lost.line_end.now)
     × IsFoundIn key parts true
 lost_ends {key = key} {new = new} {lost = lost} {in_line = in_line} r whole left =
@@ -303,10 +360,12 @@ pub left_is_cut : (key : Key) (text rest new : List ℕ) (is_found in_line start
     → Clearing key text rest new is_found was in_line starts_line
     → IfSome was (λ last. (comments : List ℕ) × (last.comments.now ≡ comments ++ rest))
 left_is_cut key text rest new is_found in_line starts_line None r = tt
-left_is_cut key text rest new is_found in_line starts_line (Some lost) (r, found) = (parts_bytes r.comments, r.cut)
+left_is_cut key text rest new is_found in_line starts_line (Some lost) (r, found) =
+    (parts_bytes r.comments, r.cut)
 
 -- what is read of the new text
-cleared_nothing : {key : Key} {goes_on : Bool} {parts : List Part} {new : List ℕ} → Clears key goes_on parts new → parts ≡ []
+cleared_nothing : {key : Key} {goes_on : Bool} {parts : List Part} {new : List ℕ}
+    → Clears key goes_on parts new → parts ≡ []
     → new ≡ []
 cleared_nothing spec.none none = refl
 cleared_nothing (spec.kept part other h) none = cc
@@ -322,21 +381,26 @@ agree_kept : {key : Key} {old now : Option Section} (part : Part) (parts : List 
     × (section_behind old part ≡ section_behind now part) × ¬ (IsIn key (section_behind old part))
 agree_kept (cut.header blanks section inner) parts other agree = (edit.none, refl, other)
 agree_kept part parts other (inl (inr none)) = cc
-agree_kept (cut.entry blanks key between value tail is_line) parts other (inl (inl header)) = absurd (true≢false (sym header))
+agree_kept (cut.entry blanks key between value tail is_line) parts other (inl (inl header)) =
+    absurd (true≢false (sym header))
 agree_kept {old = old} (cut.entry blanks key between value tail is_line) parts other (inr (same, outside)) =
     rw (← same) (edit.kept (old, key, value) edit.none outside, refl, outside)
 agree_kept (cut.line tail is_line) parts other (inl (inl header)) = absurd (true≢false (sym header))
 agree_kept (cut.line tail is_line) parts other (inr (same, outside)) = (edit.none, same, outside)
 
-body_without : {key : Key} (section : Option Section) (body next : List Part) {left : List Content} → HaveNoHeader body
-    → IsIn key section → WithoutIn key (contents_of section next) left → WithoutIn key (contents_of section (body ++ next)) left
+body_without : {key : Key} (section : Option Section) (body next : List Part) {left : List Content}
+    → HaveNoHeader body
+    → IsIn key section → WithoutIn key (contents_of section next) left
+    → WithoutIn key (contents_of section (body ++ next)) left
 body_without section [] next none is h = h
 body_without section (cut.header blanks new inner ∷ body) next none is h = absurd (true≢false (sym none))
 body_without section (cut.entry blanks name between value tail is_line ∷ body) next none is h =
-    without_in_both ((section, name, value) ∷ []) [] (edit.lost (section, name, value) edit.none is) (body_without section body next none is h)
+    without_in_both ((section, name, value) ∷ []) [] (edit.lost (section, name, value) edit.none is)
+    (body_without section body next none is h)
 body_without section (cut.line tail is_line ∷ body) next none is h = body_without section body next none is h
 
-parts_behind : {text : List ℕ} (front back : List Part) → Cuts text (front ++ back) → (rest : List ℕ) × Cuts rest back
+parts_behind : {text : List ℕ} (front back : List Part) → Cuts text (front ++ back)
+    → (rest : List ℕ) × Cuts rest back
 parts_behind {text = text} [] back cuts = (text, cuts)
 parts_behind (part ∷ front) back (cut.begins first is cuts) = parts_behind front back cuts
 
@@ -346,14 +410,20 @@ some_header [] (part ∷ b) begins e = cc
 some_header (part ∷ a) b begins e = cc
 
 -- comment lines before other parts
-comments_stay : (key : Key) {text new : List ℕ} {later : List Part} (comments next : List Part) → Cuts text (comments ++ next)
-    → AllByRecursion IsCommentLine comments → BeginsWithHeader next → Cuts new later → NoneIs (IsHeaderIn key) later
+comments_stay : (key : Key) {text new : List ℕ} {later : List Part} (comments next : List Part)
+    → Cuts text (comments ++ next)
+    → AllByRecursion IsCommentLine comments → BeginsWithHeader next → Cuts new later
+    → NoneIs (IsHeaderIn key) later
     → Cuts (parts_bytes comments ++ new) (comments ++ later) × NoneIs (IsHeaderIn key) (comments ++ later)
     × ((section : Option Section) → contents_of section (comments ++ later) ≡ contents_of section later)
 comments_stay key [] next cuts all begins more none = (more, none, λ section. refl)
 comments_stay key (cut.header blanks section inner ∷ comments) next cuts (is, all) begins more none = absurd is
-comments_stay key (cut.entry blanks name between value tail is_line ∷ comments) next cuts (is, all) begins more none = absurd is
-comments_stay key {new = new} (cut.line tail is_line ∷ comments) next (cut.begins {rest = rest} part is_part cuts) (is, all) begins more none =
+comments_stay key (cut.entry blanks name between value tail is_line ∷ comments) next cuts (
+  is,
+  all,
+) begins more none = absurd is
+comments_stay key {new = new} (cut.line tail is_line ∷ comments) next
+    (cut.begins {rest = rest} part is_part cuts) (is, all) begins more none =
     let (now, none_now, same) = comments_stay key comments next cuts all begins more none in
     let bytes = parts_bytes comments ++ new in
     let moved = part_moved (cut.line tail is_line) rest bytes is_part
@@ -370,7 +440,8 @@ no_feed [] e = cc
 no_feed (b ∷ blanks) e = cc
 
 -- a line end before other parts
-end_stays : (key : Key) {new : List ℕ} {later : List Part} (goes_on : Bool) (end : List ℕ) → (end ≡ []) ⊎ IsLineEnd end
+end_stays : (key : Key) {new : List ℕ} {later : List Part} (goes_on : Bool) (end : List ℕ)
+    → (end ≡ []) ⊎ IsLineEnd end
     → Cuts new later → NoneIs (IsHeaderIn key) later
     → (now : List Part) × Cuts (end_of goes_on end ++ new) now × NoneIs (IsHeaderIn key) now
     × ((section : Option Section) → contents_of section now ≡ contents_of section later)
@@ -396,16 +467,19 @@ next_begins : {body next comments : List Part} → Stays body next comments → 
 next_begins (inl is) = inl is.0
 next_begins (inr is) = inr is.0
 
-lost_stays : (key : Key) {text new : List ℕ} {later : List Part} (goes_on : Bool) (body next comments : List Part)
+lost_stays : (key : Key) {text new : List ℕ} {later : List Part} (goes_on : Bool)
+    (body next comments : List Part)
     → Cuts text (body ++ next) → Stays body next comments → (end : List ℕ) → (end ≡ []) ⊎ IsLineEnd end
     → Cuts new later → NoneIs (IsHeaderIn key) later
-    → (now : List Part) × Cuts ((end_of goes_on end ++ parts_bytes comments) ++ new) now × NoneIs (IsHeaderIn key) now
+    → (now : List Part) × Cuts ((end_of goes_on end ++ parts_bytes comments) ++ new) now
+    × NoneIs (IsHeaderIn key) now
     × ((section : Option Section) → contents_of section now ≡ contents_of section later)
 lost_stays key goes_on body next comments cuts (inr (none, nothing)) end is more no_header =
     rw (nothing, append-nil) (end_stays key goes_on end is more no_header)
 lost_stays key goes_on body next comments cuts (inl (begins, spec.header_alone)) end is more no_header =
     rw append-nil (end_stays key goes_on end is more no_header)
-lost_stays key goes_on body next comments cuts (inl (begins, spec.lines own lines none all)) end is more no_header =
+lost_stays key goes_on body next comments cuts
+    (inl (begins, spec.lines own lines none all)) end is more no_header =
     let (rest, left) = parts_behind (own ∷ lines) (comments ++ next) (rw append_assoc at cuts) in
     let (kept, none_kept, same) = comments_stay key comments next left all begins more no_header in
     let (now, whole, none_now, also) = end_stays key goes_on end is kept none_kept in
@@ -416,7 +490,8 @@ pub cleared_reads : {key : Key} {goes_on : Bool} {text new : List ℕ} {parts : 
     → (later : List Part) × Cuts new later × NoneIs (IsHeaderIn key) later
     × WithoutIn key (contents_of old parts) (contents_of now later)
 cleared_reads cut.ends spec.none old now agree = ([], cut.ends, tt, edit.none)
-cleared_reads (cut.begins {rest = rest} {parts = parts} first is cuts) (spec.kept {new = new} part other h) old now agree =
+cleared_reads (cut.begins {rest = rest} {parts = parts} first is cuts)
+    (spec.kept {new = new} part other h) old now agree =
     let (contents, same, outside) = agree_kept part parts other agree in
     let (later, more, none, without) = cleared_reads cuts h (section_behind old part) (section_behind now part) (inr (same, outside)) in
     let nothing : rest ≡ [] → new ≡ [] =
@@ -426,7 +501,9 @@ cleared_reads (cut.begins {rest = rest} {parts = parts} first is cuts) (spec.kep
       (other, none),
       without_in_both (part_contents old part) (part_contents now part) contents without,
     )
-cleared_reads {key = key} (cut.begins first is cuts) (spec.lost {goes_on = goes_on} {next = next} {end = end} {new = new} head body comments is_in no_header stays end_is h) old now agree =
+cleared_reads {key = key} (cut.begins first is cuts)
+    (spec.lost {goes_on = goes_on} {next = next} {end = end}
+    {new = new} head body comments is_in no_header stays end_is h) old now agree =
     let (nothing, in_key) = head_reads key head is_in old in
     let section = section_behind old head in
     let (rest, left) = parts_behind body next cuts in
@@ -444,7 +521,8 @@ bodies_same : (a b c d : List Part) → HaveNoHeader a → HaveNoHeader b
 bodies_same [] [] c d none also first second e = (refl, e)
 bodies_same [] (y ∷ b) c d none also (inl header) second e = absurd (has_header [] b y also (rw e at header))
 bodies_same [] (y ∷ b) c d none also (inr nothing) second e = cc
-bodies_same (x ∷ a) [] c d none also first (inl header) e = absurd (has_header [] a x none (rw (sym e) at header))
+bodies_same (x ∷ a) [] c d none also first (inl header) e =
+    absurd (has_header [] a x none (rw (sym e) at header))
 bodies_same (x ∷ a) [] c d none also first (inr nothing) e = cc
 bodies_same (x ∷ a) (y ∷ b) c d none also first second e =
     let tails : a ++ c ≡ b ++ d = cc in
@@ -453,13 +531,15 @@ bodies_same (x ∷ a) (y ∷ b) c d none also first second e =
     (rw (heads, bodies) refl, nexts)
 
 -- comment lines end other lines in one way
-all_end : (first : Part) (a b : List Part) → EndsInNoComment (first ∷ a) → AllByRecursion IsCommentLine b → (c : List Part)
+all_end : (first : Part) (a b : List Part) → EndsInNoComment (first ∷ a) → AllByRecursion IsCommentLine b
+    → (c : List Part)
     → AllByRecursion IsCommentLine ((first ∷ a) ++ c) → ⊥
 all_end first [] b none also c (is, all) = none [] first refl is
 all_end first (second ∷ a) b none also c (is, all) =
     all_end second a b (λ front last e. none (first ∷ front) last (ap (λ l. first ∷ l) e)) also c all
 
-comments_same : (a b c d : List Part) → EndsInNoComment a → EndsInNoComment b → AllByRecursion IsCommentLine c → AllByRecursion IsCommentLine d
+comments_same : (a b c d : List Part) → EndsInNoComment a → EndsInNoComment b → AllByRecursion IsCommentLine c
+    → AllByRecursion IsCommentLine d
     → a ++ c ≡ b ++ d → c ≡ d
 comments_same [] [] c d none also all all_too e = e
 comments_same [] (y ∷ b) c d none also all all_too e = absurd (all_end y b d also all_too d (rw e at all))
@@ -468,7 +548,8 @@ comments_same (x ∷ a) (y ∷ b) c d none also all all_too e =
     comments_same a b c d (λ front last is. none (x ∷ front) last (ap (λ l. x ∷ l) is))
     (λ front last is. also (y ∷ front) last (ap (λ l. y ∷ l) is)) all all_too (cc)
 
-ends_same : {body other comments also : List Part} → EndsInComments body comments → EndsInComments other also → body ≡ other
+ends_same : {body other comments also : List Part} → EndsInComments body comments → EndsInComments other also
+    → body ≡ other
     → comments ≡ also
 ends_same spec.header_alone spec.header_alone e = refl
 ends_same spec.header_alone (spec.lines own lines none all) e = cc
@@ -476,7 +557,8 @@ ends_same (spec.lines own lines none all) spec.header_alone e = cc
 ends_same (spec.lines {comments = c} own lines none all) (spec.lines {comments = d} other more also all_too) e =
     comments_same lines more c d none also all all_too (cc)
 
-stays_same : {body other next left comments also : List Part} → Stays body next comments → Stays other left also → body ≡ other
+stays_same : {body other next left comments also : List Part} → Stays body next comments
+    → Stays other left also → body ≡ other
     → next ≡ left → comments ≡ also
 stays_same (inl (begins, ends)) (inl (begins_too, ends_too)) e f = ends_same ends ends_too e
 stays_same (inr (none, nothing)) (inr (none_too, nothing_too)) e f = nothing ∙ sym nothing_too
@@ -498,7 +580,8 @@ last_end_same (spec.here parts part ends is) (spec.before others other unended k
 last_end_same (spec.before parts part unended h) (spec.here others other ends is) e =
     absurd (true≢false (sym ends ∙ ap ends_line (sym (same_last parts others part other e).1) ∙ unended))
 
-pub one_clearing : {key : Key} {goes_on also_on : Bool} {parts also : List Part} {a b : List ℕ} → Clears key goes_on parts a
+pub one_clearing : {key : Key} {goes_on also_on : Bool} {parts also : List Part} {a b : List ℕ}
+    → Clears key goes_on parts a
     → Clears key also_on also b → parts ≡ also → goes_on ≡ also_on → a ≡ b
 one_clearing spec.none spec.none e f = refl
 one_clearing (spec.kept part other h) (spec.kept also others k) e f =

@@ -247,7 +247,8 @@ both_same [] (y ∷ b) c d first second = absurd first
 both_same (x ∷ a) [] c d first second = absurd first
 both_same (x ∷ a) (y ∷ b) c d first second = (first.0, both_same a b c d first.1 second)
 
-line_closes : {tail rest : List ℕ} → IsTail tail rest false → (section : Option Section) (line_end : List ℕ) → IsLineEnd line_end
+line_closes : {tail rest : List ℕ} → IsTail tail rest false → (section : Option Section) (line_end : List ℕ)
+    → IsLineEnd line_end
     → Closing section (tail ++ line_end) [] section
 line_closes t section line_end is = ([], line_holds (closed_tail line_end is t) section, tt)
 

@@ -14,7 +14,8 @@ use Rattle.config_file.specs.Bytes.{is_blank, is_space, is_comment_byte, is_plai
 use Rattle.config_file.specs.Header.{BeginsWithout}
 use Rattle.config_file.specs.Runs.{Run}
 use Rattle.config_file.specs.Value as value
-use Rattle.config_file.specs.Value.{Ending, outside, at_backslash, Spells, SpellsValue, EndsValue, line_feeds, escape}
+use Rattle.config_file.specs.Value.{Ending, outside, at_backslash, Spells, SpellsValue, EndsValue, line_feeds}
+use Rattle.config_file.specs.Value.{escape}
 use Rattle.config_file.specs.File.{TakesEntry}
 use Rattle.config_edit.specs.Edit as spec
 use Rattle.config_edit.specs.Edit.{HasValue, PutsValue, ChangesValueTo, ChangesEntry}
@@ -22,11 +23,13 @@ use Rattle.config_edit.specs.Cut.{AreBlank, IsTail}
 use Rattle.config_edit.specs.Edit.{WritesComment, IsEndOfLine, FeedsComment, PutsComment, name_after}
 use Rattle.config_edit.specs.Cut.{value_bytes}
 use Rattle.config_edit.specs.Cut.{present}
-use Rattle.config_edit.specs.Reading.{HasHow, IsOpenEntry, entry_part, IsNamed, IsCommented, IsChangedIn, IsWritableName, IsWritableComment}
+use Rattle.config_edit.specs.Reading.{HasHow, IsOpenEntry, entry_part, IsNamed, IsCommented, IsChangedIn}
+use Rattle.config_edit.specs.Reading.{IsWritableName, IsWritableComment}
 use Rattle.config_edit.specs.Reading.{IsEntry}
 use Rattle.config_file.specs.Views.{value_of}
 use Rattle.config_edit.proofs.Pieces.{first_blank, other_blanks, tail_ends}
-use Rattle.config_edit.proofs.Changed.{space_blank, front_cut, gap_spaces, parts_blank, both_blank, gap_blank, spells_between, spells_before, can_hold, with_value}
+use Rattle.config_edit.proofs.Changed.{space_blank, front_cut, gap_spaces, parts_blank, both_blank, gap_blank}
+use Rattle.config_edit.proofs.Changed.{spells_between, spells_before, can_hold, with_value}
 use Rattle.config_edit.proofs.Changed.{inside_is_not_outside, backslash_is_not_outside, tail_cut}
 use Rattle.config_edit.proofs.EachEntry.{entry_named, begins_named}
 use Rattle.config_edit.proofs.Closed.{goes_on_over, more_bytes, some_same}
@@ -41,7 +44,8 @@ uncons e = ((cc), (cc))
 
 -- the blanks at the end of a text stay behind a byte that is none
 trail_within : (front : List ℕ) (x : ℕ) (more core blanks : List ℕ) → is_blank x ≡ false → AreBlank blanks
-    → core ++ blanks ≡ front ++ x ∷ more → (inner : List ℕ) × (more ≡ inner ++ blanks) × (core ≡ front ++ x ∷ inner)
+    → core ++ blanks ≡ front ++ x ∷ more → (inner : List ℕ) × (more ≡ inner ++ blanks)
+    × (core ≡ front ++ x ∷ inner)
 trail_within front x more [] blanks other all e =
     absurd (true≢false (sym (first_blank x more (parts_blank front (x ∷ more) (rw e at all)).1) ∙ other))
 trail_within [] x more (c ∷ core) blanks other all e =
@@ -67,7 +71,8 @@ nothing_spelled {q = false} (b ∷ raw) s all e =
     nothing_spelled raw (after_held s (first_blank b raw all)) (other_blanks b raw all) e
 nothing_spelled {q = true} (b ∷ raw) s all e =
     let other = λ (c : ℕ) (no_blank_is : is_blank c ≡ false) (is : b ≡ c). no_blank b c (first_blank b raw all) is no_blank_is in
-    absurd (true≢false (nothing_spelled raw (after_plain s refl (other 34 refl) (other 92 refl)) (other_blanks b raw all) e).0)
+    absurd (true≢false (nothing_spelled raw (after_plain s refl (other 34 refl) (other 92 refl))
+    (other_blanks b raw all) e).0)
 
 trimmed : {w : ℕ → ℕ} {q : Bool} {so_far held raw text : List ℕ} {ending : Ending} (core blanks : List ℕ)
     → AreBlank blanks → ending ≡ outside → raw ≡ core ++ blanks → Spells w q so_far held raw text ending
@@ -99,15 +104,19 @@ trimmed (c ∷ d ∷ core) blanks all e joined (value.continued is line s) =
     let (same, more) = uncons joined in
     let (also, left) = uncons more in
     rw (← same, ← also) (value.continued is line (trimmed core blanks all e left s))
-trimmed (c ∷ []) blanks all e joined (value.continued_after_return {e = l} {f = m} {raw = raw} is return line s) =
-    absurd (no_blank m 10 (first_blank m raw (other_blanks l (m ∷ raw) (rw (← (uncons joined).1) at all))) line refl)
-trimmed (c ∷ d ∷ []) blanks all e joined (value.continued_after_return {e = l} {f = m} {raw = raw} is return line s) =
+trimmed (c ∷ []) blanks all e joined
+    (value.continued_after_return {e = l} {f = m} {raw = raw} is return line s) =
+    absurd (no_blank m 10 (first_blank m raw
+    (other_blanks l (m ∷ raw) (rw (← (uncons joined).1) at all))) line refl)
+trimmed (c ∷ d ∷ []) blanks all e joined
+    (value.continued_after_return {e = l} {f = m} {raw = raw} is return line s) =
     absurd (no_blank m 10 (first_blank m raw (rw (← (uncons (uncons joined).1).1) at all)) line refl)
 trimmed (c ∷ d ∷ g ∷ core) blanks all e joined (value.continued_after_return is return line s) =
     let (same, more) = uncons joined in
     let (also, others) = uncons more in
     let (third, left) = uncons others in
-    rw (← same, ← also, ← third) (value.continued_after_return is return line (trimmed core blanks all e left s))
+    rw (← same, ← also, ← third) (value.continued_after_return is return line
+    (trimmed core blanks all e left s))
 
 -- what is written
 comment_behind : (front more : List ℕ) → list_all is_comment_byte (front ++ 35 ∷ more) ≡ true
@@ -115,8 +124,10 @@ comment_behind : (front more : List ℕ) → list_all is_comment_byte (front ++ 
 comment_behind [] more all = more_bytes 35 more all
 comment_behind (b ∷ front) more all = comment_behind front more (more_bytes b (front ++ 35 ∷ more) all)
 
-written_parts : {comment written : List ℕ} → list_all is_comment_byte comment ≡ true → WritesComment comment written
-    → (blanks more : List ℕ) × (written ≡ blanks ++ 35 ∷ more) × AreBlank blanks × (list_all is_comment_byte more ≡ true)
+written_parts : {comment written : List ℕ} → list_all is_comment_byte comment ≡ true
+    → WritesComment comment written
+    → (blanks more : List ℕ) × (written ≡ blanks ++ 35 ∷ more) × AreBlank blanks
+    × (list_all is_comment_byte more ≡ true)
 written_parts all (spec.spaced b blanks more spaces) =
     let are_blank = all_more is_space is_blank space_blank (b ∷ blanks) spaces in
     (b ∷ blanks, more, refl, are_blank, comment_behind (b ∷ blanks) more all)
@@ -130,22 +141,40 @@ front_of_plain {blanks = blanks} {rest = rest} run without = spec.plain (λ othe
     let (fronts, rests) = run_same is_space blanks others rest (35 ∷ more) run.pass spaces run.longest refl (sym run.joined ∙ joined) in
     subst (BeginsWithout 35) rests without refl)
 
-pub front_of_signed : {comment blanks rest after : List ℕ} → Run is_space comment blanks rest → rest ≡ 35 ∷ after → blanks ≡ []
+pub front_of_signed : {comment blanks rest after : List ℕ} → Run is_space comment blanks rest
+    → rest ≡ 35 ∷ after → blanks ≡ []
     → WritesComment comment (32 ∷ comment)
 front_of_signed run sign none = rw (run.joined, none, sign) spec.signed
 
-pub front_of_spaced : {comment blanks rest after : List ℕ} → Run is_space comment blanks rest → rest ≡ 35 ∷ after → blanks ≢ []
+pub front_of_spaced : {comment blanks rest after : List ℕ} → Run is_space comment blanks rest
+    → rest ≡ 35 ∷ after → blanks ≢ []
     → WritesComment comment comment
 front_of_spaced {blanks = []} run sign some = absurd (some refl)
-front_of_spaced {blanks = b ∷ blanks} {after = after} run sign some = rw (run.joined, sign) (spec.spaced b blanks after run.pass)
+front_of_spaced {blanks = b ∷ blanks} {after = after} run sign some =
+    rw (run.joined, sign) (spec.spaced b blanks after run.pass)
 
 -- the comment and the line end of an entry
 comment_tail : {bytes end rest : List ℕ} {is_line : Bool} (more : List ℕ) → list_all is_comment_byte more ≡ true
     → IsEndOfLine bytes is_line end → (is_line ≡ false → rest ≡ []) → IsTail (35 ∷ (more ++ end)) rest is_line
 comment_tail more all spec.unended none =
-    record { blanks = []; comment = 35 ∷ more; are_blank = refl; is_comment = present refl all; ends = inr (refl, none refl, ap (λ m. 35 ∷ m) (append-nil more)) }
+    record {
+      blanks = [];
+      comment = 35
+          ∷ more;
+      are_blank = refl;
+      is_comment = present refl all;
+      ends =
+          inr (refl, none refl, ap (λ m. 35 ∷ m) (append-nil more));
+    }
 comment_tail more all (spec.feed other) none =
-    record { blanks = []; comment = 35 ∷ more; are_blank = refl; is_comment = present refl all; ends = inl (refl, refl) }
+    record {
+      blanks = [];
+      comment = 35
+          ∷ more;
+      are_blank = refl;
+      is_comment = present refl all;
+      ends = inl (refl, refl);
+    }
 comment_tail more all (spec.return_feed front) none =
     let both : list_all is_comment_byte (more ++ 13 ∷ []) ≡ true =
     rw (list_all-append is_comment_byte more (13 ∷ []), all) refl in
@@ -158,7 +187,8 @@ comment_tail more all (spec.return_feed front) none =
     }
 
 -- an entry with another key, or with its own
-pub named_takes : {key at : List ℕ} {was : Option (List ℕ)} {lines : ℕ} (name : Option (List ℕ)) (between raw : List ℕ)
+pub named_takes : {key at : List ℕ} {was : Option (List ℕ)} {lines : ℕ} (name : Option (List ℕ))
+    (between raw : List ℕ)
     → IsWritableName name → BeginsWithLetter ((key ++ (between ++ raw)) ++ at)
     → TakesEntry ((key ++ (between ++ raw)) ++ at) key was lines at
     → BeginsWithLetter ((name_after name key ++ (between ++ raw)) ++ at)
@@ -172,7 +202,8 @@ named_takes {key = key} {at = at} {was = was} {lines = lines} (Some name) betwee
     (rw append_assoc (begins_named name ((between ++ raw) ++ at) is), rw same at now)
 
 -- what the value is before a comment
-record Before (value between key : List ℕ) (was : Option (List ℕ)) (blanks core_all front bytes feed written_blanks : List ℕ) : Type 0 where
+record Before (value between key : List ℕ) (was : Option (List ℕ))
+    (blanks core_all front bytes feed written_blanks : List ℕ) : Type 0 where
   core : List ℕ
   bytes_are : bytes ≡ core ++ blanks
   core_is : core_all ≡ front ++ (key ++ (between ++ core))
@@ -180,7 +211,8 @@ record Before (value between key : List ℕ) (was : Option (List ℕ)) (blanks c
   raw : List ℕ
   spells : SpellsValue raw value outside
   takes : (at : List ℕ) → EndsValue at
-      → TakesEntry ((key ++ (between ++ (core ++ (feed ++ written_blanks)))) ++ at) key (Some raw) (line_feeds raw) at
+      → TakesEntry ((key ++ (between ++ (core ++ (feed ++ written_blanks)))) ++ at) key (Some raw)
+      (line_feeds raw) at
       × BeginsWithLetter ((key ++ (between ++ (core ++ (feed ++ written_blanks)))) ++ at)
 
 -- what the bytes of a value spell now: they are closed, or the old ones before the end of the text
@@ -192,7 +224,8 @@ feeds_of : {value raw bytes feed : List ℕ} → Ends value raw bytes feed → F
 feeds_of (as_closed spells none) = rw none (spec.closed spells)
 feeds_of (as_open spells same one) = rw (one, same) (spec.open_value (rw same at spells))
 
-spelled_before : {value raw bytes feed : List ℕ} (core blanks written : List ℕ) → Ends value raw bytes feed → bytes ≡ core ++ blanks
+spelled_before : {value raw bytes feed : List ℕ} (core blanks written : List ℕ) → Ends value raw bytes feed
+    → bytes ≡ core ++ blanks
     → AreBlank blanks → AreBlank written → SpellsValue (core ++ (feed ++ written)) value outside
 spelled_before {value = value} core blanks written (as_closed spells none) joined all also =
     rw none (spells_before written also (trimmed core blanks all refl joined spells))
@@ -205,9 +238,11 @@ spelled_before {value = value} {bytes = bytes} core blanks written (as_open spel
     rw (one, ← core_is) (simp append_assoc at (spells_before written also over))
 
 -- the new bytes of a value spell it
-puts_spells : {value between tail raw bytes : List ℕ} → PutsValue value between tail (Some raw) bytes → SpellsValue bytes value outside
+puts_spells : {value between tail raw bytes : List ℕ} → PutsValue value between tail (Some raw) bytes
+    → SpellsValue bytes value outside
 puts_spells (spec.in_place lead trail before core after s) = spells_between lead trail before after s.0.0
-puts_spells {value = value} (spec.in_blanks {gap = gap} {spelling = spelling} {later = later} lead trail all parts is_gap s also) =
+puts_spells {value = value} (spec.in_blanks {gap = gap} {spelling = spelling}
+    {later = later} lead trail all parts is_gap s also) =
     let (before, after) = parts_blank lead trail all in
     simp append_assoc (simp append_assoc at
     (spells_between (lead ++ gap) (later ++ trail) (both_blank lead gap before (gap_blank is_gap))
@@ -243,7 +278,8 @@ ends_of {raw = raw} {bytes = bytes} parts held (inl (has, same)) how fed =
 module _ {value at key between core_all blanks front feed : List ℕ} {lines : ℕ} (written : List ℕ)
     (all : AreBlank blanks) (also : AreBlank written) where
   before_valued : {raw bytes : List ℕ} → core_all ++ blanks ≡ front ++ (key ++ (between ++ bytes))
-      → BeginsWithLetter ((key ++ (between ++ raw)) ++ at) → TakesEntry ((key ++ (between ++ raw)) ++ at) key (Some raw) lines at
+      → BeginsWithLetter ((key ++ (between ++ raw)) ++ at)
+      → TakesEntry ((key ++ (between ++ raw)) ++ at) key (Some raw) lines at
       → Ends value raw bytes feed → Before value between key (Some raw) blanks core_all front bytes feed written
   before_valued {raw = raw} {bytes = bytes} whole begins takes ends =
       let h = can_hold (key ++ (between ++ raw)) refl refl begins takes in
@@ -251,7 +287,8 @@ module _ {value at key between core_all blanks front feed : List ℕ} {lines : �
       append_cancel_right h.start (key ++ between) raw (sym h.joined ∙ sym (append_assoc key between raw)) in
       let before_is : key ++ between ≡ h.before ++ 61 ∷ [] = sym start_is ∙ h.start_is in
       let moved : (s : List ℕ) → front ++ (key ++ (between ++ s)) ≡ (front ++ h.before) ++ 61 ∷ s =
-      λ s. ap (λ t. front ++ t) (sym (append_assoc key between s) ∙ ap (λ t. t ++ s) before_is) ∙ simp append_assoc in
+      λ s. ap (λ t. front ++ t) (sym (append_assoc key between s) ∙ ap (λ t. t ++ s) before_is)
+      ∙ simp append_assoc in
       let (core, bytes_are, core_is) =
       trail_within (front ++ h.before) 61 bytes core_all blanks refl all (whole ∙ moved bytes) in
       let raw_now = core ++ (feed ++ written) in
@@ -265,12 +302,15 @@ module _ {value at key between core_all blanks front feed : List ℕ} {lines : �
         raw = raw_now;
         spells = spells;
         takes = λ at end.
-            let (now, letter) = h.holds raw_now value at spells end in (rw text_is at now, rw text_is at letter);
+            let (now, letter) = h.holds raw_now value at spells end in
+            (rw text_is at now, rw text_is at letter);
       }
 
   before_alone : {bytes tail : List ℕ} → core_all ++ blanks ≡ front ++ (key ++ (between ++ bytes))
-      → BeginsWithLetter ((key ++ (between ++ [])) ++ at) → TakesEntry ((key ++ (between ++ [])) ++ at) key None lines at
-      → PutsValue value between tail None bytes → feed ≡ [] → Before value between key None blanks core_all front bytes feed written
+      → BeginsWithLetter ((key ++ (between ++ [])) ++ at)
+      → TakesEntry ((key ++ (between ++ [])) ++ at) key None lines at
+      → PutsValue value between tail None bytes → feed ≡ []
+      → Before value between key None blanks core_all front bytes feed written
   before_alone whole begins takes (spec.behind_key {gap = gap} {spelling = spelling} is_gap s) none =
       let more = front ++ (key ++ (between ++ gap)) in
       let joined : core_all ++ blanks ≡ more ++ 61 ∷ 32 ∷ spelling = whole ∙ simp append_assoc in
@@ -294,7 +334,8 @@ module _ {value at key between core_all blanks front feed : List ℕ} {lines : �
             (rw (text_is at) at now, rw (text_is at) at letter);
       }
 
-  before_of : {bytes tail : List ℕ} (parts : EntryParts) (was : Option (List ℕ)) → core_all ++ blanks ≡ front ++ (key ++ (between ++ bytes))
+  before_of : {bytes tail : List ℕ} (parts : EntryParts) (was : Option (List ℕ))
+      → core_all ++ blanks ≡ front ++ (key ++ (between ++ bytes))
       → value_of parts.value ≡ was
       → BeginsWithLetter ((key ++ (between ++ value_bytes was)) ++ at)
       → TakesEntry ((key ++ (between ++ value_bytes was)) ++ at) key was lines at
@@ -310,21 +351,25 @@ module _ {value at key between core_all blanks front feed : List ℕ} {lines : �
       before_valued whole begins takes (ends_of parts held valued how feed_is)
 
 put_joined : (blanks key between core feed written end : List ℕ)
-    → (blanks ++ (key ++ (between ++ core))) ++ (feed ++ (written ++ end)) ≡ blanks ++ (key ++ (between ++ (core ++ (feed ++ (written ++ end)))))
+    → (blanks ++ (key ++ (between ++ core))) ++ (feed ++ (written ++ end)) ≡ blanks
+    ++ (key ++ (between ++ (core ++ (feed ++ (written ++ end)))))
 put_joined blanks key between core feed written end = simp append_assoc
 
 after_joined : (key between core feed spaces more end : List ℕ)
-    → key ++ (between ++ (core ++ (feed ++ ((spaces ++ 35 ∷ more) ++ end)))) ≡ (key ++ (between ++ (core ++ (feed ++ spaces)))) ++ 35 ∷ (more ++ end)
+    → key ++ (between ++ (core ++ (feed ++ ((spaces ++ 35 ∷ more) ++ end))))
+    ≡ (key ++ (between ++ (core ++ (feed ++ spaces)))) ++ 35 ∷ (more ++ end)
 after_joined key between core feed spaces more end = simp append_assoc
 
 -- the entry with its comment
-pub changed_commented : {change : Change} {parts : EntryParts} {piece : Piece} {line put : List ℕ} (value comment : List ℕ)
+pub changed_commented : {change : Change} {parts : EntryParts} {piece : Piece} {line put : List ℕ}
+    (value comment : List ℕ)
     → option_copied change.value ≡ Some value → option_copied change.comment ≡ Some comment
     → list_all is_comment_byte comment ≡ true → IsWritableName (option_copied change.name)
     → IsEntry parts.key.now (value_of parts.value) parts.lines parts.rest.now piece.blanks.now piece.bytes.now piece.rest.now piece.is_line
     → IsNamed (option_copied change.name) (Some value) parts piece line
     → IsCommented value comment parts piece line put → IsChangedIn change parts piece put
-changed_commented {change = change} {parts = parts} {piece = piece} {line = line} {put = put} value comment value_is comment_is all writable e n k =
+changed_commented {change = change} {parts = parts} {piece = piece} {line = line}
+    {put = put} value comment value_is comment_is all writable e n k =
     let s = n.shaped in
     let key = name_after (option_copied change.name) parts.key.now in
     let was = value_of parts.value in
@@ -333,7 +378,8 @@ changed_commented {change = change} {parts = parts} {piece = piece} {line = line
     let old = parts.key.now ++ (s.between ++ value_bytes was) in
     let front_is : e.front ≡ old =
     append_cancel_left blanks e.front old
-    (sym (front_cut e (blanks ++ old) s.tail (s.bytes_are ∙ sym (append_assoc blanks old s.tail)) (tail_cut e s.tail s.left))) in
+    (sym (front_cut e (blanks ++ old) s.tail (s.bytes_are
+    ∙ sym (append_assoc blanks old s.tail)) (tail_cut e s.tail s.left))) in
     let (begins, takes) = named_takes (option_copied change.name) s.between (value_bytes was) writable
     (rw front_is at e.begins) (rw front_is at e.takes) in
     let tail_is : k.tail ≡ s.tail = append_cancel_right k.tail s.tail rest (sym k.left ∙ s.left) in
@@ -395,7 +441,8 @@ changed_commented {change = change} {parts = parts} {piece = piece} {line = line
       changes = (s.bytes, after, rw value_is s.is_valued, rw comment_is puts, put_is);
     }
 
-pub writable_comment : (given also : Option (List ℕ)) (value comment : List ℕ) → given ≡ Some value → also ≡ Some comment
+pub writable_comment : (given also : Option (List ℕ)) (value comment : List ℕ) → given ≡ Some value
+    → also ≡ Some comment
     → IsWritableComment given also → list_all is_comment_byte comment ≡ true
 writable_comment given also value comment e f is =
     rw (e, f) at is

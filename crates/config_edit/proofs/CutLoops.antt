@@ -1,5 +1,6 @@
 -- Loops that go through the parts of a text.
-use Rattle.std.proofs.Common.{◌≡◌, ◌≢◌, ℕ, ◌+◌, ◌<◌, Bool, true, false, not, List, [], ◌∷◌, ◌++◌, Option, None, length}
+use Rattle.std.proofs.Common.{◌≡◌, ◌≢◌, ℕ, ◌+◌, ◌<◌, Bool, true, false, not, List, [], ◌∷◌, ◌++◌, Option}
+use Rattle.std.proofs.Common.{None, length}
 use Rattle.std.proofs.Common.{refl, sym, ap, ◌∙◌, append_assoc, append-nil, arith, true≢false}
 use Rattle.std.specs.List.{list_all}
 use Rattle.std.proofs.lemmas.Bool.{and_parts}
@@ -11,37 +12,45 @@ use Rattle.config_edit.specs.declared.piece.Piece.{Piece}
 use Rattle.config_file.specs.Header.{Section}
 use Rattle.config_file.specs.Key.{Key}
 use Rattle.config_edit.specs.Cut as cut
-use Rattle.config_edit.specs.Cut.{Part, part_bytes, parts_bytes, entries_in, ends_in_header, section_from, section_behind}
+use Rattle.config_edit.specs.Cut.{Part, part_bytes, parts_bytes, entries_in, ends_in_header, section_from}
+use Rattle.config_edit.specs.Cut.{section_behind}
 use Rattle.config_edit.specs.Cut.{is_header, HaveNoHeader}
 use Rattle.config_edit.specs.Edit as spec
 use Rattle.config_edit.specs.Edit.{IsEntryOf}
-use Rattle.config_edit.specs.Reading.{IsPiece, IsCut, AllStay, IsEntryHeld, contents_in, section_after, holds_header}
+use Rattle.config_edit.specs.Reading.{IsPiece, IsCut, AllStay, IsEntryHeld, contents_in, section_after}
+use Rattle.config_edit.specs.Reading.{holds_header}
 use Rattle.config_edit.proofs.Cuts.{part_of, cut_more, section_more, IsPartOf}
 
 pub entries_join : (a b : List Part) → entries_in (a ++ b) ≡ entries_in a + entries_in b
 entries_join [] b = omega arith
 entries_join (cut.header blanks section inner ∷ a) b = entries_join a b
-entries_join (cut.entry blanks key between value tail is_line ∷ a) b = let more = entries_join a b in omega (arith, more)
+entries_join (cut.entry blanks key between value tail is_line ∷ a) b = let more = entries_join a b in
+    omega (arith, more)
 entries_join (cut.line tail is_line ∷ a) b = entries_join a b
 
 pub bytes_join : (a b : List Part) → parts_bytes (a ++ b) ≡ parts_bytes a ++ parts_bytes b
 bytes_join [] b = refl
 bytes_join (part ∷ a) b =
-    ap (λ t. part_bytes part ++ t) (bytes_join a b) ∙ sym (append_assoc (part_bytes part) (parts_bytes a) (parts_bytes b))
+    ap (λ t. part_bytes part ++ t) (bytes_join a b)
+    ∙ sym (append_assoc (part_bytes part) (parts_bytes a) (parts_bytes b))
 
-pub bytes_more : (parts : List Part) (part : Part) → parts_bytes (parts ++ part ∷ []) ≡ parts_bytes parts ++ part_bytes part
-bytes_more parts part = bytes_join parts (part ∷ []) ∙ ap (λ b. parts_bytes parts ++ b) (append-nil (part_bytes part))
+pub bytes_more : (parts : List Part) (part : Part)
+    → parts_bytes (parts ++ part ∷ []) ≡ parts_bytes parts ++ part_bytes part
+bytes_more parts part = bytes_join parts (part ∷ [])
+    ∙ ap (λ b. parts_bytes parts ++ b) (append-nil (part_bytes part))
 
 pub last_is_header : (before : List Part) (part : Part) → ends_in_header (before ++ part ∷ []) ≡ is_header part
 last_is_header [] part = refl
 last_is_header (first ∷ []) part = refl
 last_is_header (first ∷ second ∷ before) part = last_is_header (second ∷ before) part
 
-pub no_header_more : (parts : List Part) (last : Part) → HaveNoHeader parts → is_header last ≡ false → HaveNoHeader (parts ++ last ∷ [])
+pub no_header_more : (parts : List Part) (last : Part) → HaveNoHeader parts → is_header last ≡ false
+    → HaveNoHeader (parts ++ last ∷ [])
 no_header_more parts last all other =
     list_all-append (λ part. not (is_header part)) parts (last ∷ []) ∙ rw (all, other) refl
 
-pub has_header : (parts back : List Part) (part : Part) → HaveNoHeader (parts ++ part ∷ back) → is_header part ≡ true → ⊥
+pub has_header : (parts back : List Part) (part : Part) → HaveNoHeader (parts ++ part ∷ back)
+    → is_header part ≡ true → ⊥
 has_header parts back part all is =
     let test = λ (part : Part). not (is_header part) in
     let (front, later) = and_parts (list_all test parts) (list_all test (part ∷ back))
@@ -68,11 +77,13 @@ section_held (held.Header new) blanks bytes rest is_line part section (inner, is
 section_held (held.Entry parts) blanks bytes rest is_line part section (between, tail, is, left) = rw is refl
 section_held h blanks bytes rest is_line part section is = rw is refl
 
-pub entry_held : (h : Held) (blanks bytes rest : List ℕ) (is_line : Bool) (part : Part) {section : Option Section} (key : Key)
+pub entry_held : (h : Held) (blanks bytes rest : List ℕ) (is_line : Bool) (part : Part)
+    {section : Option Section} (key : Key)
     (before : List Part) → IsPartOf h blanks bytes rest is_line part → section_from None before ≡ section
     → IsEntryOf key before part → IsEntryHeld key section h
 entry_held (held.Header new) blanks bytes rest is_line part key before (inner, is) same of = rw is at of
-entry_held (held.Entry parts) blanks bytes rest is_line part key before (between, tail, is, left) same of = rw same at (rw is at of)
+entry_held (held.Entry parts) blanks bytes rest is_line part key before (between, tail, is, left) same of =
+    rw same at (rw is at of)
 entry_held h blanks bytes rest is_line part key before is same of = rw is at of
 
 -- a piece more
@@ -85,11 +96,13 @@ some_bytes text bytes rest joined shorter none =
     let size = ap (λ t. length t) same in absurd (omega arith)
 
 -- a part more, as the piece says
-pub record CutMore (text : List ℕ) (section : Option Section) (count : ℕ) (before : List Part) (piece : Piece) : Type 0 where
+pub record CutMore (text : List ℕ) (section : Option Section) (count : ℕ) (before : List Part)
+    (piece : Piece) : Type 0 where
   pub part : Part
   pub part_is : part_bytes part ≡ piece.bytes.now
   pub is_of : IsPartOf piece.held piece.blanks.now piece.bytes.now piece.rest.now piece.is_line part
-  pub cut : IsCut text piece.rest.now (section_after piece.held section) (count + length (contents_in piece.held section))
+  pub cut : IsCut text piece.rest.now (section_after piece.held section)
+      (count + length (contents_in piece.held section))
       (before ++ part ∷ [])
   pub in_header : holds_header piece.held ≡ ends_in_header (before ++ part ∷ [])
 
@@ -105,14 +118,17 @@ cut_step {text = text} {rest = rest} {section = section} {count = count} {before
       part_is = part_is;
       is_of = is_of;
       cut = record {
-        joined = c.joined ∙ ap (λ r. parts_bytes before ++ r) rest_is ∙ sym (append_assoc (parts_bytes before) (part_bytes part) left)
+        joined = c.joined ∙ ap (λ r. parts_bytes before ++ r) rest_is
+            ∙ sym (append_assoc (parts_bytes before) (part_bytes part) left)
             ∙ ap (λ b. b ++ left) (sym (bytes_more before part));
         cuts = cut_more before part left (rw rest_is at c.cuts) is_part;
-        section_is = section_more None before part ∙ ap (λ s. section_behind s part) c.section_is ∙ section_held piece.held piece.blanks.now piece.bytes.now left piece.is_line part section is_of;
+        section_is = section_more None before part ∙ ap (λ s. section_behind s part) c.section_is
+            ∙ section_held piece.held piece.blanks.now piece.bytes.now left piece.is_line part section is_of;
         counted = entries_join before (part ∷ []) ∙ ap (λ n. n + entries_in (part ∷ [])) c.counted
             ∙ ap (λ n. count + n) (entries_held piece.held piece.blanks.now piece.bytes.now left piece.is_line part section is_of);
       };
-      in_header = sym (last_is_header before part ∙ is_header_held piece.held piece.blanks.now piece.bytes.now left piece.is_line part is_of);
+      in_header = sym (last_is_header before part
+          ∙ is_header_held piece.held piece.blanks.now piece.bytes.now left piece.is_line part is_of);
     }
 
 -- a part more that is no entry of the key

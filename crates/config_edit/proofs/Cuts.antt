@@ -1,6 +1,8 @@
 -- A text is cut in its parts in one way, and the code's pieces are these parts.
-use Rattle.std.proofs.Common.{◌≡◌, ◌≢◌, ℕ, Bool, true, false, List, [], ◌∷◌, ◌++◌, Option, Some, None, Result, Ok, not, ◌==◌, ◌⊎◌}
-use Rattle.std.proofs.Common.{if◌then◌else◌, ◌↔◌, refl, sym, ap, ◌∙◌, subst, append_assoc, append-nil, arith, inl, inr}
+use Rattle.std.proofs.Common.{◌≡◌, ◌≢◌, ℕ, Bool, true, false, List, [], ◌∷◌, ◌++◌, Option, Some, None, Result}
+use Rattle.std.proofs.Common.{Ok, not, ◌==◌, ◌⊎◌}
+use Rattle.std.proofs.Common.{if◌then◌else◌, ◌↔◌, refl, sym, ap, ◌∙◌, subst, append_assoc, append-nil, arith}
+use Rattle.std.proofs.Common.{inl, inr}
 use Rattle.std.proofs.lemmas.List.{append_cancel_left, append_cancel_right}
 use Rattle.std.proofs.lemmas.List.Folds.{list_all-append}
 use Rattle.std.proofs.lemmas.Bool.{true≢false, and_parts}
@@ -16,7 +18,8 @@ use Rattle.config_file.specs.Runs.{StopsRun}
 use Rattle.config_file.specs.File.{TakesEntry}
 use Rattle.config_file.specs.Views.{section_of, value_of}
 use Rattle.config_edit.specs.Cut as cut
-use Rattle.config_edit.specs.Cut.{AreBlank, HasComment, IsComment, absent, present, IsTail, Part, IsPart, Cuts, part_bytes, value_bytes}
+use Rattle.config_edit.specs.Cut.{AreBlank, HasComment, IsComment, absent, present, IsTail, Part, IsPart}
+use Rattle.config_edit.specs.Cut.{Cuts, part_bytes, value_bytes}
 use Rattle.config_edit.specs.Cut.{section_from, section_behind, EachBecomes}
 use Rattle.config_edit.specs.Reading.{IsPiece, IsMade}
 use Rattle.config_file.proofs.OneRun.{run_same}
@@ -34,7 +37,8 @@ ok_same e = cc
 pub taken_once : {text key other rest left : List ℕ} {value also : Option (List ℕ)} {lines more : ℕ}
     → TakesEntry text key value lines rest → TakesEntry text other also more left
     → (key ≡ other) × (value ≡ also) × (lines ≡ more) × (rest ≡ left)
-taken_once {text = text} {key = key} {other = other} {rest = rest} {left = left} {value = value} {also = also} {lines = lines} {more = more} first second =
+taken_once {text = text} {key = key} {other = other} {rest = rest} {left = left} {value = value} {also = also}
+    {lines = lines} {more = more} first second =
     let same = entry_only text (Ok (key, value, lines, rest)) (Ok (other, also, more, left)) first second in
     let all = ok_same same in
     (ap (λ p. p.0) all, ap (λ p. p.1) all, ap (λ p. p.2) all, ap (λ p. p.3) all)
@@ -89,7 +93,11 @@ line_front : {tail rest : List ℕ} {is_line : Bool} → IsTail tail rest is_lin
 line_front t =
     record {
       front = t.blanks ++ t.comment;
-      pass = rw (list_all-append is_comment_byte t.blanks t.comment, blanks_pass t.blanks t.are_blank, comment_passes t.is_comment) refl;
+      pass = rw (
+        list_all-append is_comment_byte t.blanks t.comment,
+        blanks_pass t.blanks t.are_blank,
+        comment_passes t.is_comment,
+      ) refl;
       ends = elim t.ends [
         | inl l ↦ inl (l.0, l.1 ∙ simp append_assoc)
         | inr e ↦ inr (e.0, e.1, e.2)
@@ -140,13 +148,15 @@ tail_kind : {tail rest : List ℕ} {is_line : Bool} → IsTail tail rest is_line
 tail_kind {tail = tail} {rest = rest} t = elim t.ends [
   | inl l ↦
       let whole : tail ++ rest ≡ t.blanks ++ (t.comment ++ 10 ∷ rest) = rw l.1 (simp append_assoc) in
-      rw (whole, kind_behind t.blanks (t.comment ++ 10 ∷ rest) t.are_blank) (line_kind t.is_comment (inr (rest, refl)))
+      rw (whole, kind_behind t.blanks (t.comment ++ 10 ∷ rest) t.are_blank)
+      (line_kind t.is_comment (inr (rest, refl)))
   | inr e ↦
       let whole : tail ++ rest ≡ t.blanks ++ (t.comment ++ []) = rw (e.2, e.1) (simp append_assoc) in
       rw (whole, kind_behind t.blanks (t.comment ++ []) t.are_blank) (line_kind t.is_comment (inl refl))
 ]
 
-header_kind : (blanks inner rest : List ℕ) → AreBlank blanks → first_kind ((blanks ++ 91 ∷ inner) ++ rest) ≡ one.header
+header_kind : (blanks inner rest : List ℕ) → AreBlank blanks
+    → first_kind ((blanks ++ 91 ∷ inner) ++ rest) ≡ one.header
 header_kind blanks inner rest all =
     rw (append_assoc, kind_behind blanks (91 ∷ (inner ++ rest)) all) refl
 
@@ -155,7 +165,8 @@ abbrev entry_text : List ℕ → List ℕ → Option (List ℕ) → List ℕ →
 entry_text key between value tail rest = (key ++ (between ++ value_bytes value)) ++ (tail ++ rest)
 
 entry_joined : (blanks key between : List ℕ) (value : Option (List ℕ)) (tail rest : List ℕ)
-    → (blanks ++ ((key ++ (between ++ value_bytes value)) ++ tail)) ++ rest ≡ blanks ++ entry_text key between value tail rest
+    → (blanks ++ ((key ++ (between ++ value_bytes value)) ++ tail)) ++ rest ≡ blanks
+    ++ entry_text key between value tail rest
 entry_joined blanks key between value tail rest = simp append_assoc
 
 letter_first : {front : List ℕ} (more : List ℕ) → BeginsWithLetter front
@@ -183,12 +194,14 @@ same_headers blanks inner rest also other left section next all is all_too so e 
     let inners : inner ≡ other = append_cancel_right inner other rest (texts ∙ ap (λ l. other ++ l) (sym rests)) in
     (cc, rests)
 
-same_entries : (blanks key between tail rest also other among tail_too left : List ℕ) (value new : Option (List ℕ))
+same_entries : (blanks key between tail rest also other among tail_too left : List ℕ)
+    (value new : Option (List ℕ))
     (l m : Bool) (lines more : ℕ)
     → AreBlank blanks → BeginsWithLetter (key ++ (between ++ value_bytes value))
     → TakesEntry (entry_text key between value tail rest) key value lines (tail ++ rest) → IsTail tail rest l
     → AreBlank also → BeginsWithLetter (other ++ (among ++ value_bytes new))
-    → TakesEntry (entry_text other among new tail_too left) other new more (tail_too ++ left) → IsTail tail_too left m
+    → TakesEntry (entry_text other among new tail_too left) other new more (tail_too ++ left)
+    → IsTail tail_too left m
     → (blanks ++ ((key ++ (between ++ value_bytes value)) ++ tail)) ++ rest
     ≡ (also ++ ((other ++ (among ++ value_bytes new)) ++ tail_too)) ++ left
     → (cut.entry blanks key between value tail l ≡ cut.entry also other among new tail_too m) × (rest ≡ left)
@@ -201,13 +214,15 @@ same_entries blanks key between tail rest also other among tail_too left value n
     let (keys, values, counts, backs) = taken_once (rw texts at takes) takes_too in
     let (tails, rests, ends) = tail_once t u backs in
     let stems : key ++ (between ++ value_bytes value) ≡ other ++ (among ++ value_bytes new) =
-    append_cancel_right (key ++ (between ++ value_bytes value)) (other ++ (among ++ value_bytes new)) (tail ++ rest)
+    append_cancel_right (key ++ (between ++ value_bytes value)) (other ++ (among ++ value_bytes new))
+    (tail ++ rest)
     (texts ∙ ap (λ b. (other ++ (among ++ value_bytes new)) ++ b) (sym backs)) in
     let behind : between ++ value_bytes value ≡ among ++ value_bytes new =
     append_cancel_left key (between ++ value_bytes value) (among ++ value_bytes new)
     (stems ∙ ap (λ k. k ++ (among ++ value_bytes new)) (sym keys)) in
     let betweens : between ≡ among =
-    append_cancel_right between among (value_bytes value) (behind ∙ ap (λ v. among ++ value_bytes v) (sym values)) in
+    append_cancel_right between among (value_bytes value) (behind
+    ∙ ap (λ v. among ++ value_bytes v) (sym values)) in
     (cc, rests)
 
 -- a text begins with one part
@@ -215,13 +230,23 @@ pub first_same : (p q : Part) (r s : List ℕ) → IsPart p r → IsPart q s →
     → (p ≡ q) × (r ≡ s)
 first_same (cut.header blanks section inner) (cut.header also next other) r s (all, is) (all_too, so) e =
     same_headers blanks inner r also other s section next all is all_too so e
-first_same (cut.header blanks section inner) (cut.entry also other among new tail m) r s (all, is) (all_too, letter, (lines, takes), u) e =
+first_same (cut.header blanks section inner) (cut.entry also other among new tail m) r s (all, is) (
+  all_too,
+  letter,
+  (lines, takes),
+  u,
+) e =
     let k = sym (header_kind blanks inner r all) ∙ ap first_kind (e ∙ entry_joined also other among new tail s)
     ∙ entry_kind also (tail ++ s) all_too letter in
     absurd (cc)
 first_same (cut.header blanks section inner) (cut.line tail m) r s (all, is) (some, u) e =
     absurd ((tail_kind u).0 (ap first_kind (sym e) ∙ header_kind blanks inner r all))
-first_same (cut.entry blanks key between value tail l) (cut.header also next other) r s (all, letter, (lines, takes), t) (all_too, so) e =
+first_same (cut.entry blanks key between value tail l) (cut.header also next other) r s (
+  all,
+  letter,
+  (lines, takes),
+  t,
+) (all_too, so) e =
     let k = sym (header_kind also other s all_too) ∙ ap first_kind (sym e ∙ entry_joined blanks key between value tail r)
     ∙ entry_kind blanks (tail ++ r) all letter in
     absurd (cc)
@@ -229,12 +254,24 @@ first_same (cut.entry blanks key between value tail l) (cut.entry also other amo
     (all, letter, (lines, takes), t) (all_too, letter_too, (more, takes_too), u) e =
     same_entries blanks key between tail r also other among tail_too s value new l m lines more
     all letter takes t all_too letter_too takes_too u e
-first_same (cut.entry blanks key between value tail l) (cut.line tail_too m) r s (all, letter, (lines, takes), t) (some, u) e =
-    absurd ((tail_kind u).1 (ap first_kind (sym e ∙ entry_joined blanks key between value tail r) ∙ entry_kind blanks (tail ++ r) all letter))
+first_same (cut.entry blanks key between value tail l) (cut.line tail_too m) r s (
+  all,
+  letter,
+  (lines, takes),
+  t,
+) (some, u) e =
+    absurd ((tail_kind u).1 (ap first_kind (sym e ∙ entry_joined blanks key between value tail r)
+    ∙ entry_kind blanks (tail ++ r) all letter))
 first_same (cut.line tail l) (cut.header also next other) r s (some, t) (all_too, so) e =
     absurd ((tail_kind t).0 (ap first_kind e ∙ header_kind also other s all_too))
-first_same (cut.line tail l) (cut.entry also other among new tail_too m) r s (some, t) (all_too, letter, (lines, takes), u) e =
-    absurd ((tail_kind t).1 (ap first_kind (e ∙ entry_joined also other among new tail_too s) ∙ entry_kind also (tail_too ++ s) all_too letter))
+first_same (cut.line tail l) (cut.entry also other among new tail_too m) r s (some, t) (
+  all_too,
+  letter,
+  (lines, takes),
+  u,
+) e =
+    absurd ((tail_kind t).1 (ap first_kind (e ∙ entry_joined also other among new tail_too s)
+    ∙ entry_kind also (tail_too ++ s) all_too letter))
 first_same (cut.line tail l) (cut.line tail_too m) r s (some, t) (some_too, u) e =
     let (tails, rests, ends) = tail_once t u e in (cc, rests)
 
@@ -262,7 +299,8 @@ one_cut text a b first second = cut_same first second refl
 
 -- a part more before the rest of a cut text
 pub cut_more : {text : List ℕ} (done : List Part) (part : Part) (rest : List ℕ)
-    → ((later : List Part) → Cuts (part_bytes part ++ rest) later → Cuts text (done ++ later)) → IsPart part rest
+    → ((later : List Part) → Cuts (part_bytes part ++ rest) later → Cuts text (done ++ later))
+    → IsPart part rest
     → (later : List Part) → Cuts rest later → Cuts text ((done ++ part ∷ []) ++ later)
 cut_more done part rest cuts is later more =
     rw append_assoc (cuts (part ∷ later) (cut.begins part is more))
@@ -275,22 +313,26 @@ section_more before (first ∷ done) part = section_more (section_behind before 
 
 -- the part that a piece is
 abbrev pub IsPartOf : Held → List ℕ → List ℕ → List ℕ → Bool → Part → Type 0
-IsPartOf (held.Header section) blanks bytes rest is_line part = (inner : List ℕ) × (part ≡ cut.header blanks (section_of section) inner)
+IsPartOf (held.Header section) blanks bytes rest is_line part =
+    (inner : List ℕ) × (part ≡ cut.header blanks (section_of section) inner)
 IsPartOf (held.Entry parts) blanks bytes rest is_line part = (between tail : List ℕ)
-    × (part ≡ cut.entry blanks parts.key.now between (value_of parts.value) tail is_line) × (parts.rest.now ≡ tail ++ rest)
+    × (part ≡ cut.entry blanks parts.key.now between (value_of parts.value) tail is_line)
+    × (parts.rest.now ≡ tail ++ rest)
 IsPartOf _ blanks bytes rest is_line part = part ≡ cut.line bytes is_line
 
 letter_kind : {text : List ℕ} → BeginsWithLetter text → first_kind text ≡ one.entry
 letter_kind {text = text} letter = rw append-nil at ((letter_first [] letter).1)
 
 -- the letter of an entry is before what is left of its line
-front_letter : (front : List ℕ) {tail rest : List ℕ} {is_line : Bool} → BeginsWithLetter (front ++ (tail ++ rest))
+front_letter : (front : List ℕ) {tail rest : List ℕ} {is_line : Bool}
+    → BeginsWithLetter (front ++ (tail ++ rest))
     → IsTail tail rest is_line → BeginsWithLetter front
 front_letter [] letter t = absurd ((tail_kind t).1 (letter_kind letter))
 front_letter (x ∷ front) (b, more, is, letter) t = (b, front, cc, letter)
 
 -- what is left of a line, behind blanks
-tail_behind : (blanks : List ℕ) {tail bytes rest : List ℕ} {is_line : Bool} → AreBlank blanks → bytes ≡ blanks ++ tail
+tail_behind : (blanks : List ℕ) {tail bytes rest : List ℕ} {is_line : Bool} → AreBlank blanks
+    → bytes ≡ blanks ++ tail
     → (t : IsTail tail rest is_line) → (u : IsTail bytes rest is_line) × (u.comment ≡ t.comment)
 tail_behind blanks all joined t = (
   record {
@@ -316,7 +358,8 @@ none_or_some [] = inl refl
 none_or_some (b ∷ bytes) = inr (λ e. cc)
 
 -- what is left of a line has a comment, or none
-line_comment : {tail rest : List ℕ} {is_line : Bool} → (t : IsTail tail rest is_line) → t.comment ≢ [] → HasComment tail
+line_comment : {tail rest : List ℕ} {is_line : Bool} → (t : IsTail tail rest is_line) → t.comment ≢ []
+    → HasComment tail
 line_comment {tail = tail} t some =
     let (end, tail_is) : (end : List ℕ) × (tail ≡ t.blanks ++ (t.comment ++ end)) = elim t.ends [
       | inl l ↦ (10 ∷ [], l.1)
@@ -345,7 +388,8 @@ pub has_before : {tail : List ℕ} (rest : List ℕ) → HasComment tail → Has
 has_before rest (blanks, more, sign, joined, all, is) =
     (blanks, more ++ rest, sign, ap (λ t. t ++ rest) joined ∙ append_assoc blanks (sign ∷ more) rest, all, is)
 
-pub tail_comment : {tail rest : List ℕ} {is_line : Bool} → IsTail tail rest is_line → HasComment (tail ++ rest) ↔ HasComment tail
+pub tail_comment : {tail rest : List ℕ} {is_line : Bool} → IsTail tail rest is_line
+    → HasComment (tail ++ rest) ↔ HasComment tail
 tail_comment {tail = tail} {rest = rest} t = (
   λ has. elim (none_or_some t.comment) [
     | inl none ↦ absurd (no_line_comment t none has)
@@ -354,9 +398,11 @@ tail_comment {tail = tail} {rest = rest} t = (
   λ has. has_before rest has,
 )
 
-pub line_made : (h : Held) {bytes rest : List ℕ} (blanks : List ℕ) (is_line : Bool) (tail : List ℕ) → AreBlank blanks
+pub line_made : (h : Held) {bytes rest : List ℕ} (blanks : List ℕ) (is_line : Bool) (tail : List ℕ)
+    → AreBlank blanks
     → bytes ≡ blanks ++ tail → (t : IsTail tail rest is_line)
-    → ((t.comment ≡ []) × (h ≡ held.Nothing)) ⊎ ((t.comment ≢ []) × (h ≡ held.Comment)) → IsMade h blanks bytes rest is_line
+    → ((t.comment ≡ []) × (h ≡ held.Nothing)) ⊎ ((t.comment ≢ []) × (h ≡ held.Comment))
+    → IsMade h blanks bytes rest is_line
 line_made h {rest = rest} blanks is_line tail all joined t either =
     let (u, same) = tail_behind blanks all joined t in
     elim either [
@@ -382,11 +428,18 @@ part_made (held.Entry parts) blanks bytes rest is_line all some e =
     append_cancel_right e.front (key ++ (between ++ value_bytes value)) parts.rest.now b.joined in (
       cut.entry blanks key between value e.tail is_line,
       sym (e.joined ∙ ap (λ f. blanks ++ (f ++ e.tail)) front_is),
-      (all, rw front_is at (front_letter e.front (rw e.left at e.begins) e.is_tail), (parts.lines, takes_moved front_is e.left e.takes), e.is_tail),
+      (
+        all,
+        rw front_is at (front_letter e.front (rw e.left at e.begins) e.is_tail),
+        (parts.lines, takes_moved front_is e.left e.takes),
+        e.is_tail,
+      ),
       (between, e.tail, refl, e.left),
     )
-part_made held.Nothing blanks bytes rest is_line all some (t, none) = (cut.line bytes is_line, refl, (some, t), refl)
-part_made held.Comment blanks bytes rest is_line all some (t, has) = (cut.line bytes is_line, refl, (some, t), refl)
+part_made held.Nothing blanks bytes rest is_line all some (t, none) =
+    (cut.line bytes is_line, refl, (some, t), refl)
+part_made held.Comment blanks bytes rest is_line all some (t, has) =
+    (cut.line bytes is_line, refl, (some, t), refl)
 
 -- a piece is a part
 pub part_of : {text : List ℕ} (piece : Piece) → piece.bytes.now ≢ [] → IsPiece text piece
@@ -413,12 +466,14 @@ same_last (x ∷ before) (y ∷ also) part other e =
 
 -- what each part becomes is determined, if this is so of one
 pub one_each : {May : List Part → Part → List ℕ → Type 0} {parts also : List Part} {a b : List ℕ}
-    → ((before : List Part) (part : Part) (put other : List ℕ) → May before part put → May before part other → put ≡ other)
+    → ((before : List Part) (part : Part) (put other : List ℕ) → May before part put → May before part other
+    → put ≡ other)
     → EachBecomes May parts a → EachBecomes May also b → parts ≡ also → a ≡ b
 one_each one cut.none cut.none e = refl
 one_each one cut.none (cut.next {before = before} part put h may) e = absurd (no_part before part e)
 one_each one (cut.next {before = before} part put h may) cut.none e = absurd (no_part before part (sym e))
-one_each {May = May} one (cut.next {before = before} part put h may) (cut.next {before = also} other now k too) e =
+one_each {May = May} one (cut.next {before = before} part put h may)
+    (cut.next {before = also} other now k too) e =
     let (befores, parts) = same_last before also part other e in
     let news = one_each one h k befores in
     let puts = one before part put now may (rw (← befores, ← parts) at too) in

@@ -53,7 +53,8 @@ begins_named name rest is =
 
 pub entry_named : {text key rest : List ℕ} {value : Option (List ℕ)} {lines : ℕ} (name : List ℕ)
     → is_name name ≡ true → TakesEntry text key value lines rest
-    → (more : List ℕ) × (text ≡ (key ++ more) ++ rest) × TakesEntry ((name ++ more) ++ rest) name value lines rest
+    → (more : List ℕ) × (text ≡ (key ++ more) ++ rest)
+    × TakesEntry ((name ++ more) ++ rest) name value lines rest
 entry_named name is (alone {rest = rest} t end) =
     (t.spaces, key_joined rest t, rw (append_assoc, ← t.space_run.joined) (alone (takes_named name is t) end))
 entry_named name is (valued {b = b} {key = key} {raw = raw} {rest = rest} t is_sign value) =
@@ -67,7 +68,8 @@ entry_named name is (valued {b = b} {key = key} {raw = raw} {rest = rest} t is_s
 
 pub named : {key at blanks bytes rest : List ℕ} {value : Option (List ℕ)} {lines : ℕ} {is_line : Bool}
     (name : List ℕ) → is_name name ≡ true → IsEntry key value lines at blanks bytes rest is_line
-    → (more : List ℕ) × (bytes ≡ blanks ++ (key ++ more)) × IsEntry name value lines at blanks (blanks ++ (name ++ more)) rest is_line
+    → (more : List ℕ) × (bytes ≡ blanks ++ (key ++ more))
+    × IsEntry name value lines at blanks (blanks ++ (name ++ more)) rest is_line
 named {key = key} {at = at} {blanks = blanks} name is e =
     let (more, text_is, takes) = entry_named name is e.takes in
     let front_is : e.front ≡ key ++ more = append_cancel_right e.front (key ++ more) at text_is in (
@@ -112,7 +114,8 @@ pub named_old : {value : Option (List ℕ)} {parts : EntryParts} {piece : Piece}
 named_old v =
     record { raw = v.raw; lines = v.lines; at = v.at; value_is = v.value_is; entry = v.entry; shaped = v.shaped }
 
-pub named_new : {value : Option (List ℕ)} {parts : EntryParts} {piece : Piece} {line : List ℕ} (name more : List ℕ)
+pub named_new : {value : Option (List ℕ)} {parts : EntryParts} {piece : Piece} {line : List ℕ}
+    (name more : List ℕ)
     → is_name name ≡ true → IsValued value parts piece line
     → line ≡ piece.blanks.now ++ (parts.key.now ++ more)
     → IsNamed (Some name) value parts piece (piece.blanks.now ++ (name ++ more))
@@ -146,7 +149,8 @@ named_new {parts = parts} {piece = piece} name more is v line_is =
     }
 
 -- a change without a comment
-pub no_comment : (value comment : Option (List ℕ)) → IsWritableComment value comment → (value ≡ None) ⊎ (comment ≡ None)
+pub no_comment : (value comment : Option (List ℕ)) → IsWritableComment value comment
+    → (value ≡ None) ⊎ (comment ≡ None)
     → comment ≡ None
 no_comment value None is either = refl
 no_comment None (Some comment) is either = absurd is
@@ -169,7 +173,14 @@ changed_plain {change = change} {parts = parts} {piece = piece} none n =
       entry = n.entry;
       left = shape.left;
       bytes_are = shape.bytes_are;
-      changes = (shape.bytes, shape.bytes ++ shape.tail, shape.is_valued, rw none refl, shape.put_is ∙ simp append_assoc);
+      changes = (
+        shape.bytes,
+        shape.bytes ++ shape.tail,
+        shape.is_valued,
+        rw none refl,
+        shape.put_is
+            ∙ simp append_assoc,
+      );
     }
 
 -- the changes that are left
@@ -206,24 +217,28 @@ none_held : (h : Held) (section : Option Section) → ((parts : EntryParts) → 
 none_held (held.Entry parts) section other = absurd (other parts refl)
 none_held h section other = refl
 
-name_is : (name : Option (List ℕ)) (key : List ℕ) → MatchOption name (name_after name key ≡ key) (λ n. name_after name key ≡ n)
+name_is : (name : Option (List ℕ)) (key : List ℕ)
+    → MatchOption name (name_after name key ≡ key) (λ n. name_after name key ≡ n)
 name_is None key = refl
 name_is (Some name) key = refl
 
 -- which changes are made, and which are left
-has_either : (done left : List Change) (change : Change) → Has (done ++ left) change → Has done change ⊎ Has left change
+has_either : (done left : List Change) (change : Change) → Has (done ++ left) change
+    → Has done change ⊎ Has left change
 has_either [] left change has = inr has
 has_either (first ∷ done) left change ([], after, e) = inl ([], done, cc)
-has_either (first ∷ done) left change (other ∷ before, after, e) = elim (has_either done left change (before, after, cc)) [
-  | inl (front, back, is) ↦ inl (first ∷ front, back, ap (λ t. first ∷ t) is)
-  | inr has ↦ inr has
-]
+has_either (first ∷ done) left change (other ∷ before, after, e) =
+    elim (has_either done left change (before, after, cc)) [
+      | inl (front, back, is) ↦ inl (first ∷ front, back, ap (λ t. first ∷ t) is)
+      | inr has ↦ inr has
+    ]
 
 no_empty : {A : Type 0} (before after : List A) (x : A) → before ++ x ∷ after ≡ [] → ⊥
 no_empty [] after x e = cc
 no_empty (y ∷ before) after x e = cc
 
-has_split : {changes : List Change} (done left : List Change) (change : Change) → changes ≡ done ++ left → Has changes change
+has_split : {changes : List Change} (done left : List Change) (change : Change) → changes ≡ done ++ left
+    → Has changes change
     → Has done change ⊎ Has left change
 has_split done left change e has = has_either done left change (subst (λ c. Has c change) e has)
 
@@ -234,12 +249,14 @@ has_one change other (first ∷ before, after, e) = absurd (no_empty before afte
 has_none : (change : Change) → Has [] change → ⊥
 has_none change (before, after, e) = no_empty before after change (sym e)
 
-order_weaker : (from later : ℕ) (changes : List Change) (count : ℕ) → from ≤ later → AreInOrder later changes count
+order_weaker : (from later : ℕ) (changes : List Change) (count : ℕ) → from ≤ later
+    → AreInOrder later changes count
     → AreInOrder from changes count
 order_weaker from later [] count below order = tt
 order_weaker from later (change ∷ changes) count below (at, within, order) = (omega arith, within, order)
 
-pub order_from : (from : ℕ) (changes : List Change) (count : ℕ) (change : Change) → AreInOrder from changes count
+pub order_from : (from : ℕ) (changes : List Change) (count : ℕ) (change : Change)
+    → AreInOrder from changes count
     → Has changes change → from ≤ change.entry
 order_from from [] count change order has = absurd (has_none change has)
 order_from from (first ∷ changes) count change (at, within, order) ([], after, e) =
@@ -280,7 +297,8 @@ changing_stays : {changes left : List Change} {text rest new : List ℕ} {index 
     → ((part : Part) → IsPartOf piece.held piece.blanks.now piece.bytes.now piece.rest.now piece.is_line part
     → (count : ℕ) → AreInOrder 0 changes count → ¬ (NamesPart changes r.parts part))
     → Changing changes text piece.rest.now left (new ++ piece.bytes.now) later
-changing_stays {changes = changes} {left = left} {text = text} {rest = rest} {new = new} {index = index} later piece r is shorter
+changing_stays {changes = changes} {left = left} {text = text} {rest = rest} {new = new}
+    {index = index} later piece r is shorter
     up next later_is ordered unnamed =
     let some = some_left rest piece.rest.now shorter in
     let m = cut_step piece r.cuts is shorter in
@@ -290,7 +308,8 @@ changing_stays {changes = changes} {left = left} {text = text} {rest = rest} {ne
     let becomes : (count : ℕ) → AreInOrder 0 changes count
     → EachBecomes (ChangesPart changes) (r.parts ++ m.part ∷ []) (new ++ piece.bytes.now) =
     λ count order. rw m.part_is at
-    (cut.next m.part (part_bytes m.part) (r.becomes count order) (spec.stays (unnamed m.part m.is_of count order))) in
+    (cut.next m.part (part_bytes m.part) (r.becomes count order)
+    (spec.stays (unnamed m.part m.is_of count order))) in
     record {
       front = r.front ++ piece.bytes.now;
       done = r.done;
@@ -313,11 +332,14 @@ changing_stays {changes = changes} {left = left} {text = text} {rest = rest} {ne
       room = let room = r.room in omega arith;
     }
 
-no_entry_named : (h : Held) (blanks bytes rest : List ℕ) (is_line : Bool) (part : Part) (changes : List Change) (before : List Part)
+no_entry_named : (h : Held) (blanks bytes rest : List ℕ) (is_line : Bool) (part : Part)
+    (changes : List Change) (before : List Part)
     → ((parts : EntryParts) → h ≡ held.Entry parts → ⊥) → IsPartOf h blanks bytes rest is_line part
     → ¬ (NamesPart changes before part)
-no_entry_named (held.Header new) blanks bytes rest is_line part changes before other (inner, is) = λ names. rw is at names
-no_entry_named (held.Entry parts) blanks bytes rest is_line part changes before other is = absurd (other parts refl)
+no_entry_named (held.Header new) blanks bytes rest is_line part changes before other (inner, is) =
+    λ names. rw is at names
+no_entry_named (held.Entry parts) blanks bytes rest is_line part changes before other is =
+    absurd (other parts refl)
 no_entry_named h blanks bytes rest is_line part changes before other is = λ names. rw is at names
 
 names_entry : (part : Part) (changes : List Change) (before : List Part) → NamesPart changes before part
@@ -337,7 +359,8 @@ changing_passes {changes = changes} {index = index} piece r is shorter other =
     (λ part of count order. no_entry_named piece.held piece.blanks.now piece.bytes.now piece.rest.now piece.is_line part changes r.parts other of)
 
 -- an entry that stays
-pub changing_keeps : {changes left : List Change} {text rest new : List ℕ} {index : ℕ} (piece : Piece) (parts : EntryParts)
+pub changing_keeps : {changes left : List Change} {text rest new : List ℕ} {index : ℕ} (piece : Piece)
+    (parts : EntryParts)
     → Changing changes text rest left new index → IsPiece rest piece → length piece.rest.now < length rest
     → piece.held ≡ held.Entry parts → AreLater left index
     → Changing changes text piece.rest.now left (new ++ piece.bytes.now) (index + 1)
@@ -355,19 +378,23 @@ changing_keeps {changes = changes} {left = left} {index = index} piece parts r i
           absurd (omega arith)
     ])
 
-cut_held : {text rest : List ℕ} {section : Option Section} (index : ℕ) {all also : List Part} {h : Held} {parts : EntryParts}
-    → IsCut text rest (section_after h section) (index + length (contents_in h section)) all → h ≡ held.Entry parts → all ≡ also
+cut_held : {text rest : List ℕ} {section : Option Section} (index : ℕ) {all also : List Part} {h : Held}
+    {parts : EntryParts}
+    → IsCut text rest (section_after h section) (index + length (contents_in h section)) all
+    → h ≡ held.Entry parts → all ≡ also
     → IsCut text rest section (index + 1) also
 cut_held index c e same = rw (e, same) at c
 
 -- an entry that changes
-pub changing_changes : {changes left more : List Change} {change : Change} {text rest new put : List ℕ} {index : ℕ}
+pub changing_changes : {changes left more : List Change} {change : Change} {text rest new put : List ℕ}
+    {index : ℕ}
     (piece : Piece) (parts : EntryParts)
     → Changing changes text rest left new index → IsPiece rest piece → length piece.rest.now < length rest
     → piece.held ≡ held.Entry parts → left ≡ change ∷ more → change.entry ≡ index
     → IsChangedIn change parts piece put
     → Changing changes text piece.rest.now more (new ++ put) (index + 1)
-changing_changes {changes = changes} {left = left} {more = more} {change = change} {text = text} {rest = rest} {new = new} {put = put} {index = index} piece parts r is shorter entry left_is due c =
+changing_changes {changes = changes} {left = left} {more = more} {change = change} {text = text} {rest = rest}
+    {new = new} {put = put} {index = index} piece parts r is shorter entry left_is due c =
     let some = some_left rest piece.rest.now shorter in
     let name = name_after (option_copied change.name) parts.key.now in
     let x = content_of r.section parts in
@@ -380,7 +407,8 @@ changing_changes {changes = changes} {left = left} {more = more} {change = chang
     let (inners, tails) = one_entry_part piece parts c.between c.tail inner tail (sym c.left ∙ left_of)
     (sym c.bytes_are ∙ sym (rw part_is at m.part_is)) in
     let same : m.part ≡ entry_part piece parts c.between c.tail =
-    part_is ∙ ap (λ i. entry_part piece parts i tail) (sym inners) ∙ ap (λ t. entry_part piece parts c.between t) (sym tails) in
+    part_is ∙ ap (λ i. entry_part piece parts i tail) (sym inners)
+    ∙ ap (λ t. entry_part piece parts c.between t) (sym tails) in
     let named = due ∙ sym r.cuts.counted in
     record {
       front = r.front ++ piece.bytes.now;
@@ -392,7 +420,8 @@ changing_changes {changes = changes} {left = left} {more = more} {change = chang
       passed = passed_join some r.passed made;
       passed_now = passed_join some r.passed_now made_now;
       split = split ∙ sym (append_assoc r.done (change ∷ []) more);
-      each = spec.changed change x y r.each (due ∙ r.index_is) (refl, name_is (option_copied change.name) parts.key.now, c.value_is);
+      each = spec.changed change x y r.each (due
+          ∙ r.index_is) (refl, name_is (option_copied change.name) parts.key.now, c.value_is);
       index_is = ap (λ i. i + 1) r.index_is ∙ sym (one_longer r.old x);
       parts = r.parts ++ entry_part piece parts c.between c.tail ∷ [];
       cuts = cut_held index m.cut entry (ap (λ p. r.parts ++ p ∷ []) same);

@@ -88,7 +88,8 @@ is_none_left (b ∷ rest) none = grind (arith, nat_tests)
 pub is_some_left : (rest : List ℕ) → false ≡ (length rest == 0) → rest ≢ []
 is_some_left rest some none = absurd (true≢false (sym (some ∙ ap (λ r. length r == 0) none)))
 
-module _ {section next : Option Section} {text front rest : List ℕ} {xs all : List Content} (joined : text ≡ front ++ rest)
+module _ {section next : Option Section} {text front rest : List ℕ} {xs all : List Content}
+    (joined : text ≡ front ++ rest)
     (passed : Passed section front xs next rest) where
   -- what follows is read, if the whole text is
   left_read : Ends section text all → IsRead rest
@@ -103,7 +104,8 @@ module _ {section next : Option Section} {text front rest : List ℕ} {xs all : 
   ]
 
   -- where no piece is left, all of the text has been passed
-  pub all_passed : Ends section text all → (rest ≡ []) ⊎ (¬ (IsRead rest)) → (rest ≡ []) × (text ≡ front) × (xs ≡ all)
+  pub all_passed : Ends section text all → (rest ≡ []) ⊎ (¬ (IsRead rest))
+      → (rest ≡ []) × (text ≡ front) × (xs ≡ all)
   all_passed whole (inl none) =
       let same = joined ∙ ap (λ r. front ++ r) none ∙ append-nil front in
       (none, same, ends_once (passed_ends none passed) (rw same at whole))
@@ -136,7 +138,8 @@ header_listed h blanks bytes rest is_line made section e = cc
 pub without_in_both : {key : Key} (a b : List Content) {c d : List Content} → WithoutIn key a b
     → WithoutIn key c d → WithoutIn key (a ++ c) (b ++ d)
 without_in_both a b before spec.none = simp append-nil before
-without_in_both a b before (spec.lost x later is) = simp (← append_assoc) (spec.lost x (without_in_both a b before later) is)
+without_in_both a b before (spec.lost x later is) =
+    simp (← append_assoc) (spec.lost x (without_in_both a b before later) is)
 without_in_both a b before (spec.kept x later other) =
     simp (← append_assoc) (spec.kept x (without_in_both a b before later) other)
 
@@ -161,11 +164,14 @@ relined {section = section} file.ends other = ([], section, other, reached.here,
 relined (file.blank is h) other =
     let (later, next, end, leads, same) = relined h other in (later, next, end, reached.blank is leads, same)
 relined (file.line_end is h) other =
-    let (later, next, end, leads, same) = relined h (other + 1) in (later, next, end, reached.line_end is leads, same)
+    let (later, next, end, leads, same) = relined h (other + 1) in
+    (later, next, end, reached.line_end is leads, same)
 relined (file.comment is run h) other =
-    let (later, next, end, leads, same) = relined h other in (later, next, end, reached.comment is run leads, same)
+    let (later, next, end, leads, same) = relined h other in
+    (later, next, end, reached.comment is run leads, same)
 relined (file.header is header h) other =
-    let (later, next, end, leads, same) = relined h other in (later, next, end, reached.header is header leads, same)
+    let (later, next, end, leads, same) = relined h other in
+    (later, next, end, reached.header is header leads, same)
 relined (file.entry {section = section} {lines = lines} {key = key} {value = value} letter takes h) other =
     let (later, next, end, leads, same) = relined h (other + lines) in
     (_, next, end, reached.entry letter takes leads, ap (λ l. (section, key, value) ∷ l) same)
@@ -177,7 +183,8 @@ reads_end reads = λ other.
     (later, rw append-nil at (compose leads file.ends), same)
 
 -- a file without its mark
-begun_is : {text rest mark body : List ℕ} {line : ℕ} → file.Begins text line rest → IsSplit text mark body → rest ≡ body
+begun_is : {text rest mark body : List ℕ} {line : ℕ} → file.Begins text line rest → IsSplit text mark body
+    → rest ≡ body
 begun_is begins (cut.marked f) = (begins_only begins (file.marked f)).1
 begun_is (file.marked e) (cut.unmarked f) = cc
 begun_is (file.part_of_mark part) (cut.unmarked f) = refl
@@ -210,5 +217,6 @@ pub text_of : {text mark body : List ℕ} {contents : List Content} → IsSplit 
 text_of split ends = rw (split_joined split) (file_of split ends)
 
 pub no_file : {text mark body : List ℕ} → IsSplit text mark body
-    → ((contents : List Content) → ¬ (Ends None body contents)) → (entries : List Entry) → ¬ (IsFile text entries None)
+    → ((contents : List Content) → ¬ (Ends None body contents)) → (entries : List Entry)
+    → ¬ (IsFile text entries None)
 no_file split none entries = λ is_file. none (map content entries) (body_ends is_file split)

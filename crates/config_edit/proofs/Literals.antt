@@ -1,6 +1,8 @@
 -- Literal texts: their parts, and what is made of them.
-use Rattle.std.proofs.Common.{◌≡◌, ◌≢◌, ℕ, ◌==◌, ◌||◌, not, Bool, true, false, List, [], ◌∷◌, ◌++◌, Option, Some, None, codes}
-use Rattle.std.proofs.Common.{refl, sym, ap, ◌∙◌, subst, append_assoc, arith, inl, inr, get_or, map, if◌then◌else◌, length, append-nil, true≢false}
+use Rattle.std.proofs.Common.{◌≡◌, ◌≢◌, ℕ, ◌==◌, ◌||◌, not, Bool, true, false, List, [], ◌∷◌, ◌++◌, Option}
+use Rattle.std.proofs.Common.{Some, None, codes}
+use Rattle.std.proofs.Common.{refl, sym, ap, ◌∙◌, subst, append_assoc, arith, inl, inr, get_or, map}
+use Rattle.std.proofs.Common.{if◌then◌else◌, length, append-nil, true≢false}
 use Rattle.std.specs.Prelude.{⊤}
 use Rattle.std.proofs.lemmas.Bool.{and_parts, cases_Bool, eqb-false, not-true}
 use Rattle.std.proofs.lemmas.Bool.Decides.{nat_tests}
@@ -9,7 +11,8 @@ use Rattle.std.specs.List.{list_all}
 use Rattle.config_file.proofs.EachReading.{each_is_read}
 use Rattle.config_file.proofs.OneText.{one_text}
 use Rattle.config_file.proofs.Spellings.{git_spelling}
-use Rattle.config_file.specs.Bytes.{is_blank, is_space, is_plain, is_key_byte, is_name_byte, is_comment_sign, is_comment_byte, IsAtLineEnd}
+use Rattle.config_file.specs.Bytes.{is_blank, is_space, is_plain, is_key_byte, is_name_byte, is_comment_sign}
+use Rattle.config_file.specs.Bytes.{is_comment_byte, IsAtLineEnd}
 use Rattle.config_file.specs.Runs.{StopsRun}
 use Rattle.config_file.specs.Header as header
 use Rattle.config_file.specs.Header.{Section}
@@ -23,9 +26,11 @@ use Rattle.config_file.specs.Key.{Key, IsKey, has_section, is_name, is_no_dot, i
 use Rattle.config_file.specs.Spelling.{IsGitSpelling, git_spelled}
 use Rattle.config_file.specs.Reading.Spellings.{is_spellable}
 use Rattle.config_edit.specs.Cut as cut
-use Rattle.config_edit.specs.Cut.{AreBlank, BecomesParts, Cuts, EachBecomes, IsTail, Part, part_bytes, ends_in_header, section_after}
+use Rattle.config_edit.specs.Cut.{AreBlank, BecomesParts, Cuts, EachBecomes, IsTail, Part, part_bytes}
+use Rattle.config_edit.specs.Cut.{ends_in_header, section_after}
 use Rattle.config_edit.specs.Edit as edit
-use Rattle.config_edit.specs.Edit.{content, Content, HasContents, HasNone, HasValue, IsCore, IsEntryOf, IsOf, ReplacesKey, ReplacesPart, Without}
+use Rattle.config_edit.specs.Edit.{content, Content, HasContents, HasNone, HasValue, IsCore, IsEntryOf, IsOf}
+use Rattle.config_edit.specs.Edit.{ReplacesKey, ReplacesPart, Without}
 use Rattle.config_edit.specs.Edit.{CanFollow, is_item, IsIn, IsEndOfLine}
 use Rattle.config_edit.proofs.Changed.{last_holds, last_of}
 use Rattle.config_edit.proofs.Cuts.{no_part, same_last}
@@ -56,7 +61,8 @@ pub gitproxy_is : IsKey (codes "core.gitproxy") gitproxy
 gitproxy_is = plain_is (codes "core") (codes "gitproxy") refl refl refl refl refl
 
 -- the contents of a text
-pub reads : (text : List ℕ) {contents : List Content} → (each_is_read text).1 ≡ None → map content (each_is_read text).0 ≡ contents
+pub reads : (text : List ℕ) {contents : List Content} → (each_is_read text).1 ≡ None
+    → map content (each_is_read text).0 ≡ contents
     → HasContents text contents
 reads text none contents_are = ((each_is_read text).0, rw none at (each_is_read text).2, contents_are)
 
@@ -76,13 +82,15 @@ spelled so_far held (b ∷ raw) all =
     let (first, others) = and_parts (is_worded b) (list_all is_worded raw) all in
     elim (cases_Bool (is_blank b)) [
       | inl is ↦ rw is (value.blank is (spelled so_far (held ++ b ∷ []) raw others))
-      | inr off ↦ rw off (value.plain (ap (λ t. t || is_plain false b) (sym off) ∙ first) (spelled (kept so_far held ++ b ∷ []) [] raw others))
+      | inr off ↦ rw off (value.plain (ap (λ t. t || is_plain false b) (sym off)
+          ∙ first) (spelled (kept so_far held ++ b ∷ []) [] raw others))
     ]
 
 pub has_value : (raw : List ℕ) → list_all is_worded raw ≡ true → HasValue (Some raw) (text_of [] [] raw)
 has_value raw all = (value.outside, spelled [] [] raw all)
 
-pub has_other : (raw text : List ℕ) → list_all is_worded raw ≡ true → (get_or (text_of [] [] raw) 0 0 == get_or text 0 0) ≡ false
+pub has_other : (raw text : List ℕ) → list_all is_worded raw ≡ true
+    → (get_or (text_of [] [] raw) 0 0 == get_or text 0 0) ≡ false
     → HasValue (Some raw) text → ⊥
 has_other raw text all apart (ending, s) =
     eqb-false _ _ apart (ap (λ t. get_or t 0 0) (one_text (spelled [] [] raw all) s))
@@ -93,18 +101,36 @@ as_git value is = (git_spelling value is, refl)
 pub core : (bytes : List ℕ) → bytes ≢ [] → list_all (λ b. not (is_blank b)) bytes ≡ true → IsCore bytes
 core bytes some all = (
   some,
-  λ b more e. not-true (is_blank b) (and_parts (not (is_blank b)) _ (subst (λ t. list_all (λ b. not (is_blank b)) t ≡ true) e all)).0,
-  λ more b e. not-true (is_blank b) (last_holds (λ b. not (is_blank b)) more b (subst (λ t. list_all (λ b. not (is_blank b)) t ≡ true) e all)),
+  λ b more e. not-true (is_blank b)
+      (and_parts (not (is_blank b)) _ (subst (λ t. list_all (λ b. not (is_blank b)) t ≡ true) e all)).0,
+  λ more b e. not-true (is_blank b)
+      (last_holds (λ b. not (is_blank b)) more b
+      (subst (λ t. list_all (λ b. not (is_blank b)) t ≡ true) e all)),
 )
 
 -- parts
 abbrev pub feed_tail : (rest : List ℕ) → IsTail (codes "\n") rest true
-feed_tail rest = record { blanks = []; comment = []; are_blank = refl; is_comment = cut.absent; ends = inl (refl, refl) }
+feed_tail rest = record {
+  blanks = [];
+  comment = [];
+  are_blank = refl;
+  is_comment = cut.absent;
+  ends = inl
+      (refl, refl);
+}
 
-pub comment_tail : (sign : ℕ) (bytes rest : List ℕ) → is_comment_sign sign ≡ true → list_all is_comment_byte bytes ≡ true
+pub comment_tail : (sign : ℕ) (bytes rest : List ℕ) → is_comment_sign sign ≡ true
+    → list_all is_comment_byte bytes ≡ true
     → IsTail ((sign ∷ bytes) ++ codes "\n") rest true
 comment_tail sign bytes rest is all =
-    record { blanks = []; comment = sign ∷ bytes; are_blank = refl; is_comment = cut.present is all; ends = inl (refl, refl) }
+    record {
+      blanks = [];
+      comment = sign
+          ∷ bytes;
+      are_blank = refl;
+      is_comment = cut.present is all;
+      ends = inl (refl, refl);
+    }
 
 abbrev pub top : List ℕ → Part
 top name = cut.header [] (name, None) (name ++ codes "]")
@@ -118,20 +144,31 @@ valued blanks name spaces raw tail = cut.entry blanks name (spaces ++ codes "=")
 pub at_end : {rest : List ℕ} {parts : List Part} → Cuts rest parts → Cuts (10 ∷ rest) (end ∷ parts)
 at_end {rest = rest} cuts = cut.begins end (λ e. cc, feed_tail rest) cuts
 
-pub at_top : {rest : List ℕ} {parts : List Part} (name : List ℕ) → name ≢ [] → list_all is_name_byte name ≡ true → Cuts rest parts
+pub at_top : {rest : List ℕ} {parts : List Part} (name : List ℕ) → name ≢ []
+    → list_all is_name_byte name ≡ true → Cuts rest parts
     → Cuts (part_bytes (top name) ++ rest) (top name ∷ parts)
 at_top {rest = rest} name some all cuts =
-    cut.begins (top name)
-    (refl, header.plain (record { joined = append_assoc name (codes "]") rest; pass = all; longest = refl }) some refl) cuts
+    cut.begins (top name) (
+      refl,
+      header.plain (record {
+        joined = append_assoc name
+            (codes "]") rest;
+        pass = all;
+        longest = refl;
+      }) some refl,
+    ) cuts
 
-at_line : {rest : List ℕ} {parts : List Part} (tail : List ℕ) → tail ≢ [] → IsTail tail rest true → Cuts rest parts
+at_line : {rest : List ℕ} {parts : List Part} (tail : List ℕ) → tail ≢ [] → IsTail tail rest true
+    → Cuts rest parts
     → Cuts (tail ++ rest) (cut.line tail true ∷ parts)
 at_line tail some is cuts = cut.begins (cut.line tail true) (some, is) cuts
 
 -- a line with a comment, behind these blanks
-pub at_comment : {rest : List ℕ} {parts : List Part} (blanks : List ℕ) (sign : ℕ) (bytes : List ℕ) → AreBlank blanks
+pub at_comment : {rest : List ℕ} {parts : List Part} (blanks : List ℕ) (sign : ℕ) (bytes : List ℕ)
+    → AreBlank blanks
     → is_comment_sign sign ≡ true → list_all is_comment_byte bytes ≡ true → Cuts rest parts
-    → Cuts ((blanks ++ ((sign ∷ bytes) ++ codes "\n")) ++ rest) (cut.line (blanks ++ ((sign ∷ bytes) ++ codes "\n")) true ∷ parts)
+    → Cuts ((blanks ++ ((sign ∷ bytes) ++ codes "\n")) ++ rest)
+    (cut.line (blanks ++ ((sign ∷ bytes) ++ codes "\n")) true ∷ parts)
 at_comment [] sign bytes blank is all cuts = at_line _ (λ e. cc) (comment_tail sign bytes _ is all) cuts
 at_comment (b ∷ blanks) sign bytes blank is all cuts =
     at_line _ (λ e. cc) (record {
@@ -142,20 +179,25 @@ at_comment (b ∷ blanks) sign bytes blank is all cuts =
       ends = inl (refl, refl);
     }) cuts
 
-stops_key : (spaces rest : List ℕ) → list_all is_space spaces ≡ true → StopsRun is_key_byte (spaces ++ 61 ∷ rest)
+stops_key : (spaces rest : List ℕ) → list_all is_space spaces ≡ true
+    → StopsRun is_key_byte (spaces ++ 61 ∷ rest)
 stops_key [] rest all = refl
 stops_key (b ∷ spaces) rest all =
     let first = (and_parts (is_space b) (list_all is_space spaces) all).0 in grind (arith, nat_tests)
 
-pub at_entry : {rest : List ℕ} {parts : List Part} (blanks : List ℕ) (letter : ℕ) (name spaces raw tail : List ℕ) → AreBlank blanks
-    → is_name (letter ∷ name) ≡ true → list_all is_key_byte (letter ∷ name) ≡ true → list_all is_space spaces ≡ true
+pub at_entry : {rest : List ℕ} {parts : List Part} (blanks : List ℕ) (letter : ℕ)
+    (name spaces raw tail : List ℕ) → AreBlank blanks
+    → is_name (letter ∷ name) ≡ true → list_all is_key_byte (letter ∷ name) ≡ true
+    → list_all is_space spaces ≡ true
     → list_all is_worded raw ≡ true → EndsValue (tail ++ rest) → IsTail tail rest true → Cuts rest parts
-    → Cuts (part_bytes (valued blanks (letter ∷ name) spaces raw tail) ++ rest) (valued blanks (letter ∷ name) spaces raw tail ∷ parts)
+    → Cuts (part_bytes (valued blanks (letter ∷ name) spaces raw tail) ++ rest)
+    (valued blanks (letter ∷ name) spaces raw tail ∷ parts)
 at_entry {rest = rest} blanks letter name spaces raw tail blank is_key pass space worded ends is cuts =
     let at = tail ++ rest in
     let joined : (letter ∷ (name ++ ((spaces ++ codes "=") ++ raw))) ++ at ≡ (letter ∷ name) ++ (spaces ++ 61 ∷ (raw ++ at)) =
     ap (λ t. letter ∷ t) (append_assoc name ((spaces ++ codes "=") ++ raw) at
-    ∙ ap (λ t. name ++ t) (append_assoc (spaces ++ codes "=") raw at ∙ append_assoc spaces (codes "=") (raw ++ at))) in
+    ∙ ap (λ t. name ++ t) (append_assoc (spaces ++ codes "=") raw at
+    ∙ append_assoc spaces (codes "=") (raw ++ at))) in
     cut.begins (valued blanks (letter ∷ name) spaces raw tail) (
       blank,
       (letter, name ++ ((spaces ++ codes "=") ++ raw), refl, (and_parts _ _ is_key).0),
@@ -172,18 +214,23 @@ at_entry {rest = rest} blanks letter name spaces raw tail blank is_key pass spac
     ) cuts
 
 -- what parts become
-pub becomes : {May : List Part → Part → List ℕ → Type 0} {old new : List ℕ} {parts : List Part} → after_mark old ≡ None → Cuts old parts
+pub becomes : {May : List Part → Part → List ℕ → Type 0} {old new : List ℕ} {parts : List Part}
+    → after_mark old ≡ None → Cuts old parts
     → EachBecomes May parts new → BecomesParts May old new
-becomes {old = old} {new = new} {parts = parts} unmarked cuts each = ([], parts, new, (old, cut.unmarked unmarked, cuts), each, refl)
+becomes {old = old} {new = new} {parts = parts} unmarked cuts each =
+    ([], parts, new, (old, cut.unmarked unmarked, cuts), each, refl)
 
-pub same : {key : Key} {value : List ℕ} {last : ℕ} {before : List Part} {new : List ℕ} (part : Part) → ¬ (IsEntryOf key before part)
+pub same : {key : Key} {value : List ℕ} {last : ℕ} {before : List Part} {new : List ℕ} (part : Part)
+    → ¬ (IsEntryOf key before part)
     → EachBecomes (ReplacesPart key value last) before new
     → EachBecomes (ReplacesPart key value last) (before ++ part ∷ []) (new ++ part_bytes part)
 same part other each = cut.next part (part_bytes part) each (edit.stays other)
 
 -- an entry of the key gets the value, and these before it go
-pub replaces : {key : Key} {value old new : List ℕ} (before left after : List Content) (x : Content) (raw : List ℕ)
-    → HasContents new (left ++ (x.0, x.1, Some raw) ∷ after) → IsOf key x → HasNone key after → Without key None before left
+pub replaces : {key : Key} {value old new : List ℕ} (before left after : List Content) (x : Content)
+    (raw : List ℕ)
+    → HasContents new (left ++ (x.0, x.1, Some raw) ∷ after) → IsOf key x → HasNone key after
+    → Without key None before left
     → HasValue (Some raw) value → BecomesParts (ReplacesPart key value (length before)) old new
     → ReplacesKey key value old (before ++ x ∷ after) new
 replaces before left after x raw has is_of last others has_value becomes = (
@@ -208,9 +255,11 @@ replaces before left after x raw has is_of last others has_value becomes = (
 -- behind these parts, a new entry of the key can stand at none of those that follow
 abbrev pub NoneFollows : Key → List Part → List Part → Type 0
 NoneFollows key front [] = ⊤
-NoneFollows key front (part ∷ back) = ¬ (CanFollow key (front ++ part ∷ [])) × NoneFollows key (front ++ part ∷ []) back
+NoneFollows key front (part ∷ back) =
+    ¬ (CanFollow key (front ++ part ∷ [])) × NoneFollows key (front ++ part ∷ []) back
 
-pub is_last : (key : Key) (front back : List Part) → NoneFollows key front back → (more left : List Part) → back ≡ more ++ left
+pub is_last : (key : Key) (front back : List Part) → NoneFollows key front back → (more left : List Part)
+    → back ≡ more ++ left
     → CanFollow key (front ++ more) → more ≡ []
 is_last key front [] none [] left e can = refl
 is_last key front (part ∷ back) none [] left e can = refl
@@ -222,13 +271,15 @@ is_last key front (part ∷ back) none (other ∷ more) left e can =
     let nothing = is_last key (front ++ part ∷ []) back none.1 more left all behind in
     absurd (none.0 (rw (nothing, ← parts) at can))
 
-pub is_nowhere : (key : Key) (parts : List Part) → NoneFollows key [] parts → (front back : List Part) → parts ≡ front ++ back
+pub is_nowhere : (key : Key) (parts : List Part) → NoneFollows key [] parts → (front back : List Part)
+    → parts ≡ front ++ back
     → ¬ (CanFollow key front)
 is_nowhere key parts none front back e = λ can.
     let (before, last, joined, inside, either) = can in
     no_part before last (sym (is_last key [] parts none front back e can) ∙ joined)
 
-pub no_item : (key : Key) (before : List Part) (part : Part) → is_item part ≡ false → ends_in_header before ≡ false
+pub no_item : (key : Key) (before : List Part) (part : Part) → is_item part ≡ false
+    → ends_in_header before ≡ false
     → ¬ (CanFollow key (before ++ part ∷ []))
 no_item key before part item header = λ (front, last, joined, inside, either).
     let (fronts, parts) = same_last before front part last joined in
@@ -246,21 +297,24 @@ listed_is listing.plain e = refl
 listed_is (listing.quoted spelled) e = cc
 
 pub not_in : (key : Key) (name : List ℕ)
-    → (get_or (stem key ++ 46 ∷ []) 0 0 == get_or (map to_ascii_lowercase name ++ 46 ∷ []) 0 0) ≡ false → ¬ (IsIn key (Some (name, None)))
+    → (get_or (stem key ++ 46 ∷ []) 0 0 == get_or (map to_ascii_lowercase name ++ 46 ∷ []) 0 0) ≡ false
+    → ¬ (IsIn key (Some (name, None)))
 not_in key name apart = λ is. eqb-false _ _ apart (ap (λ t. get_or t 0 0) (listed_is is refl))
 
 -- the line end of a line without a CR
 pub feed_end : (bytes : List ℕ) (b : ℕ) → b ≢ 13 → IsEndOfLine ((bytes ++ b ∷ []) ++ 10 ∷ []) true (10 ∷ [])
 feed_end bytes b off =
     edit.feed (λ front e. off (last_of bytes front b 13
-    (last_of (bytes ++ b ∷ []) (front ++ 13 ∷ []) 10 10 (e ∙ sym (append_assoc front (13 ∷ []) (10 ∷ [])))).0).1)
+    (last_of (bytes ++ b ∷ []) (front ++ 13 ∷ []) 10 10 (e
+    ∙ sym (append_assoc front (13 ∷ []) (10 ∷ [])))).0).1)
 
 at_feed : (rest : List ℕ) → IsAtLineEnd (10 ∷ rest)
 at_feed [] = refl
 at_feed (b ∷ rest) = inl refl
 
 -- a key alone
-pub at_key : {rest : List ℕ} {parts : List Part} (blanks : List ℕ) (letter : ℕ) (name : List ℕ) → AreBlank blanks
+pub at_key : {rest : List ℕ} {parts : List Part} (blanks : List ℕ) (letter : ℕ) (name : List ℕ)
+    → AreBlank blanks
     → is_name (letter ∷ name) ≡ true → list_all is_key_byte (letter ∷ name) ≡ true → Cuts rest parts
     → Cuts (part_bytes (cut.entry blanks (letter ∷ name) [] None (codes "\n") true) ++ rest)
     (cut.entry blanks (letter ∷ name) [] None (codes "\n") true ∷ parts)
@@ -273,7 +327,12 @@ at_key {rest = rest} blanks letter name blank is_key pass cuts =
         file.alone (record {
           spaced = 10 ∷ rest;
           spaces = [];
-          key_run = record { joined = ap (λ t. letter ∷ (t ++ 10 ∷ rest)) (append-nil name); pass = pass; longest = refl };
+          key_run = record {
+            joined = ap (λ t. letter ∷ (t ++ 10 ∷ rest))
+                (append-nil name);
+            pass = pass;
+            longest = refl;
+          };
           space_run = record { joined = refl; pass = refl; longest = refl };
         }) (at_feed rest),
       ),

@@ -1,16 +1,23 @@
 -- An edit of a text has one result.
-use Rattle.std.proofs.Common.{◌≡◌, ◌≢◌, ℕ, ◌+◌, ◌<◌, ◌≤◌, Bool, true, false, List, [], ◌∷◌, ◌++◌, Option, Some, None, length}
-use Rattle.std.proofs.Common.{refl, sym, ap, ◌∙◌, subst, append_assoc, append-nil, arith, inl, inr, ◌⊎◌, true≢false}
+use Rattle.std.proofs.Common.{◌≡◌, ◌≢◌, ℕ, ◌+◌, ◌<◌, ◌≤◌, Bool, true, false, List, [], ◌∷◌, ◌++◌, Option}
+use Rattle.std.proofs.Common.{Some, None, length}
+use Rattle.std.proofs.Common.{refl, sym, ap, ◌∙◌, subst, append_assoc, append-nil, arith, inl, inr, ◌⊎◌}
+use Rattle.std.proofs.Common.{true≢false}
 use Rattle.std.proofs.lemmas.List.{length-append}
 use Rattle.config_file.specs.Bytes.{is_blank}
 use Rattle.config_file.specs.Runs.{StopsRun}
 use Rattle.config_file.specs.Key.{Key}
 use Rattle.config_edit.specs.Edit as spec
-use Rattle.config_edit.specs.Edit.{Content, HasNone, HasOne, IsOf, Without, SpaceIf, PartsBlanks, PutsValue, ChangesValueTo, GivesValue}
-use Rattle.config_edit.specs.Edit.{ReplacesPart, ReplacesKey, ChangesKey, AddsKey, IsEndOfLine, LeavesEnd, IsCore, HasValue}
-use Rattle.config_edit.specs.Edit.{content, HasContents, Edits, Sets, ReplacesAll, AddsOne, CanFollow, IsPlace, IsFeedAt, EndsParts}
-use Rattle.config_edit.specs.Edit.{IsOpen, IsLastLineEnd, PutsLine, entry_line, FeedsComment, WritesComment, PutsComment}
-use Rattle.config_edit.specs.Edit.{ChangesEntry, ChangesPart, ChangesEntries, NamesPart, AreInOrder, Has, name_after}
+use Rattle.config_edit.specs.Edit.{Content, HasNone, HasOne, IsOf, Without, SpaceIf, PartsBlanks, PutsValue}
+use Rattle.config_edit.specs.Edit.{ChangesValueTo, GivesValue}
+use Rattle.config_edit.specs.Edit.{ReplacesPart, ReplacesKey, ChangesKey, AddsKey, IsEndOfLine, LeavesEnd}
+use Rattle.config_edit.specs.Edit.{IsCore, HasValue}
+use Rattle.config_edit.specs.Edit.{content, HasContents, Edits, Sets, ReplacesAll, AddsOne, CanFollow}
+use Rattle.config_edit.specs.Edit.{IsPlace, IsFeedAt, EndsParts}
+use Rattle.config_edit.specs.Edit.{IsOpen, IsLastLineEnd, PutsLine, entry_line, FeedsComment, WritesComment}
+use Rattle.config_edit.specs.Edit.{PutsComment}
+use Rattle.config_edit.specs.Edit.{ChangesEntry, ChangesPart, ChangesEntries, NamesPart, AreInOrder, Has}
+use Rattle.config_edit.specs.Edit.{name_after}
 use Rattle.config_edit.specs.declared.Change.{Change}
 use Rattle.config_edit.specs.Cut.{entries_in}
 use Rattle.config_file.specs.Bytes.{is_space}
@@ -26,7 +33,8 @@ use Rattle.config_file.proofs.OneKey.{cut_same}
 use Rattle.config_file.proofs.OneReading.{one_reading}
 use Rattle.config_edit.proofs.CutLoops.{bytes_join}
 use Rattle.config_edit.specs.Cut as cut
-use Rattle.config_edit.specs.Cut.{parts_bytes, Part, Cuts, IsSplit, HasParts, BecomesParts, EachBecomes, AreBlank, value_bytes}
+use Rattle.config_edit.specs.Cut.{parts_bytes, Part, Cuts, IsSplit, HasParts, BecomesParts, EachBecomes}
+use Rattle.config_edit.specs.Cut.{AreBlank, value_bytes}
 use Rattle.config_file.proofs.OneRun.{run_same}
 use Rattle.config_file.specs.File.{after_mark}
 use Rattle.config_edit.proofs.Cuts.{one_each, no_part, same_last}
@@ -41,7 +49,8 @@ space_once (spec.wanted is) (spec.unwanted other) = absurd (other is)
 space_once (spec.unwanted other) (spec.wanted is) = absurd (other is)
 space_once (spec.unwanted other) (spec.unwanted also) = refl
 
-blanks_once : {lead trail also left : List ℕ} → PartsBlanks lead trail → PartsBlanks also left → lead ++ trail ≡ also ++ left
+blanks_once : {lead trail also left : List ℕ} → PartsBlanks lead trail → PartsBlanks also left
+    → lead ++ trail ≡ also ++ left
     → (lead ≡ also) × (trail ≡ left)
 blanks_once spec.none spec.none e = (refl, refl)
 blanks_once spec.none spec.return e = absurd (cc)
@@ -59,7 +68,8 @@ EndsSolid core = (more : List ℕ) (b : ℕ) → core ≡ more ++ b ∷ [] → i
 not_blank : (c : ℕ) (core : List ℕ) → EndsSolid (c ∷ core) → AreBlank (c ∷ core) → ⊥
 not_blank c core last all = elim (some_last (c ∷ core)) [
   | inl none ↦ cc
-  | inr (front, b, is) ↦ true≢false (sym (last_holds is_blank front b (subst AreBlank is all)) ∙ last front b is)
+  | inr (front, b, is) ↦ true≢false (sym (last_holds is_blank front b (subst AreBlank is all))
+      ∙ last front b is)
 ]
 
 trims_once : (core also trail left : List ℕ) → EndsSolid core → EndsSolid also → AreBlank trail → AreBlank left
@@ -71,14 +81,16 @@ trims_once (c ∷ core) [] trail left last end all blank e =
     absurd (not_blank c core last (parts_blank (c ∷ core) trail (rw (sym e) at blank)).0)
 trims_once (c ∷ core) (d ∷ also) trail left last end all blank e =
     let (cores, trails) = trims_once core also trail left
-    (λ more b is. last (c ∷ more) b (ap (λ t. c ∷ t) is)) (λ more b is. end (d ∷ more) b (ap (λ t. d ∷ t) is)) all blank (cc) in
+    (λ more b is. last (c ∷ more) b (ap (λ t. c ∷ t) is)) (λ more b is.
+    end (d ∷ more) b (ap (λ t. d ∷ t) is)) all blank (cc) in
     (cc, trails)
 
 solid_first : (core trail : List ℕ) → IsCore core → StopsRun is_blank (core ++ trail)
 solid_first [] trail (some, first, last) = absurd (some refl)
 solid_first (b ∷ core) trail (some, first, last) = first b core refl
 
-solid_within : (lead core trail blanks : List ℕ) → IsCore core → lead ++ (core ++ trail) ≡ blanks → AreBlank blanks → ⊥
+solid_within : (lead core trail blanks : List ℕ) → IsCore core → lead ++ (core ++ trail) ≡ blanks
+    → AreBlank blanks → ⊥
 solid_within lead [] trail blanks (some, first, last) e all = some refl
 solid_within lead (b ∷ core) trail blanks (some, first, last) e all =
     let (before, after) = parts_blank lead ((b ∷ core) ++ trail) (rw (sym e) at all) in
@@ -86,19 +98,23 @@ solid_within lead (b ∷ core) trail blanks (some, first, last) e all =
 
 puts_once : {value between tail : List ℕ} {was also : Option (List ℕ)} {a b : List ℕ}
     → PutsValue value between tail was a → PutsValue value between tail also b → was ≡ also → a ≡ b
-puts_once (spec.in_place {core = core} lead trail all is blank s) (spec.in_place {core = next} also left all_too so blank_too t) e =
+puts_once (spec.in_place {core = core} lead trail all is blank s)
+    (spec.in_place {core = next} also left all_too so blank_too t) e =
     let whole : lead ++ (core ++ trail) ≡ also ++ (next ++ left) = some_same e in
     let (leads, rests) = run_same is_blank lead also (core ++ trail) (next ++ left) all all_too (solid_first core trail is)
     (solid_first next left so) whole in
     let (cores, trails) = trims_once core next trail left is.2 so.2 blank blank_too rests in
     let spellings = s.1 ∙ sym t.1 in
     cc
-puts_once (spec.in_place {core = core} lead trail all is blank s) (spec.in_blanks also left both parts gap t later) e =
+puts_once (spec.in_place {core = core} lead trail all is blank s)
+    (spec.in_blanks also left both parts gap t later) e =
     absurd (solid_within lead core trail (also ++ left) is (some_same e) both)
 puts_once (spec.in_place lead trail all is blank s) (spec.behind_key gap t) e = absurd (cc)
-puts_once (spec.in_blanks also left both parts gap t later) (spec.in_place {core = core} lead trail all is blank s) e =
+puts_once (spec.in_blanks also left both parts gap t later)
+    (spec.in_place {core = core} lead trail all is blank s) e =
     absurd (solid_within lead core trail (also ++ left) is (sym (some_same e)) both)
-puts_once (spec.in_blanks lead trail all parts gap s later) (spec.in_blanks also left all_too parts_too gap_too t later_too) e =
+puts_once (spec.in_blanks lead trail all parts gap s later)
+    (spec.in_blanks also left all_too parts_too gap_too t later_too) e =
     let (leads, trails) = blanks_once parts parts_too (some_same e) in
     let gaps = space_once (rw leads at gap) gap_too in
     let laters = space_once (rw trails at later) later_too in
@@ -119,7 +135,8 @@ value_once (inl (has, is)) (inr (other, puts)) = absurd (other has)
 value_once (inr (other, puts)) (inl (has, is)) = absurd (other has)
 value_once (inr (other, puts)) (inr (other_too, puts_too)) = puts_once puts puts_too refl
 
-gives_once : (value : List ℕ) (part : Part) {a b : List ℕ} → GivesValue value part a → GivesValue value part b → a ≡ b
+gives_once : (value : List ℕ) (part : Part) {a b : List ℕ} → GivesValue value part a → GivesValue value part b
+    → a ≡ b
 gives_once value (cut.header blanks section inner) first second = absurd first
 gives_once value (cut.entry blanks key between was tail is_line) (bytes, is, put_is) (also, so, other_is) =
     put_is ∙ ap (λ x. blanks ++ ((key ++ (between ++ x)) ++ tail)) (value_once is so) ∙ sym other_is
@@ -127,11 +144,13 @@ gives_once value (cut.line tail is_line) first second = absurd first
 
 replaces_once : {key : Key} {value : List ℕ} {last : ℕ} (before : List Part) (part : Part) (a b : List ℕ)
     → ReplacesPart key value last before part a → ReplacesPart key value last before part b → a ≡ b
-replaces_once before part a b (spec.goes is below end) (spec.goes so below_too end_too) = end_once (cut.ends_in_header before) (cut.part_bytes part) (cut.ends_line part) end end_too
+replaces_once before part a b (spec.goes is below end) (spec.goes so below_too end_too) =
+    end_once (cut.ends_in_header before) (cut.part_bytes part) (cut.ends_line part) end end_too
 replaces_once before part a b (spec.goes is below end) (spec.gets so at gives) = absurd (omega arith)
 replaces_once before part a b (spec.goes is below end) (spec.stays other) = absurd (other is)
 replaces_once before part a b (spec.gets is at gives) (spec.goes so below end) = absurd (omega arith)
-replaces_once {value = value} before part a b (spec.gets is at gives) (spec.gets so at_too gives_too) = gives_once value part gives gives_too
+replaces_once {value = value} before part a b (spec.gets is at gives) (spec.gets so at_too gives_too) =
+    gives_once value part gives gives_too
 replaces_once before part a b (spec.gets is at gives) (spec.stays other) = absurd (other is)
 replaces_once before part a b (spec.stays other) (spec.goes is below end) = absurd (other is)
 replaces_once before part a b (spec.stays other) (spec.gets is at gives) = absurd (other is)
@@ -139,7 +158,8 @@ replaces_once before part a b (spec.stays other) (spec.stays also) = refl
 
 -- texts
 pub becomes_once : {May : List Part → Part → List ℕ → Type 0} {old a b : List ℕ}
-    → ((before : List Part) (part : Part) (put other : List ℕ) → May before part put → May before part other → put ≡ other)
+    → ((before : List Part) (part : Part) (put other : List ℕ) → May before part put → May before part other
+    → put ≡ other)
     → BecomesParts May old a → BecomesParts May old b → a ≡ b
 becomes_once one (mark, parts, bytes, has, each, is) (also, others, more, has_too, each_too, so) =
     let (marks, same) = parts_once has has_too in
@@ -148,7 +168,8 @@ becomes_once one (mark, parts, bytes, has, each, is) (also, others, more, has_to
 
 -- two cuts of a list
 two_cuts : {A : Type 0} (before also after left : List A) (x y : A) → before ++ x ∷ after ≡ also ++ y ∷ left
-    → ((before ≡ also) × (after ≡ left)) ⊎ ((mid : List A) × (after ≡ mid ++ y ∷ left)) ⊎ ((mid : List A) × (left ≡ mid ++ x ∷ after))
+    → ((before ≡ also) × (after ≡ left)) ⊎ ((mid : List A) × (after ≡ mid ++ y ∷ left))
+    ⊎ ((mid : List A) × (left ≡ mid ++ x ∷ after))
 two_cuts [] [] after left x y e = inl (refl, cc)
 two_cuts [] (z ∷ also) after left x y e = inr (inl (also, cc))
 two_cuts (z ∷ before) [] after left x y e = inr (inr (before, cc))
@@ -157,19 +178,22 @@ two_cuts (z ∷ before) (w ∷ also) after left x y e = elim (two_cuts before al
   | inr other ↦ inr other
 ]
 
-last_once : {key : Key} (before also after left : List Content) (x y : Content) → before ++ x ∷ after ≡ also ++ y ∷ left
+last_once : {key : Key} (before also after left : List Content) (x y : Content)
+    → before ++ x ∷ after ≡ also ++ y ∷ left
     → IsOf key x → IsOf key y → HasNone key after → HasNone key left → length before ≡ length also
-last_once before also after left x y e of so nothing nothing_too = elim (two_cuts before also after left x y e) [
-  | inl (same, lefts) ↦ ap (λ b. length b) same
-  | inr (inl (mid, is)) ↦ let less = lost_one mid left y nothing is so in absurd (omega arith)
-  | inr (inr (mid, is)) ↦ let less = lost_one mid after x nothing_too is of in absurd (omega arith)
-]
+last_once before also after left x y e of so nothing nothing_too =
+    elim (two_cuts before also after left x y e) [
+      | inl (same, lefts) ↦ ap (λ b. length b) same
+      | inr (inl (mid, is)) ↦ let less = lost_one mid left y nothing is so in absurd (omega arith)
+      | inr (inr (mid, is)) ↦ let less = lost_one mid after x nothing_too is of in absurd (omega arith)
+    ]
 
 pub replaces_key_once : {key : Key} {value old a b : List ℕ} {contents : List Content}
     → ReplacesKey key value old contents a → ReplacesKey key value old contents b → a ≡ b
 replaces_key_once {key = key} {value = value} (now, has, r, becomes) (also, has_too, s, becomes_too) =
     let places = last_once r.before s.before r.after s.after r.x s.x (sym r.old_is ∙ s.old_is) r.is_of s.is_of r.last s.last in
-    becomes_once (replaces_once {key = key} {value = value} {last = length s.before}) (rw places at becomes) becomes_too
+    becomes_once (replaces_once {key = key} {value = value} {last = length s.before})
+    (rw places at becomes) becomes_too
 
 pub prefixes : {A : Type 0} (a b c d : List A) → a ++ b ≡ c ++ d
     → ((mid : List A) × (c ≡ a ++ mid) × (b ≡ mid ++ d)) ⊎ ((mid : List A) × (a ≡ c ++ mid) × (d ≡ mid ++ b))
@@ -188,16 +212,18 @@ no_feed_in mid left all =
     true≢false (sym after)
 
 last_feed_once : {text a b : List ℕ} → IsLastLineEnd text (Some a) → IsLastLineEnd text (Some b) → a ≡ b
-last_feed_once (front, back, is, none, end) (also, left, so, none_too, end_too) = elim (two_cuts front also back left 10 10 (sym is ∙ so)) [
-  | inl (same, backs) ↦ line_end_once end end_too (ap (λ f. f ++ 10 ∷ []) same) refl
-  | inr (inl (mid, e)) ↦ absurd (no_feed_in mid left (rw e at none))
-  | inr (inr (mid, e)) ↦ absurd (no_feed_in mid back (rw e at none_too))
-]
+last_feed_once (front, back, is, none, end) (also, left, so, none_too, end_too) =
+    elim (two_cuts front also back left 10 10 (sym is ∙ so)) [
+      | inl (same, backs) ↦ line_end_once end end_too (ap (λ f. f ++ 10 ∷ []) same) refl
+      | inr (inl (mid, e)) ↦ absurd (no_feed_in mid left (rw e at none))
+      | inr (inr (mid, e)) ↦ absurd (no_feed_in mid back (rw e at none_too))
+    ]
 
 has_feed : {text a : List ℕ} → IsLastLineEnd text (Some a) → IsLastLineEnd text None → ⊥
 has_feed (front, back, is, none, end) all = no_feed_in front back (rw is at all)
 
-feed_once : {front text a b : List ℕ} → IsFeedAt front text a → IsFeedAt front text b → (list_all is_comment_byte text ≡ true
+feed_once : {front text a b : List ℕ} → IsFeedAt front text a → IsFeedAt front text b
+    → (list_all is_comment_byte text ≡ true
     → list_all is_comment_byte front ≡ true) → a ≡ b
 feed_once (spec.of_front is) (spec.of_front so) within = last_feed_once is so
 feed_once (spec.of_front is) (spec.of_text none so) within = absurd (has_feed is none)
@@ -209,7 +235,8 @@ feed_once (spec.of_none all) (spec.of_front so) within = absurd (has_feed so (wi
 feed_once (spec.of_none all) (spec.of_text none so) within = absurd (has_feed so all)
 feed_once (spec.of_none all) (spec.of_none also) within = refl
 
-ends_parts_once : {feed a b : List ℕ} {parts also : List Part} → EndsParts feed parts a → EndsParts feed also b → parts ≡ also → a ≡ b
+ends_parts_once : {feed a b : List ℕ} {parts also : List Part} → EndsParts feed parts a
+    → EndsParts feed also b → parts ≡ also → a ≡ b
 ends_parts_once spec.empty spec.empty e = refl
 ends_parts_once spec.empty (spec.ended before last on) e = absurd (no_part before last e)
 ends_parts_once spec.empty (spec.unended before last off other) e = absurd (no_part before last e)
@@ -234,9 +261,11 @@ ends_parts_once (spec.open_entry before last off is) (spec.unended also next so 
 ends_parts_once (spec.open_entry before last off is) (spec.open_entry also next so also_open) e = refl
 
 place_once : {key : Key} {header feed headed other line puts : List ℕ} {front back also left : List Part}
-    → IsPlace key header feed front back headed → IsPlace key other line also left puts → front ++ back ≡ also ++ left
+    → IsPlace key header feed front back headed → IsPlace key other line also left puts
+    → front ++ back ≡ also ++ left
     → (front ≡ also) × (back ≡ left)
-place_once (spec.inside {front = front} {back = back} can last) (spec.inside {front = also} {back = left} can_too last_too) e =
+place_once (spec.inside {front = front} {back = back} can last)
+    (spec.inside {front = also} {back = left} can_too last_too) e =
     elim (prefixes front back also left e) [
       | inl (mid, is, so) ↦
           let none = last mid left so (rw is at can_too) in
@@ -253,12 +282,15 @@ place_once (spec.at_end {parts = parts} never written) (spec.at_end {parts = als
     (sym (append-nil parts) ∙ e ∙ append-nil also, refl)
 
 headed_once : {key : Key} {header feed headed other line puts : List ℕ} {front back also left : List Part}
-    → IsPlace key header feed front back headed → IsPlace key other line also left puts → front ++ back ≡ also ++ left
+    → IsPlace key header feed front back headed → IsPlace key other line also left puts
+    → front ++ back ≡ also ++ left
     → feed ≡ line → headed ≡ puts
 headed_once (spec.inside can last) (spec.inside can_too last_too) e feeds = refl
-headed_once (spec.inside {front = front} {back = back} can last) (spec.at_end {parts = parts} never written) e feeds =
+headed_once (spec.inside {front = front} {back = back} can last)
+    (spec.at_end {parts = parts} never written) e feeds =
     absurd (never front back (sym (append-nil parts) ∙ sym e) can)
-headed_once (spec.at_end {parts = parts} never written) (spec.inside {front = also} {back = left} can last) e feeds =
+headed_once (spec.at_end {parts = parts} never written)
+    (spec.inside {front = also} {back = left} can last) e feeds =
     absurd (never also left (sym (append-nil parts) ∙ e) can)
 headed_once (spec.at_end never written) (spec.at_end never_too written_too) e feeds =
     let headers = written.1 ∙ sym written_too.1 in cc
@@ -267,16 +299,22 @@ front_within : (front back : List Part) → list_all is_comment_byte (parts_byte
     → list_all is_comment_byte (parts_bytes front) ≡ true
 front_within front back all =
     (and_parts (list_all is_comment_byte (parts_bytes front)) (list_all is_comment_byte (parts_bytes back))
-    (sym (list_all-append is_comment_byte (parts_bytes front) (parts_bytes back)) ∙ ap (list_all is_comment_byte) (sym (bytes_join front back)) ∙ all)).0
+    (sym (list_all-append is_comment_byte (parts_bytes front) (parts_bytes back))
+    ∙ ap (list_all is_comment_byte) (sym (bytes_join front back)) ∙ all)).0
 
-line_same : (name : List ℕ) {a b mark other ends endings headed puts spelling spells feed line : List ℕ} {front back also left : List Part}
-    → a ≡ mark ++ (parts_bytes front ++ (ends ++ (headed ++ (entry_line name spelling feed ++ parts_bytes back))))
-    → b ≡ other ++ (parts_bytes also ++ (endings ++ (puts ++ (entry_line name spells line ++ parts_bytes left))))
-    → mark ≡ other → front ≡ also → back ≡ left → feed ≡ line → ends ≡ endings → headed ≡ puts → spelling ≡ spells → a ≡ b
+line_same : (name : List ℕ) {a b mark other ends endings headed puts spelling spells feed line : List ℕ}
+    {front back also left : List Part}
+    → a ≡ mark ++ (parts_bytes front
+    ++ (ends ++ (headed ++ (entry_line name spelling feed ++ parts_bytes back))))
+    → b ≡ other ++ (parts_bytes also
+    ++ (endings ++ (puts ++ (entry_line name spells line ++ parts_bytes left))))
+    → mark ≡ other → front ≡ also → back ≡ left → feed ≡ line → ends ≡ endings → headed ≡ puts
+    → spelling ≡ spells → a ≡ b
 line_same name first second marks fronts backs feeds ends heads spellings =
     first ∙ sym (second ∙ rw (← marks, ← fronts, ← backs, ← feeds, ← ends, ← heads, ← spellings) refl)
 
-puts_line_once : {key : Key} {value old a b : List ℕ} → PutsLine key value old a → PutsLine key value old b → a ≡ b
+puts_line_once : {key : Key} {value old a b : List ℕ} → PutsLine key value old a → PutsLine key value old b
+    → a ≡ b
 puts_line_once {key = key} {old = old} p q =
     let (marks, parts) = parts_once p.has_parts q.has_parts in
     let (fronts, backs) = place_once p.is_place q.is_place parts in
@@ -286,20 +324,23 @@ puts_line_once {key = key} {old = old} p q =
     let spellings = p.spells.1 ∙ sym q.spells.1 in
     line_same key.name p.new_is q.new_is marks fronts backs feeds endings headeds spellings
 
-pub added_once : {key : Key} {value old a b : List ℕ} {contents : List Content} → AddsKey key value old contents a
+pub added_once : {key : Key} {value old a b : List ℕ} {contents : List Content}
+    → AddsKey key value old contents a
     → AddsKey key value old contents b → a ≡ b
 added_once (now, has, adds, puts) (also, has_too, adds_too, puts_too) = puts_line_once puts puts_too
 
 -- edits
 edits_once : (Makes : Key → List Content → List ℕ → Type 0) {name old a b : List ℕ}
-    → ((key : Key) (contents : List Content) (x y : List ℕ) → Makes key contents x → Makes key contents y → x ≡ y)
+    → ((key : Key) (contents : List Content) (x y : List ℕ) → Makes key contents x → Makes key contents y
+    → x ≡ y)
     → Edits Makes name old a → Edits Makes name old b → a ≡ b
 edits_once Makes {a = a} {b = b} one (key, is, contents, has, makes) (other, so, others, has_too, makes_too) =
     let keys = cut_same is.cut so.cut in
     let same = contents_once has has_too in
     one other others a b (rw (keys, same) at makes) makes_too
 
-none_and_one : {key : Key} {contents : List Content} (before after : List Content) (x : Content) → contents ≡ before ++ x ∷ after
+none_and_one : {key : Key} {contents : List Content} (before after : List Content) (x : Content)
+    → contents ≡ before ++ x ∷ after
     → IsOf key x → HasNone key contents → ⊥
 none_and_one before after x e of nothing = let less = lost_one before after x nothing e of in omega arith
 
@@ -307,34 +348,48 @@ set_once : {key : Key} {value old x y : List ℕ} {contents : List Content}
     → ChangesKey key value old contents x ⊎ (HasNone key contents × AddsKey key value old contents x)
     → ChangesKey key value old contents y ⊎ (HasNone key contents × AddsKey key value old contents y) → x ≡ y
 set_once (inl (one, first)) (inl (also, second)) = replaces_key_once first second
-set_once (inl (one, (now, has, r, more))) (inr (nothing, adds)) = absurd (none_and_one r.before r.after r.x r.old_is r.is_of nothing)
-set_once (inr (nothing, adds)) (inl (one, (now, has, r, more))) = absurd (none_and_one r.before r.after r.x r.old_is r.is_of nothing)
+set_once (inl (one, (now, has, r, more))) (inr (nothing, adds)) =
+    absurd (none_and_one r.before r.after r.x r.old_is r.is_of nothing)
+set_once (inr (nothing, adds)) (inl (one, (now, has, r, more))) =
+    absurd (none_and_one r.before r.after r.x r.old_is r.is_of nothing)
 set_once (inr (nothing, first)) (inr (also, second)) = added_once first second
 
 all_once : {key : Key} {value old x y : List ℕ} {contents : List Content}
     → ReplacesKey key value old contents x ⊎ (HasNone key contents × AddsKey key value old contents x)
     → ReplacesKey key value old contents y ⊎ (HasNone key contents × AddsKey key value old contents y) → x ≡ y
 all_once (inl first) (inl second) = replaces_key_once first second
-all_once (inl (now, has, r, more)) (inr (nothing, adds)) = absurd (none_and_one r.before r.after r.x r.old_is r.is_of nothing)
-all_once (inr (nothing, adds)) (inl (now, has, r, more)) = absurd (none_and_one r.before r.after r.x r.old_is r.is_of nothing)
+all_once (inl (now, has, r, more)) (inr (nothing, adds)) =
+    absurd (none_and_one r.before r.after r.x r.old_is r.is_of nothing)
+all_once (inr (nothing, adds)) (inl (now, has, r, more)) =
+    absurd (none_and_one r.before r.after r.x r.old_is r.is_of nothing)
 all_once (inr (nothing, first)) (inr (also, second)) = added_once first second
 
-pub one_set : (name value old new other : List ℕ) → Sets name value old new → Sets name value old other → new ≡ other
-one_set name value old new other first second = edits_once (λ key contents new. ChangesKey key value old contents new
+pub one_set : (name value old new other : List ℕ) → Sets name value old new → Sets name value old other
+    → new ≡ other
+one_set name value old new other first second =
+    edits_once (λ key contents new. ChangesKey key value old contents new
     ⊎ (HasNone key contents × AddsKey key value old contents new))
-    (λ key contents x y makes also. set_once {key = key} {value = value} {old = old} {contents = contents} makes also) first second
+    (λ key contents x y makes also.
+    set_once {key = key} {value = value} {old = old} {contents = contents} makes also) first second
 
-pub one_replaced : (name value old new other : List ℕ) → ReplacesAll name value old new → ReplacesAll name value old other → new ≡ other
-one_replaced name value old new other first second = edits_once (λ key contents new. ReplacesKey key value old contents new
+pub one_replaced : (name value old new other : List ℕ) → ReplacesAll name value old new
+    → ReplacesAll name value old other → new ≡ other
+one_replaced name value old new other first second =
+    edits_once (λ key contents new. ReplacesKey key value old contents new
     ⊎ (HasNone key contents × AddsKey key value old contents new))
-    (λ key contents x y makes also. all_once {key = key} {value = value} {old = old} {contents = contents} makes also) first second
+    (λ key contents x y makes also.
+    all_once {key = key} {value = value} {old = old} {contents = contents} makes also) first second
 
-pub one_added : (name value old new other : List ℕ) → AddsOne name value old new → AddsOne name value old other → new ≡ other
-one_added name value old new other first second = edits_once (λ key contents new. AddsKey key value old contents new)
-    (λ key contents x y makes also. added_once {key = key} {value = value} {old = old} {contents = contents} makes also) first second
+pub one_added : (name value old new other : List ℕ) → AddsOne name value old new
+    → AddsOne name value old other → new ≡ other
+one_added name value old new other first second =
+    edits_once (λ key contents new. AddsKey key value old contents new)
+    (λ key contents x y makes also.
+    added_once {key = key} {value = value} {old = old} {contents = contents} makes also) first second
 
 -- changes
-feeds_once : {was also : Option (List ℕ)} {bytes a b : List ℕ} → FeedsComment was bytes a → FeedsComment also bytes b → was ≡ also
+feeds_once : {was also : Option (List ℕ)} {bytes a b : List ℕ} → FeedsComment was bytes a
+    → FeedsComment also bytes b → was ≡ also
     → a ≡ b
 feeds_once (spec.closed s) (spec.closed t) e = refl
 feeds_once (spec.closed s) (spec.open_value t) e = absurd (one_ending s t)
@@ -350,7 +405,8 @@ no_sign : (b : ℕ) (blanks : List ℕ) → list_all is_space (b ∷ blanks) ≡
 no_sign b blanks all is =
     let first = (and_parts (is_space b) (list_all is_space blanks) all).0 in true≢false (sym (rw is at first))
 
-written_once : {comment also a b : List ℕ} → WritesComment comment a → WritesComment also b → comment ≡ also → a ≡ b
+written_once : {comment also a b : List ℕ} → WritesComment comment a → WritesComment also b → comment ≡ also
+    → a ≡ b
 written_once (spec.spaced c blanks more all) (spec.spaced d spaces left too) e = e
 written_once (spec.spaced c blanks more all) spec.signed e = absurd (no_sign c blanks all (cc))
 written_once (spec.spaced c blanks more all) (spec.plain other) e = absurd (other (c ∷ blanks) more all (sym e))
@@ -361,7 +417,8 @@ written_once (spec.plain other) (spec.spaced c blanks more all) e = absurd (othe
 written_once (spec.plain other) (spec.signed {more = more}) e = absurd (other [] more refl e)
 written_once (spec.plain other) (spec.plain also) e = cc
 
-comment_once : {comment bytes a b : List ℕ} {part : Part} {was : Option (List ℕ)} → PutsComment comment part was bytes a
+comment_once : {comment bytes a b : List ℕ} {part : Part} {was : Option (List ℕ)}
+    → PutsComment comment part was bytes a
     → PutsComment comment part was bytes b → a ≡ b
 comment_once p q =
     let (cores, blanks) = trims_once p.core q.core p.blanks q.blanks p.ends_core q.ends_core p.are_blank q.are_blank
@@ -383,47 +440,82 @@ after_once : {a b : List ℕ} (tail bytes : List ℕ) (part : Part) (was comment
 after_once tail bytes part was None first second = first ∙ sym second
 after_once tail bytes part was (Some c) first second = comment_once first second
 
-changes_once : (change : Change) (part : Part) {a b : List ℕ} → ChangesEntry change part a → ChangesEntry change part b → a ≡ b
+changes_once : (change : Change) (part : Part) {a b : List ℕ} → ChangesEntry change part a
+    → ChangesEntry change part b → a ≡ b
 changes_once change (cut.header blanks section inner) first second = absurd first
 changes_once change (cut.line tail is_line) first second = absurd first
-changes_once change (cut.entry blanks key between was tail is_line) (bytes, after, is, comment, put_is) (also, left, so, other, now_is) =
+changes_once change (cut.entry blanks key between was tail is_line) (bytes, after, is, comment, put_is) (
+  also,
+  left,
+  so,
+  other,
+  now_is,
+) =
     let same = bytes_once between tail was (option_copied change.value) is so in
     let afters = after_once tail also (cut.entry blanks key between was tail is_line) was (option_copied change.comment) (rw same at comment) other in
-    put_is ∙ ap (λ x. blanks ++ (name_after (option_copied change.name) key ++ (between ++ x))) afters ∙ sym now_is
+    put_is ∙ ap (λ x. blanks ++ (name_after (option_copied change.name) key ++ (between ++ x))) afters
+    ∙ sym now_is
 
 head_of : {A : Type 0} {x y : A} {xs ys : List A} → x ∷ xs ≡ y ∷ ys → x ≡ y
 head_of e = cc
 
-order_apart : (from : ℕ) (changes : List Change) (count : ℕ) (first second : Change) → AreInOrder from changes count
+order_apart : (from : ℕ) (changes : List Change) (count : ℕ) (first second : Change)
+    → AreInOrder from changes count
     → Has changes first → Has changes second → first.entry ≡ second.entry → first ≡ second
 order_apart from [] count first second order ([], after, e) has same = absurd (cc)
 order_apart from [] count first second order (x ∷ before, after, e) has same = absurd (cc)
 order_apart from (x ∷ changes) count first second (at, within, order) ([], after, e) ([], left, f) same = cc
-order_apart from (x ∷ changes) count first second (at, within, order) ([], after, e) (y ∷ before, left, f) same =
+order_apart from (x ∷ changes) count first second (at, within, order) ([], after, e) (
+  y ∷ before,
+  left,
+  f,
+) same =
     let above = order_from (x.entry + 1) changes count second order (before, left, cc) in
     let is : first.entry ≡ x.entry = ap (λ c. c.entry) (sym (head_of e)) in absurd (omega arith)
-order_apart from (x ∷ changes) count first second (at, within, order) (y ∷ before, after, e) ([], left, f) same =
+order_apart from (x ∷ changes) count first second (at, within, order) (y ∷ before, after, e) (
+  [],
+  left,
+  f,
+) same =
     let above = order_from (x.entry + 1) changes count first order (before, after, cc) in
     let is : second.entry ≡ x.entry = ap (λ c. c.entry) (sym (head_of f)) in absurd (omega arith)
-order_apart from (x ∷ changes) count first second (at, within, order) (y ∷ before, after, e) (z ∷ also, left, f) same =
+order_apart from (x ∷ changes) count first second (at, within, order) (y ∷ before, after, e) (
+  z ∷ also,
+  left,
+  f,
+) same =
     order_apart (x.entry + 1) changes count first second order (before, after, cc) (also, left, cc) same
 
-names_part : {changes : List Change} (before : List Part) (change : Change) (part : Part) (put : List ℕ) → Has changes change
+names_part : {changes : List Change} (before : List Part) (change : Change) (part : Part) (put : List ℕ)
+    → Has changes change
     → change.entry ≡ entries_in before → ChangesEntry change part put → NamesPart changes before part
 names_part before change (cut.header blanks section inner) put has at changes = changes
 names_part before change (cut.line tail is_line) put has at changes = changes
 names_part before change (cut.entry blanks key between was tail is_line) put has at changes = (change, has, at)
 
-change_once : {changes : List Change} (count : ℕ) → AreInOrder 0 changes count → (before : List Part) (part : Part) (a b : List ℕ)
+change_once : {changes : List Change} (count : ℕ) → AreInOrder 0 changes count
+    → (before : List Part) (part : Part) (a b : List ℕ)
     → ChangesPart changes before part a → ChangesPart changes before part b → a ≡ b
-change_once {changes = changes} count order before part a b (spec.changed c has at is) (spec.changed d has_too at_too so) =
+change_once {changes = changes} count order before part a b (spec.changed c has at is)
+    (spec.changed d has_too at_too so) =
     let same = order_apart 0 changes count c d order has has_too (at ∙ sym at_too) in
     changes_once d part (rw same at is) so
-change_once count order before part a b (spec.changed c has at is) (spec.stays other) = absurd (other (names_part before c part a has at is))
-change_once count order before part a b (spec.stays other) (spec.changed c has at is) = absurd (other (names_part before c part b has at is))
+change_once count order before part a b (spec.changed c has at is) (spec.stays other) =
+    absurd (other (names_part before c part a has at is))
+change_once count order before part a b (spec.stays other) (spec.changed c has at is) =
+    absurd (other (names_part before c part b has at is))
 change_once count order before part a b (spec.stays other) (spec.stays also) = refl
 
-pub one_changed : (changes : List Change) (old new other : List ℕ) → ChangesEntries changes old new → ChangesEntries changes old other
+pub one_changed : (changes : List Change) (old new other : List ℕ) → ChangesEntries changes old new
+    → ChangesEntries changes old other
     → new ≡ other
-one_changed changes old new other (contents, has, order, now, has_now, each, becomes) (also, has_too, order_too, so, has_so, each_too, becomes_too) =
+one_changed changes old new other (contents, has, order, now, has_now, each, becomes) (
+  also,
+  has_too,
+  order_too,
+  so,
+  has_so,
+  each_too,
+  becomes_too,
+) =
     becomes_once (change_once (length contents) order) becomes becomes_too

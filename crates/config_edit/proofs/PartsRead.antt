@@ -14,10 +14,13 @@ use Rattle.config_edit.specs.Cut.{Part, IsPart, Cuts, IsTail, AreBlank, part_byt
 use Rattle.config_edit.specs.Sections.{IsHeaderIn}
 use Rattle.std.specs.List.{AllByRecursion}
 use Rattle.config_file.proofs.ListsA.{all_appended}
-use Rattle.config_edit.specs.Reading.{Ends, Passed, anywhere, at_end, IsRead, IsPiece, IsBehind, IsFoundIn, IsHeaderHeld}
+use Rattle.config_edit.specs.Reading.{Ends, Passed, anywhere, at_end, IsRead, IsPiece, IsBehind, IsFoundIn}
+use Rattle.config_edit.specs.Reading.{IsHeaderHeld}
 use Rattle.config_edit.proofs.Cuts.{cut_more, IsPartOf}
-use Rattle.config_edit.proofs.Edits.{holds_nothing, holds_end, passed_join, ends_once, all_passed, some_left, joined_more}
-use Rattle.config_edit.proofs.Pieces.{entry_passed, header_holds, header_moved, line_passed, made_passed, takes_before}
+use Rattle.config_edit.proofs.Edits.{holds_nothing, holds_end, passed_join, ends_once, all_passed, some_left}
+use Rattle.config_edit.proofs.Edits.{joined_more}
+use Rattle.config_edit.proofs.Pieces.{entry_passed, header_holds, header_moved, line_passed, made_passed}
+use Rattle.config_edit.proofs.Pieces.{takes_before}
 
 -- what is read of parts
 abbrev pub part_contents : Option Section → Part → List Content
@@ -26,7 +29,8 @@ part_contents section _ = []
 
 abbrev pub contents_of : Option Section → List Part → List Content
 contents_of section [] = []
-contents_of section (part ∷ parts) = part_contents section part ++ contents_of (section_behind section part) parts
+contents_of section (part ∷ parts) =
+    part_contents section part ++ contents_of (section_behind section part) parts
 
 part_passed : (part : Part) (rest : List ℕ) → IsPart part rest → (section : Option Section)
     → Passed section (part_bytes part) (part_contents section part) (section_behind section part) rest
@@ -34,7 +38,12 @@ part_passed (cut.header blanks new inner) rest (all, is) section =
     let (front, joined, moved) = header_moved is in
     let same = append_cancel_right inner front rest joined in
     anywhere (header_holds all (record { inner = inner; joined = refl; header = rw (← same) at moved }) section)
-part_passed (cut.entry blanks key between value tail is_line) rest (all, (b, more, begins, letter), (lines, takes), t) section =
+part_passed (cut.entry blanks key between value tail is_line) rest (
+  all,
+  (b, more, begins, letter),
+  (lines, takes),
+  t,
+) section =
     let at = tail ++ rest in
     entry_passed blanks is_line all (record {
       front = key ++ (between ++ value_bytes value);
@@ -76,19 +85,25 @@ moved_tail other t none =
       ];
     }
 
-pub part_moved : (part : Part) (rest other : List ℕ) → IsPart part rest → (rest ≡ [] → other ≡ []) → IsPart part other
+pub part_moved : (part : Part) (rest other : List ℕ) → IsPart part rest → (rest ≡ [] → other ≡ [])
+    → IsPart part other
 part_moved (cut.header blanks section inner) rest other (all, is) none =
     let (front, joined, moved) = header_moved is in
     let same = append_cancel_right inner front rest joined in
     (all, rw (← same) at (moved other))
-part_moved (cut.entry blanks key between value tail true) rest other (all, letter, (lines, takes), t) none =
-    (all, letter, (lines, takes_before (key ++ (between ++ value_bytes value)) tail takes t other), moved_tail other t none)
-part_moved (cut.entry blanks key between value tail false) rest other (all, letter, (lines, takes), t) none = elim t.ends [
-  | inl l ↦ absurd (true≢false (sym l.0))
-  | inr e ↦
-      let same : rest ≡ other = e.1 ∙ sym (none e.1) in
-      (all, letter, (lines, rw same at takes), moved_tail other t none)
-]
+part_moved (cut.entry blanks key between value tail true) rest other (all, letter, (lines, takes), t) none = (
+  all,
+  letter,
+  (lines, takes_before (key ++ (between ++ value_bytes value)) tail takes t other),
+  moved_tail other t none,
+)
+part_moved (cut.entry blanks key between value tail false) rest other (all, letter, (lines, takes), t) none =
+    elim t.ends [
+      | inl l ↦ absurd (true≢false (sym l.0))
+      | inr e ↦
+          let same : rest ≡ other = e.1 ∙ sym (none e.1) in
+          (all, letter, (lines, rw same at takes), moved_tail other t none)
+    ]
 part_moved (cut.line tail is_line) rest other (some, t) none = (some, moved_tail other t none)
 
 -- behind the parts of a text
@@ -104,8 +119,10 @@ behind_begins text =
     }
 
 -- one piece more
-pub behind_more : {text rest : List ℕ} {done : List Part} (piece : Piece) → IsBehind text rest done → IsPiece rest piece
-    → length piece.rest.now < length rest → (part : Part) → part_bytes part ≡ piece.bytes.now → IsPart part piece.rest.now
+pub behind_more : {text rest : List ℕ} {done : List Part} (piece : Piece) → IsBehind text rest done
+    → IsPiece rest piece
+    → length piece.rest.now < length rest → (part : Part) → part_bytes part ≡ piece.bytes.now
+    → IsPart part piece.rest.now
     → IsBehind text piece.rest.now (done ++ part ∷ [])
 behind_more {text = text} {rest = rest} {done = done} piece b is shorter part bytes_are is_part =
     record {
@@ -128,7 +145,8 @@ behind_all {rest = rest} {done = done} b whole left =
 -- the bytes of a piece
 pub some_bytes : {rest : List ℕ} (piece : Piece) → IsPiece rest piece → length piece.rest.now < length rest
     → piece.bytes.now ≢ []
-some_bytes piece is shorter none = let same = ap (λ l. length l) (is.joined ∙ ap (λ b. b ++ piece.rest.now) none) in omega arith
+some_bytes piece is shorter none =
+    let same = ap (λ l. length l) (is.joined ∙ ap (λ b. b ++ piece.rest.now) none) in omega arith
 
 -- whether a part is a header of a section of the key
 pub header_held : (key : Key) (h : Held) (blanks bytes rest : List ℕ) (is_line : Bool) (part : Part)
@@ -143,7 +161,8 @@ header_in key (held.Header section) blanks bytes rest is_line part (inner, is) h
 header_in key (held.Entry parts) blanks bytes rest is_line part (between, tail, is, left) h = rw is at h
 header_in key other_held blanks bytes rest is_line part is h = rw is at h
 
-pub all_front : {X : Type 0} (Is : X → Type 0) (a b : List X) → AllByRecursion Is (a ++ b) → AllByRecursion Is a × AllByRecursion Is b
+pub all_front : {X : Type 0} (Is : X → Type 0) (a b : List X) → AllByRecursion Is (a ++ b)
+    → AllByRecursion Is a × AllByRecursion Is b
 all_front Is [] b all = (tt, all)
 all_front Is (x ∷ a) b (is, all) = let (first, second) = all_front Is a b all in ((is, first), second)
 

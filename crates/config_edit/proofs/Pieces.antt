@@ -77,7 +77,12 @@ line_end_before x (y ∷ front) b rest other h = h
 follows : (front : List ℕ) (b : ℕ) (rest other : List ℕ) → b ≢ 13
     → Follows (front ++ b ∷ rest) (front ++ b ∷ other)
 follows [] b rest other no_return =
-    record { stops = λ test none s. s; ends_value = λ e. e; line_end = λ h. at_feed b other (feed_at b rest no_return h) }
+    record {
+      stops = λ test none s. s;
+      ends_value = λ e. e;
+      line_end = λ h.
+          at_feed b other (feed_at b rest no_return h);
+    }
 follows (x ∷ front) b rest other no_return =
     record { stops = λ test none s. s; ends_value = λ e. e; line_end = line_end_before x front b rest other }
 
@@ -105,7 +110,13 @@ header_moved (quoted {name = name} {inner = inner} opens (closes {b = b} {raw = 
             blanks = opens.blanks;
             blanked = opens.blanks ++ opens.quote ∷ after;
             quote = opens.quote;
-            name_run = record { joined = refl; pass = opens.name_run.pass; longest = (follows opens.blanks opens.quote inner after no_return).stops is_name_byte refl (rw opens.blank_run.joined at opens.name_run.longest) };
+            name_run = record {
+              joined = refl;
+              pass = opens.name_run.pass;
+              longest =
+                  (follows opens.blanks opens.quote inner after no_return).stops is_name_byte refl
+                  (rw opens.blank_run.joined at opens.name_run.longest);
+            };
             blank_run = record { joined = refl; pass = opens.blank_run.pass; longest = opens.blank_run.longest };
             some_blank = opens.some_blank;
             is_quote = opens.is_quote;
@@ -118,7 +129,8 @@ key_moved : {text key : List ℕ} (rest other : List ℕ) → Follows rest other
     → TakesKey ((key ++ takes.spaces) ++ other) key other
 key_moved {key = key} rest other f takes =
     let longest =
-    stops_moved is_key_byte takes.spaces rest other f refl (rw takes.space_run.joined at takes.key_run.longest) in
+    stops_moved is_key_byte takes.spaces rest other f refl
+    (rw takes.space_run.joined at takes.key_run.longest) in
     record {
       spaced = takes.spaces ++ other;
       spaces = takes.spaces;
@@ -132,7 +144,8 @@ key_joined {key = key} rest takes =
     takes.key_run.joined ∙ rw takes.space_run.joined (sym (append_assoc key takes.spaces rest))
 
 pub key_before_value : {text key after : List ℕ} {b : ℕ} → TakesKey text key (b ∷ after) → b ≡ 61
-    → (front : List ℕ) × (text ≡ front ++ 61 ∷ after) × ((other : List ℕ) → TakesKey (front ++ 61 ∷ other) key (61 ∷ other))
+    → (front : List ℕ) × (text ≡ front ++ 61 ∷ after)
+    × ((other : List ℕ) → TakesKey (front ++ 61 ∷ other) key (61 ∷ other))
 key_before_value {key = key} {after = after} {b = b} takes is =
     let front = key ++ takes.spaces in
     let no_return : b ≢ 13 = omega arith in (
@@ -142,7 +155,8 @@ key_before_value {key = key} {after = after} {b = b} takes is =
     )
 
 -- an entry is bytes before a rest, and the same bytes are it before any text that can stand for that rest
-entry_moved : {text key rest : List ℕ} {value : Option (List ℕ)} {lines : ℕ} → TakesEntry text key value lines rest
+entry_moved : {text key rest : List ℕ} {value : Option (List ℕ)} {lines : ℕ}
+    → TakesEntry text key value lines rest
     → (front : List ℕ) × (text ≡ front ++ rest)
     × ((other : List ℕ) → Follows rest other → rest ≢ [] → TakesEntry (front ++ other) key value lines other)
 entry_moved (alone {key = key} {rest = rest} takes end) = (
@@ -150,7 +164,8 @@ entry_moved (alone {key = key} {rest = rest} takes end) = (
   key_joined rest takes,
   λ other f some. alone (key_moved rest other f takes) (f.line_end end),
 )
-entry_moved (valued {b = b} {key = key} {after = after} takes is (closed {raw = raw} {rest = rest} joined spells ends)) =
+entry_moved (valued {b = b} {key = key} {after = after} takes is
+    (closed {raw = raw} {rest = rest} joined spells ends)) =
     let front = key ++ takes.spaces in
     let no_return : b ≢ 13 = omega arith in (
       front ++ b ∷ raw,
@@ -202,7 +217,8 @@ comment_leads : {comment : List ℕ} → IsComment comment
     → Leads section line (comment ++ 10 ∷ other) [] section (line + 1) other
 comment_leads absent section line other = reached.line_end refl reached.here
 comment_leads (present is all) section line other =
-    reached.comment is (record { joined = refl; pass = all; longest = refl }) (reached.line_end refl reached.here)
+    reached.comment is (record { joined = refl; pass = all; longest = refl })
+    (reached.line_end refl reached.here)
 
 comment_ends : {comment : List ℕ} → IsComment comment → (section : Option Section) (line : ℕ)
     → Reads section line comment [] None
@@ -230,19 +246,26 @@ tail_ends {tail = tail} is t section line =
           (end_is.1, rw end_is.2 (blanks_read t.blanks t.are_blank (comment_ends t.is_comment section line)))
     ]
 
-pub line_holds : {tail rest : List ℕ} → IsTail tail rest true → (section : Option Section) → Holds section tail [] section
+pub line_holds : {tail rest : List ℕ} → IsTail tail rest true → (section : Option Section)
+    → Holds section tail [] section
 line_holds t section = λ line other. (line + 1, [], tail_leads refl t section line other, refl)
 
 pub line_passed : {tail rest : List ℕ} (is_line : Bool) → IsTail tail rest is_line → (section : Option Section)
     → Passed section tail [] section rest
 line_passed true t section = anywhere (line_holds t section)
-line_passed false t section = at_end (tail_ends refl t section 0).0 (λ line. ([], (tail_ends refl t section line).1, refl))
+line_passed false t section = at_end (tail_ends refl t section 0).0 (λ line.
+    ([], (tail_ends refl t section line).1, refl))
 
 -- a header leads to its section
 pub header_holds : {new : Section} {blanks bytes : List ℕ} → AreBlank blanks → IsHeaderAt new blanks bytes
     → (section : Option Section) → Holds section bytes [] (Some new)
-header_holds all h section = λ line other.
-    (line, [], rw h.joined (simp append_assoc (blanks_lead _ all (reached.header refl (h.header other) reached.here))), refl)
+header_holds all h section = λ line other. (
+  line,
+  [],
+  rw h.joined (simp append_assoc
+      (blanks_lead _ all (reached.header refl (h.header other) reached.here))),
+  refl,
+)
 
 -- what the code cuts off a line
 pub comment_cut : {text after bytes rest : List ℕ} {sign : ℕ} → text ≡ sign ∷ after
@@ -255,7 +278,8 @@ pub no_comment : (text : List ℕ)
     → (comment : List ℕ) × (text ≡ comment ++ text) × IsComment comment × (false ≡ true → comment ≢ [])
 no_comment text = ([], refl, absent, λ is. absurd (true≢false (sym is)))
 
-pub tail_of : {text blanks at comment end rest : List ℕ} {is_line : Bool} (last : List ℕ) → Run is_blank text blanks at
+pub tail_of : {text blanks at comment end rest : List ℕ} {is_line : Bool} (last : List ℕ)
+    → Run is_blank text blanks at
     → at ≡ comment ++ end → IsComment comment → end ≡ last ++ rest
     → ((is_line ≡ true) × (last ≡ 10 ∷ [])) ⊎ ((is_line ≡ false) × (rest ≡ []) × (last ≡ []))
     → (tail : List ℕ) × (text ≡ tail ++ rest) × (t : IsTail tail rest is_line) × (t.comment ≡ comment)
@@ -277,7 +301,8 @@ tail_of {blanks = blanks} {comment = comment} last run at_is is end_is ends = (
 
 -- an entry before what is left of its line is one before any other text behind it
 pub takes_before : {key rest : List ℕ} {value : Option (List ℕ)} {lines : ℕ} (front tail : List ℕ)
-    → TakesEntry (front ++ (tail ++ rest)) key value lines (tail ++ rest) → IsTail tail rest true → (other : List ℕ)
+    → TakesEntry (front ++ (tail ++ rest)) key value lines (tail ++ rest) → IsTail tail rest true
+    → (other : List ℕ)
     → TakesEntry (front ++ (tail ++ other)) key value lines (tail ++ other)
 takes_before {rest = rest} front tail takes t other =
     let lead = t.blanks ++ t.comment in
@@ -298,7 +323,8 @@ pub entry_holds : {key at bytes rest : List ℕ} {value : Option (List ℕ)} {li
     → AreBlank blanks
     → IsEntry key value lines at blanks bytes rest true → (section : Option Section)
     → Holds section bytes ((section, key, value) ∷ []) section
-entry_holds {key = key} {at = at} {rest = rest} {value = value} {lines = lines} blanks all e section = λ line other.
+entry_holds {key = key} {at = at} {rest = rest} {value = value} {lines = lines} blanks all e section =
+    λ line other.
     let t = e.is_tail in
     let lead = t.blanks ++ t.comment in
     let tail_is : e.tail ≡ lead ++ 10 ∷ [] = elim t.ends [
@@ -315,7 +341,8 @@ entry_holds {key = key} {at = at} {rest = rest} {value = value} {lines = lines} 
     ap (λ x. e.front ++ x) (before other) ∙ sym (append_assoc e.front lead (10 ∷ other)) ∙ begins in
     let line_then = line + lines in
     let leads =
-    reached.entry {section = section} {line = line} letter (rw same at taken) (tail_leads refl t section line_then other) in (
+    reached.entry {section = section} {line = line} letter (rw same at taken)
+    (tail_leads refl t section line_then other) in (
       line_then + 1,
       entry_at section key value line_then ∷ [],
       rw e.joined (simp append_assoc (blanks_lead blanks all (rw (← same) at leads))),
@@ -333,7 +360,8 @@ entry_ends {key = key} {at = at} {value = value} {lines = lines} blanks all e se
       none,
       λ line.
           let reads =
-          at_entry {section = section} {line = line} [] None (e.front ++ e.tail) (rw left at begins) letter (rw left at e.takes)
+          at_entry {section = section} {line = line} [] None (e.front ++ e.tail) (rw left at begins) letter
+          (rw left at e.takes)
           (tail_ends refl e.is_tail section (line + lines)).1 in
           (entry_at section key value (line + lines) ∷ [], rw e.joined (blanks_read blanks all reads), refl),
     )
@@ -364,11 +392,13 @@ refused blanks joined all stops (section, line, entries, reads) =
     let same : None ≡ Some error = (reads_once (rw joined at reads) (blanks_read blanks all stop)).1 in cc
 
 pub header_stops : {after : List ℕ} {lines : ℕ} {fault : FileFault} → HeaderStops after lines fault
-    → (section : Option Section) (line : ℕ) → (error : FileError) × Reads section line (91 ∷ after) [] (Some error)
+    → (section : Option Section) (line : ℕ)
+    → (error : FileError) × Reads section line (91 ∷ after) [] (Some error)
 header_stops {lines = lines} {fault = fault} stops section line =
     (file.error_at (line + lines) fault, file.header_refused refl stops)
 
-pub entry_stops : {at : List ℕ} {lines : ℕ} {fault : FileFault} → BeginsWithLetter at → EntryStops at lines fault
+pub entry_stops : {at : List ℕ} {lines : ℕ} {fault : FileFault} → BeginsWithLetter at
+    → EntryStops at lines fault
     → (section : Option Section) (line : ℕ) → (error : FileError) × Reads section line at [] (Some error)
 entry_stops {lines = lines} {fault = fault} (b, more, begins, letter) stops section line =
     (file.error_at (line + lines) fault, rw begins (file.entry_refused letter (rw begins at stops)))
@@ -377,12 +407,23 @@ pub nothing_stops : (at : List ℕ) → StartsLine at → GoesOn at → (section
     → (error : FileError) × Reads section line at [] (Some error)
 nothing_stops [] starts (blanks, b, more, joined, all, unused, no_sign, no_line) section line =
     absurd (not_none blanks more b (sym joined))
-nothing_stops (c ∷ rest) (no_blank, no_bracket, no_letter) (blanks, b, more, joined, all, other, no_sign, no_line) section line =
+nothing_stops (c ∷ rest) (no_blank, no_bracket, no_letter) (
+  blanks,
+  b,
+  more,
+  joined,
+  all,
+  other,
+  no_sign,
+  no_line,
+) section line =
     let left = (run_same is_blank [] blanks (c ∷ rest) (b ∷ more) refl all no_blank other joined).1 in
     let same : b ≡ c = cc in
     let sign : is_comment_sign c ≡ false = rw (sym same) no_sign in
-    let feed : c ≢ 10 = λ is. no_line (same ∙ is) in
-    (file.error_at line (fault_at (c ∷ rest)), file.no_item (begins_none c no_blank feed sign no_bracket no_letter))
+    let feed : c ≢ 10 = λ is. no_line (same ∙ is) in (
+      file.error_at line (fault_at (c ∷ rest)),
+      file.no_item (begins_none c no_blank feed sign no_bracket no_letter),
+    )
 
 pub blank_no_feed : (x : ℕ) → is_blank x ≡ true → x ≡ 10 → ⊥
 blank_no_feed x blank is = grind (arith, nat_tests)
@@ -403,7 +444,8 @@ no_line_end [] b more all no_blank no_line end =
     no_line (feed_at b more (λ return. true≢false (rw return at no_blank)) end)
 no_line_end (x ∷ []) b more all no_blank no_line end = blank_at x b (first_blank x [] all) no_line end
 no_line_end (x ∷ y ∷ blanks) b more all no_blank no_line end =
-    blank_at x y (first_blank x (y ∷ blanks) all) (blank_no_feed y (first_blank y blanks (other_blanks x (y ∷ blanks) all))) end
+    blank_at x y (first_blank x (y ∷ blanks) all)
+    (blank_no_feed y (first_blank y blanks (other_blanks x (y ∷ blanks) all))) end
 
 no_value_end : (blanks : List ℕ) (b : ℕ) (more : List ℕ) → AreBlank blanks → is_comment_sign b ≡ false
     → b ≢ 10 → EndsValue (blanks ++ b ∷ more) → ⊥
@@ -416,9 +458,27 @@ pub no_entry_goes_on : {at key rest : List ℕ} {value : Option (List ℕ)} {lin
     → TakesEntry at key value lines rest → GoesOn rest → ⊥
 no_entry_goes_on (alone takes end) (blanks, b, more, joined, all, no_blank, no_sign, no_line) =
     no_line_end blanks b more all no_blank no_line (rw joined at end)
-no_entry_goes_on (valued takes is (closed e spells ends)) (blanks, b, more, joined, all, no_blank, no_sign, no_line) =
+no_entry_goes_on (valued takes is (closed e spells ends)) (
+  blanks,
+  b,
+  more,
+  joined,
+  all,
+  no_blank,
+  no_sign,
+  no_line,
+) =
     no_value_end blanks b more all no_sign no_line (subst EndsValue joined ends)
-no_entry_goes_on (valued takes is (open_end spells)) (blanks, b, more, joined, all, no_blank, no_sign, no_line) = not_none blanks more b (sym joined)
+no_entry_goes_on (valued takes is (open_end spells)) (
+  blanks,
+  b,
+  more,
+  joined,
+  all,
+  no_blank,
+  no_sign,
+  no_line,
+) = not_none blanks more b (sym joined)
 
 -- the pieces that the code cuts off
 pub joined_more : (text front rest bytes more : List ℕ) → text ≡ front ++ rest → rest ≡ bytes ++ more
@@ -426,7 +486,8 @@ pub joined_more : (text front rest bytes more : List ℕ) → text ≡ front ++ 
 joined_more text front rest bytes more joined cut =
     joined ∙ ap (λ r. front ++ r) cut ∙ sym (append_assoc front bytes more)
 
-pub same_bytes : {text bytes other : List ℕ} (rest : List ℕ) → text ≡ bytes ++ rest → text ≡ other ++ rest → bytes ≡ other
+pub same_bytes : {text bytes other : List ℕ} (rest : List ℕ) → text ≡ bytes ++ rest → text ≡ other ++ rest
+    → bytes ≡ other
 same_bytes {bytes = bytes} {other = other} rest cut also = append_cancel_right bytes other rest (sym cut ∙ also)
 
 pub header_cut : {text after rest : List ℕ} {new : Section} (blanks : List ℕ) → text ≡ blanks ++ 91 ∷ after
@@ -438,11 +499,13 @@ header_cut {text = text} {after = after} {rest = rest} blanks joined header =
       record { inner = inner; joined = refl; header = moved },
     )
 
-pub entry_cut : {text at rest tail key after : List ℕ} {value : Option (List ℕ)} {lines : ℕ} {is_line : Bool} (blanks : List ℕ)
+pub entry_cut : {text at rest tail key after : List ℕ} {value : Option (List ℕ)} {lines : ℕ} {is_line : Bool}
+    (blanks : List ℕ)
     → text ≡ blanks ++ at → BeginsWithLetter at
     → TakesEntry at key value lines after → after ≡ tail ++ rest → IsTail tail rest is_line
     → (bytes : List ℕ) × (text ≡ bytes ++ rest) × IsEntry key value lines after blanks bytes rest is_line
-entry_cut {text = text} {at = at} {rest = rest} {tail = tail} {after = after} blanks joined letter takes left is_tail =
+entry_cut {text = text} {at = at} {rest = rest} {tail = tail}
+    {after = after} blanks joined letter takes left is_tail =
     let (front, at_is, unused) = entry_moved takes in (
       blanks ++ (front ++ tail),
       joined_more text blanks at (front ++ tail) rest joined (joined_more at front after tail rest at_is left),
@@ -474,7 +537,8 @@ no_comment_before {text = text} {rest = rest} comment cut same =
 feed_free : (b : ℕ) → b ≢ 10 → is_comment_byte b ≡ true
 feed_free b other = grind (arith, nat_tests)
 
-pub no_feeds : (text : List ℕ) → AllWithin (λ b. b ≢ 10) text 0 (length text) → list_all is_comment_byte text ≡ true
+pub no_feeds : (text : List ℕ) → AllWithin (λ b. b ≢ 10) text 0 (length text)
+    → list_all is_comment_byte text ≡ true
 no_feeds text never =
     list_all-from_AllPass is_comment_byte text
     (λ k d within. feed_free (get_or text k d) (never k d (omega arith) within))

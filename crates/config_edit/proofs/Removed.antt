@@ -59,13 +59,15 @@ count_more key n places old new x counted is = tt
 abbrev Stays : Key → Option (List ℕ) → Option Section → Held → List Content → Type 0
 Stays key places section h old = ¬ (IsEntryHeld key section h × IsPlaceOf places (length old))
 
-without_kept : {key : Key} {places : Option (List ℕ)} {old new : List Content} (h : Held) (section : Option Section)
+without_kept : {key : Key} {places : Option (List ℕ)} {old new : List Content} (h : Held)
+    (section : Option Section)
     → Without key places old new → Stays key places section h old
     → Without key places (old ++ contents_in h section) (new ++ contents_in h section)
 without_kept (held.Entry parts) section w stays = spec.kept (content_of section parts) w stays
 without_kept h section w stays = simp append-nil w
 
-count_kept : (key : Key) (n : Count) (places : Option (List ℕ)) (old new : List Content) (h : Held) (section : Option Section)
+count_kept : (key : Key) (n : Count) (places : Option (List ℕ)) (old new : List Content) (h : Held)
+    (section : Option Section)
     → Counted key places old new n → Stays key places section h old
     → Counted key places (old ++ contents_in h section) (new ++ contents_in h section) n
 count_kept key count.None places old new h section (nothing, same) stays =
@@ -87,7 +89,8 @@ count_kept key count.Several None old new h section (before, between, after, a, 
 count_kept key n (Some places) old new h section counted stays = tt
 
 -- before the first header
-pub losing_begins : (key : Key) (places : Option (List ℕ)) (text : List ℕ) (g : Group) → g.head.items ≡ [] → g.body.items ≡ []
+pub losing_begins : (key : Key) (places : Option (List ℕ)) (text : List ℕ) (g : Group) → g.head.items ≡ []
+    → g.body.items ≡ []
     → g.line_end.now ≡ [] → g.in_head ≡ false → g.is_kept ≡ true
     → Losing key places text text [] None g count.None 0
 losing_begins key places text g head_is body_is end_is in_head is_kept =
@@ -111,7 +114,8 @@ losing_begins key places text g head_is body_is end_is in_head is_kept =
     }
 
 -- a section that is finished
-finished : {key : Key} {places : Option (List ℕ)} {text rest new put : List ℕ} {section : Option Section} {g : Group} {n : Count}
+finished : {key : Key} {places : Option (List ℕ)} {text rest new put : List ℕ} {section : Option Section}
+    {g : Group} {n : Count}
     {index : ℕ} (r : Losing key places text rest new section g n index) → IsFinished g put
     → (next : Option Section) × Passed r.base put r.now_group next rest
 finished {section = section} r (edit.whole either) = (section, r.group.passed)
@@ -121,11 +125,15 @@ finished {g = g} r (edit.without_head not_kept has_lost) =
     (r.base, rw nothing (holds_then g.line_end.now g.body.items ended (empty r.base)))
 
 -- the section after what is left of a piece
-grouped : {g now : Group} {piece : Piece} {now_before more : List Content} {put rest left : List ℕ} {base section : Option Section}
-    → IsGroup g now_before base section rest → rest ≢ [] → IsPushed g now piece put → Passed section put more section left
-    → (now.is_kept ≡ false → (g.is_kept ≡ false) × (more ≡ []) × ((any : Option Section) → Passed any put [] any left))
+grouped : {g now : Group} {piece : Piece} {now_before more : List Content} {put rest left : List ℕ}
+    {base section : Option Section}
+    → IsGroup g now_before base section rest → rest ≢ [] → IsPushed g now piece put
+    → Passed section put more section left
+    → (now.is_kept ≡ false → (g.is_kept ≡ false) × (more ≡ [])
+    × ((any : Option Section) → Passed any put [] any left))
     → IsGroup now (now_before ++ more) base section left
-grouped {g = g} {now = now} {piece = piece} group some (edit.to_head on off line head_now body_now end_now) also empty =
+grouped {g = g} {now = now} {piece = piece} group some
+    (edit.to_head on off line head_now body_now end_now) also empty =
     let none = group.alone on in
     let passed = passed_join some group.passed also in
     record {
@@ -154,10 +162,12 @@ blank_is_nothing held.Nothing blank = refl
 blank_is_nothing h blank = absurd (true≢false blank)
 
 -- one piece more
-module _ {key : Key} {places : Option (List ℕ)} {text rest new : List ℕ} {section : Option Section} {g : Group} {n : Count} {index : ℕ}
+module _ {key : Key} {places : Option (List ℕ)} {text rest new : List ℕ} {section : Option Section}
+    {g : Group} {n : Count} {index : ℕ}
     (r : Losing key places text rest new section g n index) {piece : Piece} (is : IsPiece rest piece)
     (shorter : length piece.rest.now < length rest) where
-  pub losing_header : {put : List ℕ} {is_below : Bool} (now : Group) (header : code.Section) → piece.held ≡ held.Header header
+  pub losing_header : {put : List ℕ} {is_below : Bool} (now : Group) (header : code.Section)
+      → piece.held ≡ held.Header header
       → IsFinished g put → IsBegun g now piece is_below
       → Losing key places text piece.rest.now (new ++ put) (Some (section_of header)) now n index
   losing_header {put = put} now header e done b =
@@ -187,7 +197,8 @@ module _ {key : Key} {places : Option (List ℕ)} {text rest new : List ℕ} {se
   losing_more : {put : List ℕ} {now : Group} {m : Count} {next : ℕ} (more : List Content)
       → next ≡ index + length (contents_in piece.held section) → section_after piece.held section ≡ section
       → IsPushed g now piece put → Passed section put more section piece.rest.now
-      → (now.is_kept ≡ false → (g.is_kept ≡ false) × (more ≡ []) × ((any : Option Section) → Passed any put [] any piece.rest.now))
+      → (now.is_kept ≡ false → (g.is_kept ≡ false) × (more ≡ [])
+      × ((any : Option Section) → Passed any put [] any piece.rest.now))
       → Without key places (r.old ++ contents_in piece.held section) ((r.now ++ r.now_group) ++ more)
       → Counted key places (r.old ++ contents_in piece.held section) ((r.now ++ r.now_group) ++ more) m
       → Losing key places text piece.rest.now new section now m next
@@ -235,13 +246,16 @@ module _ {key : Key} {places : Option (List ℕ)} {text rest new : List ℕ} {se
       (ap (λ h. section_after h section) e) pushed (anywhere (end_holds section put is_end))
       (λ not_kept. (sym kept_is ∙ not_kept, refl, λ any. anywhere (end_holds any put is_end)))
       (rw (e, append-nil (r.now ++ r.now_group)) (spec.lost x r.without is_of here_is))
-      (rw (e, append-nil (r.now ++ r.now_group)) (count_more key n places r.old (r.now ++ r.now_group) x r.counted is_of))
+      (rw (e, append-nil (r.now ++ r.now_group))
+      (count_more key n places r.old (r.now ++ r.now_group) x r.counted is_of))
 
 -- at the end of the text
 pub losing_ends : {key : Key} {places : Option (List ℕ)} {text rest new put : List ℕ} {contents : List Content}
     {section : Option Section} {g : Group} {index : ℕ} {is_below : Bool} (taken : Taken)
-    → Losing key places text rest new section g taken.count index → TakesParts key places text rest new section g index is_below
-    → Ends None text contents → (rest ≡ []) ⊎ (¬ (IsRead rest)) → IsFinished g put → taken.text.items ≡ new ++ put
+    → Losing key places text rest new section g taken.count index
+    → TakesParts key places text rest new section g index is_below
+    → Ends None text contents → (rest ≡ []) ⊎ (¬ (IsRead rest)) → IsFinished g put
+    → taken.text.items ≡ new ++ put
     → IsTaken key places text contents taken
 losing_ends {new = new} {put = put} taken r p whole left done text_now =
     let (rest_is, text_is, contents_are) = all_passed r.past.joined r.past.passed whole left in
@@ -264,10 +278,15 @@ nothing_in section (inl e) = rw e refl
 nothing_in section (inr e) = rw e refl
 
 -- a text with its mark, out of whose body entries are taken
-pub taken_made : {P : List Content → Type 0} {key : Key} {places : Option (List ℕ)} {text mark body edited : List ℕ}
+pub taken_made : {P : List Content
+    → Type 0} {key : Key} {places : Option (List ℕ)} {text mark body edited : List ℕ}
     {contents : List Content} {taken : Taken}
     → IsSplit text mark body → Ends None body contents → (t : IsTaken key places body contents taken) → P t.now
     → edited ≡ mark ++ taken.text.items
     → (now : List Content) × HasContents edited now × P now × IsTakenOut key places text edited
-taken_made {mark = mark} {body = body} {taken = taken} split ends t holds e =
-    (t.now, rw e (file_of split t.ends), holds, (mark, t.parts, taken.text.items, (body, split, t.cuts), t.takes, e))
+taken_made {mark = mark} {body = body} {taken = taken} split ends t holds e = (
+  t.now,
+  rw e (file_of split t.ends),
+  holds,
+  (mark, t.parts, taken.text.items, (body, split, t.cuts), t.takes, e),
+)

@@ -19,7 +19,8 @@ use Rattle.config_edit.proofs.PartsRead.{part_contents, contents_of, part_moved,
 use Rattle.config_edit.proofs.PartsRead.{some_bytes, header_held, header_in, found_before, found_here}
 
 -- parts and more parts
-renamed_both : {from to : Key} {a b : List Part} {x y : List ℕ} → RenamesParts from to a x → RenamesParts from to b y
+renamed_both : {from to : Key} {a b : List Part} {x y : List ℕ} → RenamesParts from to a x
+    → RenamesParts from to b y
     → RenamesParts from to (a ++ b) (x ++ y)
 renamed_both spec.none second = second
 renamed_both {to = to} (spec.renamed {new = new} blanks section inner is first) second =
@@ -28,7 +29,8 @@ renamed_both (spec.kept {new = new} part other first) second =
     rw append_assoc (spec.kept part other (renamed_both first second))
 
 pub renaming_begins : (from to : Key) (text : List ℕ) → Renaming from to text text [] false
-renaming_begins from to text = record { done = []; behind = behind_begins text; renames = spec.none; found = tt }
+renaming_begins from to text = record
+    { done = []; behind = behind_begins text; renames = spec.none; found = tt }
 
 header_part : (key : Key) (h : Held) (blanks bytes rest : List ℕ) (is_line : Bool) {part : Part}
     → IsPartOf h blanks bytes rest is_line part → IsHeaderHeld key h
@@ -37,9 +39,11 @@ header_part key (held.Header section) blanks bytes rest is_line (inner, is) h = 
 header_part key (held.Entry parts) blanks bytes rest is_line is h = absurd h
 header_part key other_held blanks bytes rest is_line is h = absurd h
 
-module _ {from to : Key} {text rest new : List ℕ} {is_found : Bool} (r : Renaming from to text rest new is_found)
+module _ {from to : Key} {text rest new : List ℕ} {is_found : Bool}
+    (r : Renaming from to text rest new is_found)
     (piece : Piece) (is : IsPiece rest piece) (shorter : length piece.rest.now < length rest) where
-  pub renaming_keeps : ¬ (IsHeaderHeld from piece.held) → Renaming from to text piece.rest.now (new ++ piece.bytes.now) is_found
+  pub renaming_keeps : ¬ (IsHeaderHeld from piece.held)
+      → Renaming from to text piece.rest.now (new ++ piece.bytes.now) is_found
   renaming_keeps other =
       let (part, bytes_are, is_part, held_is) = part_of piece (some_bytes piece is shorter) is in
       let not_in : ¬ (IsHeaderIn from part) = λ h. other (header_in from piece.held _ _ _ piece.is_line part held_is h) in
@@ -72,14 +76,17 @@ pub data Corresponds (from to : Key) : Option Section → Option Section → Typ
       → IsIn from old → SpellsSection new to.section to.subsection → Corresponds from to old (Some new)
   same : {section : Option Section} → ¬ (IsIn from section) → Corresponds from to section section
 
-renames_both : {from to : Key} (a b : List Content) {c d : List Content} → Renames from to a b → Renames from to c d
+renames_both : {from to : Key} (a b : List Content) {c d : List Content} → Renames from to a b
+    → Renames from to c d
     → Renames from to (a ++ c) (b ++ d)
 renames_both a b first spec.none = simp append-nil first
 renames_both a b first (spec.renamed x section later is names) =
     simp (← append_assoc) (spec.renamed x section (renames_both a b first later) is names)
-renames_both a b first (spec.kept x later other) = simp (← append_assoc) (spec.kept x (renames_both a b first later) other)
+renames_both a b first (spec.kept x later other) =
+    simp (← append_assoc) (spec.kept x (renames_both a b first later) other)
 
-kept_contents : {from to : Key} {old new : Option Section} (part : Part) → ¬ (IsHeaderIn from part) → Corresponds from to old new
+kept_contents : {from to : Key} {old new : Option Section} (part : Part) → ¬ (IsHeaderIn from part)
+    → Corresponds from to old new
     → Renames from to (part_contents old part) (part_contents new part)
     × Corresponds from to (section_behind old part) (section_behind new part)
 kept_contents (cut.header blanks section inner) other c = (spec.none, same other)
@@ -89,7 +96,8 @@ kept_contents {old = old} (cut.entry blanks key between value tail is_line) othe
     (spec.kept (old, key, value) spec.none outside, same outside)
 kept_contents (cut.line tail is_line) other c = (spec.none, c)
 
-renamed_nothing : {from to : Key} {parts : List Part} {new : List ℕ} → RenamesParts from to parts new → parts ≡ []
+renamed_nothing : {from to : Key} {parts : List Part} {new : List ℕ} → RenamesParts from to parts new
+    → parts ≡ []
     → new ≡ []
 renamed_nothing spec.none none = refl
 renamed_nothing (spec.renamed blanks section inner is h) none = cc
@@ -107,7 +115,8 @@ renamed_reads is (cut.begins first is_part cuts) (spec.renamed {new = new} blank
       rw put_is (cut.begins (cut.header blanks section_now inner_now) (is_part.0, header_now new) more),
       renames,
     )
-renamed_reads is (cut.begins {rest = rest} first is_part cuts) (spec.kept {new = new} part other h) {old = old} {now = now} c =
+renamed_reads is (cut.begins {rest = rest} first is_part cuts) (spec.kept {new = new} part other h)
+    {old = old} {now = now} c =
     let (contents, section) = kept_contents part other c in
     let (later, more, renames) = renamed_reads is cuts h section in
     let nothing : rest ≡ [] → new ≡ [] =
@@ -125,8 +134,10 @@ one_renaming {to = to} (spec.renamed blanks section inner is h) (spec.renamed ot
     let same : blanks ≡ others = cc in
     let more = one_renaming h k (cc) in
     rw (same, more) refl
-one_renaming (spec.renamed blanks section inner is h) (spec.kept part other k) e = let same : part ≡ cut.header blanks section inner = cc in absurd (other (rw same is))
-one_renaming (spec.kept part other h) (spec.renamed blanks section inner is k) e = let same : part ≡ cut.header blanks section inner = cc in absurd (other (rw same is))
+one_renaming (spec.renamed blanks section inner is h) (spec.kept part other k) e =
+    let same : part ≡ cut.header blanks section inner = cc in absurd (other (rw same is))
+one_renaming (spec.kept part other h) (spec.renamed blanks section inner is k) e =
+    let same : part ≡ cut.header blanks section inner = cc in absurd (other (rw same is))
 one_renaming (spec.kept part other h) (spec.kept also others k) e =
     let same : part ≡ also = cc in
     let more = one_renaming h k (cc) in

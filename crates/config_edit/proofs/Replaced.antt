@@ -18,9 +18,11 @@ use Rattle.config_edit.specs.Edit as spec
 use Rattle.config_edit.specs.Edit.{Content, content, IsIn, IsOf, IsEntryOf, Without, ReplacesPart, GivesValue}
 use Rattle.config_edit.specs.Edit.{HasNone, HasOne, HasSeveral, Replaces, HasValue, LeavesEnd}
 use Rattle.config_edit.specs.Cut as cut
-use Rattle.config_edit.specs.Cut.{value_bytes, Part, Cuts, EachBecomes, part_bytes, entries_in, ends_in_header, ends_line, section_from}
+use Rattle.config_edit.specs.Cut.{value_bytes, Part, Cuts, EachBecomes, part_bytes, entries_in}
+use Rattle.config_edit.specs.Cut.{ends_in_header, ends_line, section_from}
 use Rattle.config_edit.specs.Reached as reached
-use Rattle.config_edit.specs.Reading.{Holds, Ends, Passed, anywhere, at_end, IsMade, IsPiece, IsValued, IsShaped, holds_header}
+use Rattle.config_edit.specs.Reading.{Holds, Ends, Passed, anywhere, at_end, IsMade, IsPiece, IsValued}
+use Rattle.config_edit.specs.Reading.{IsShaped, holds_header}
 use Rattle.config_edit.specs.Reading.{contents_in, section_after, IsListable, IsPast, content_of, IsEntryHeld}
 use Rattle.config_edit.specs.Reading.{IsFound, Replacing, IsReplaced, IsLeft, IsCut, entry_part}
 use Rattle.config_edit.specs.Reading.{IsEnd}
@@ -32,7 +34,8 @@ use Rattle.config_edit.proofs.Pieces.{entry_passed, made_passed}
 use Rattle.config_edit.proofs.Edits.{holds_nothing, holds_join, holds_end, passed_holds, passed_join}
 use Rattle.config_edit.proofs.Edits.{passed_ends, ends_once, some_left, joined_more, header_listed}
 use Rattle.config_edit.proofs.Cuts.{IsPartOf}
-use Rattle.config_edit.proofs.CutLoops.{CutMore, cut_begins, cut_step, stay_more, none_stay, entry_held, entries_join}
+use Rattle.config_edit.proofs.CutLoops.{CutMore, cut_begins, cut_step, stay_more, none_stay, entry_held}
+use Rattle.config_edit.proofs.CutLoops.{entries_join}
 
 -- texts one after the other
 pub holds_then : {section middle next : Option Section} {rest : List ℕ} (a b : List ℕ) {xs ys : List Content}
@@ -80,7 +83,8 @@ has_key entry key (is_in, same) =
     record { section = section; in_section = e; stem_listed = listed; same_name = same }
 
 -- contents without those of a key
-pub without_both : {key : Key} (a b : List Content) {c d : List Content} → Without key None a b → Without key None c d
+pub without_both : {key : Key} (a b : List Content) {c d : List Content} → Without key None a b
+    → Without key None c d
     → Without key None (a ++ c) (b ++ d)
 without_both a b first spec.none = simp append-nil first
 without_both a b first (spec.lost x {old = old} second is at) =
@@ -119,7 +123,8 @@ pub past_more : {text rest front : List ℕ} {contents : List Content} {section 
     (piece : Piece)
     → IsPast text rest front contents section → IsPiece rest piece
     → length piece.rest.now < length rest
-    → IsPast text piece.rest.now (front ++ piece.bytes.now) (contents ++ contents_in piece.held section) (section_after piece.held section)
+    → IsPast text piece.rest.now (front ++ piece.bytes.now) (contents ++ contents_in piece.held section)
+    (section_after piece.held section)
 past_more {text = text} {rest = rest} {front = front} {section = section} piece past is shorter =
     record {
       joined = joined_more text front rest piece.bytes.now piece.rest.now past.joined is.joined;
@@ -132,13 +137,26 @@ pub replacing_begins : (key : Key) (text : List ℕ) → Replacing key text text
 replacing_begins key text =
     ([], [], [], past_begins text, spec.none, refl, refl, refl, cut_begins text, none_stay key [], refl)
 
-pub replacing_passes : (key : Key) (text rest start new : List ℕ) (section : Option Section) (several in_line : Bool)
+pub replacing_passes : (key : Key) (text rest start new : List ℕ) (section : Option Section)
+    (several in_line : Bool)
     (found : Option Found) (piece : Piece)
     → Replacing key text rest start new section found several in_line → IsPiece rest piece
     → length piece.rest.now < length rest → ¬ (IsEntryHeld key section piece.held)
-    → Replacing key text piece.rest.now start new (section_after piece.held section) found several (holds_header piece.held)
-replacing_passes key text rest start new section several in_line None piece
-    (front, contents, parts, past, nothing, start_is, new_is, several_is, cuts, stays, in_line_is) is shorter other =
+    → Replacing key text piece.rest.now start new (section_after piece.held section) found several
+    (holds_header piece.held)
+replacing_passes key text rest start new section several in_line None piece (
+  front,
+  contents,
+  parts,
+  past,
+  nothing,
+  start_is,
+  new_is,
+  several_is,
+  cuts,
+  stays,
+  in_line_is,
+) is shorter other =
     let m = cut_step piece cuts is shorter in
     let more = contents_in piece.held section in
     let stay = stay_more parts m.part stays (λ of. other (entry_held piece.held piece.blanks.now piece.bytes.now piece.rest.now piece.is_line m.part key parts m.is_of cuts.section_is of)) in (
@@ -154,7 +172,10 @@ replacing_passes key text rest start new section several in_line None piece
       rw m.part_is at stay,
       m.in_header,
     )
-replacing_passes key text rest start new section several in_line (Some f) piece (r, in_line_is) is shorter other =
+replacing_passes key text rest start new section several in_line (Some f) piece (
+  r,
+  in_line_is,
+) is shorter other =
     let first = r.parts ++ entry_part f.piece f.parts r.inner r.tail ∷ [] in
     let m = cut_step piece r.cuts is shorter in
     let more = contents_in piece.held section in
@@ -162,7 +183,8 @@ replacing_passes key text rest start new section several in_line (Some f) piece 
     let stay = stay_more r.later m.part r.stays (λ of. other (entry_held piece.held piece.blanks.now piece.bytes.now piece.rest.now piece.is_line m.part key (first ++ r.later) m.is_of r.cuts.section_is of)) in
     let joined = append_assoc first r.later (m.part ∷ []) in
     let count : length (r.before ++ x ∷ r.after) + length more ≡ length (r.before ++ x ∷ (r.after ++ more)) =
-    sym (length-append (r.before ++ x ∷ r.after) more) ∙ ap (λ l. length l) (append_assoc r.before (x ∷ r.after) more) in
+    sym (length-append (r.before ++ x ∷ r.after) more)
+    ∙ ap (λ l. length l) (append_assoc r.before (x ∷ r.after) more) in
     let next : IsFound key text piece.rest.now start new (section_after piece.held section) f several =
     record {
       front = r.front;
@@ -220,7 +242,19 @@ found_past {rest = rest} {f = f} r =
 pub looked_past : (key : Key) (text rest start new : List ℕ) (section : Option Section) (several in_line : Bool)
     (found : Option Found) → Replacing key text rest start new section found several in_line
     → (front : List ℕ) × (contents : List Content) × IsPast text rest front contents section
-looked_past key text rest start new section several in_line None (front, contents, parts, past, n, s, e, o, c, t, i) =
+looked_past key text rest start new section several in_line None (
+  front,
+  contents,
+  parts,
+  past,
+  n,
+  s,
+  e,
+  o,
+  c,
+  t,
+  i,
+) =
     (front, contents, past)
 looked_past key text rest start new section several in_line (Some f) (r, in_line_is) = (_, _, found_past r)
 
@@ -246,34 +280,53 @@ some_raw {raw = Some bytes} has = (bytes, refl, has)
 
 pub part_entry : {h : Held} {parts : EntryParts} {part : Part} (piece : Piece)
     → IsPartOf h piece.blanks.now piece.bytes.now piece.rest.now piece.is_line part → h ≡ held.Entry parts
-    → (inner tail : List ℕ) × (part ≡ entry_part piece parts inner tail) × (parts.rest.now ≡ tail ++ piece.rest.now)
+    → (inner tail : List ℕ) × (part ≡ entry_part piece parts inner tail)
+    × (parts.rest.now ≡ tail ++ piece.rest.now)
 part_entry piece is e = rw e at is
 
-found_cut : {text : List ℕ} {section : Option Section} {before : List Part} {piece : Piece} {parts : EntryParts} {part : Part}
+found_cut : {text : List ℕ} {section : Option Section} {before : List Part} {piece : Piece}
+    {parts : EntryParts} {part : Part}
     (old : List Content) (x : Content) (m : CutMore text section (length old) before piece) → m.part ≡ part
-    → piece.held ≡ held.Entry parts → IsCut text piece.rest.now section (length (old ++ x ∷ [])) ((before ++ part ∷ []) ++ [])
+    → piece.held ≡ held.Entry parts
+    → IsCut text piece.rest.now section (length (old ++ x ∷ [])) ((before ++ part ∷ []) ++ [])
 found_cut {section = section} {before = before} {piece = piece} {part = part} old x m part_is e =
     rw (append-nil (before ++ part ∷ []), length-append old (x ∷ []), ← part_is)
     (rw e at m.cut)
 
 -- one entry of the key more
 is_entry_of : {at : Option Section} (key : Key) (before : List Part) (f : Found) (inner tail : List ℕ)
-    → section_from None before ≡ at → IsOf key (content_of at f.parts) → IsEntryOf key before (entry_part f.piece f.parts inner tail)
+    → section_from None before ≡ at → IsOf key (content_of at f.parts)
+    → IsEntryOf key before (entry_part f.piece f.parts inner tail)
 is_entry_of key before f inner tail same of = rw same of
 
-left_end : {bytes : List ℕ} {in_line : Bool} (f : Found) (left : List ℕ) → LeavesEnd f.in_line f.piece.bytes.now f.piece.is_line left
+left_end : {bytes : List ℕ} {in_line : Bool} (f : Found) (left : List ℕ)
+    → LeavesEnd f.in_line f.piece.bytes.now f.piece.is_line left
     → f.in_line ≡ in_line → bytes ≡ f.piece.bytes.now → LeavesEnd in_line bytes f.piece.is_line left
 left_end f left leaves same bytes_are = rw (same, ← bytes_are) at leaves
 
-pub replacing_finds : (key : Key) (text rest start new : List ℕ) (section : Option Section) (several in_line : Bool)
+pub replacing_finds : (key : Key) (text rest start new : List ℕ) (section : Option Section)
+    (several in_line : Bool)
     (found : Option Found) (f : Found) (left between : List ℕ)
-    → Replacing key text rest start new section found several in_line → f.in_line ≡ in_line → IsPiece rest f.piece
+    → Replacing key text rest start new section found several in_line → f.in_line ≡ in_line
+    → IsPiece rest f.piece
     → length f.piece.rest.now < length rest → f.piece.held ≡ held.Entry f.parts
     → IsOf key (content_of section f.parts) → IsLeft found left → start ≡ between ++ rest
-    → Replacing key text f.piece.rest.now f.piece.rest.now (new ++ (left ++ between)) section (Some f) (is_some found)
+    → Replacing key text f.piece.rest.now f.piece.rest.now (new ++ (left ++ between)) section (Some f)
+    (is_some found)
     (holds_header f.piece.held)
-replacing_finds key text rest start new section several in_line None f left between
-    (front, contents, parts, past, nothing, start_is, new_is, several_is, cuts, stays, in_line_is) f_line is shorter e is_of left_is joined =
+replacing_finds key text rest start new section several in_line None f left between (
+  front,
+  contents,
+  parts,
+  past,
+  nothing,
+  start_is,
+  new_is,
+  several_is,
+  cuts,
+  stays,
+  in_line_is,
+) f_line is shorter e is_of left_is joined =
     let between_is : between ≡ front =
     append_cancel_right between front rest (sym joined ∙ start_is ∙ past.joined) in
     let holds = passed_holds (some_left rest f.piece.rest.now shorter) past.passed in
@@ -315,9 +368,15 @@ replacing_finds key text rest start new section several in_line None f left betw
       single = λ one. refl;
       many = λ yes. absurd (true≢false (sym yes));
     } in
-    rw (new_is, left_is, between_is)
-    (begun, m.in_header ∙ ap (λ p. ends_in_header p) (ap (λ p. parts ++ p ∷ []) part_is ∙ sym (append-nil (parts ++ part ∷ []))))
-replacing_finds key text rest start new section several in_line (Some g) f left between (r, in_line_is) f_line is shorter e is_of
+    rw (new_is, left_is, between_is) (
+      begun,
+      m.in_header ∙ ap (λ p. ends_in_header p) (ap (λ p. parts ++ p ∷ []) part_is
+          ∙ sym (append-nil (parts ++ part ∷ []))),
+    )
+replacing_finds key text rest start new section several in_line (Some g) f left between (
+  r,
+  in_line_is,
+) f_line is shorter e is_of
     leaves joined =
     let some = some_left rest f.piece.rest.now shorter in
     let x = content_of r.at g.parts in
@@ -353,7 +412,8 @@ replacing_finds key text rest start new section several in_line (Some g) f left 
       cut = refl;
       before_is = passed_holds some (found_past r).passed;
       now_is = holds_join new (left ++ r.between) r.now_is
-          (holds_join left r.between (end_holds r.at left (left_is_end g.in_line g.piece.bytes.now left g.piece.is_line leaves)) gap);
+          (holds_join left r.between (end_holds r.at left
+          (left_is_end g.in_line g.piece.bytes.now left g.piece.is_line leaves)) gap);
       blank = is.blank;
       is_entry = rw e at is.made;
       is_of = is_of;
@@ -377,19 +437,36 @@ replacing_finds key text rest start new section several in_line (Some g) f left 
       single = λ one. absurd (true≢false one);
       many = λ m. (r.before, r.after, [], x, y, append_assoc r.before (x ∷ r.after) (y ∷ []), r.is_of, is_of);
     } in
-    rw between_is
-    (found, m.in_header ∙ ap (λ p. ends_in_header p) (ap (λ p. parts ++ p ∷ []) part_is ∙ sym (append-nil (parts ++ part ∷ []))))
+    rw between_is (
+      found,
+      m.in_header ∙ ap (λ p. ends_in_header p) (ap (λ p. parts ++ p ∷ []) part_is
+          ∙ sym (append-nil (parts ++ part ∷ []))),
+    )
 
 -- at the end of the text
-pub none_replaced : (key : Key) (text rest start new : List ℕ) (section : Option Section) (several in_line : Bool)
+pub none_replaced : (key : Key) (text rest start new : List ℕ) (section : Option Section)
+    (several in_line : Bool)
     → Replacing key text rest start new section None several in_line → rest ≡ []
     → (contents : List Content) × Ends None text contents × HasNone key contents
-none_replaced key text rest start new section several in_line (front, contents, parts, past, nothing, s, e, o, c, t, i) none =
+none_replaced key text rest start new section several in_line (
+  front,
+  contents,
+  parts,
+  past,
+  nothing,
+  s,
+  e,
+  o,
+  c,
+  t,
+  i,
+) none =
     let text_is = rw (none, append-nil) at past.joined in
     (contents, rw text_is (passed_ends none past.passed), nothing)
 
 -- the entry of a piece gets the value
-gives_of : {value put : List ℕ} {piece : Piece} {parts : EntryParts} (s : IsShaped parts.key.now (Some value) parts piece put)
+gives_of : {value put : List ℕ} {piece : Piece} {parts : EntryParts}
+    (s : IsShaped parts.key.now (Some value) parts piece put)
     (inner tail : List ℕ)
     → parts.rest.now ≡ tail ++ piece.rest.now → part_bytes (entry_part piece parts inner tail) ≡ piece.bytes.now
     → GivesValue value (entry_part piece parts inner tail) put
@@ -401,7 +478,8 @@ pub one_replaced : {key : Key} {text rest start new value put : List ℕ}
     {section : Option Section} {several in_line : Bool} {f : Found}
     → Replacing key text rest start new section (Some f) several in_line
     → rest ≡ [] → IsValued (Some value) f.parts f.piece put
-    → (contents : List Content) × Ends None text contents × IsReplaced key value text contents (new ++ (put ++ start)) several
+    → (contents : List Content) × Ends None text contents
+    × IsReplaced key value text contents (new ++ (put ++ start)) several
 one_replaced {key = key} {text = text} {start = start} {new = new} {value = value} {put = put}
     {section = section} {f = f} (found, in_line_is) rest_is set =
     let r = rw rest_is at found in

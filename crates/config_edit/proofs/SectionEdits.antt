@@ -13,7 +13,8 @@ use Rattle.config_file.proofs.Commands.{never_without_header}
 use Rattle.config_file.proofs.SpelledHeaders.{header_spelled}
 use Rattle.config_edit.specs.Edit.{content}
 use Rattle.config_edit.specs.Cut.{Part, Cuts, IsSplit}
-use Rattle.config_edit.specs.Sections.{IsHeaderIn, NoneIs, RenamesParts, Clears, NamesSection, RenamesSection, RemovesSection}
+use Rattle.config_edit.specs.Sections.{IsHeaderIn, NoneIs, RenamesParts, Clears, NamesSection, RenamesSection}
+use Rattle.config_edit.specs.Sections.{RemovesSection}
 use Rattle.config_edit.specs.Sections.{LacksSection, LacksHeader, RefusesRenaming, RefusesRemoval}
 use Rattle.config_edit.specs.Reading.{RefusesName, RefusesText}
 use Rattle.config_edit.proofs.Edits.{file_of, text_of}
@@ -28,18 +29,30 @@ no_file_renamed old new text (error.File e) has refused = (has, refused)
 no_file_renamed old new text e has refused = absurd refused
 
 -- a section that has its name already
-pub same_name : {text mark body old_name new_name edited : List ℕ} {parts : List Part} (from : Key) → IsSplit text mark body
+pub same_name : {text mark body old_name new_name edited : List ℕ} {parts : List Part} (from : Key)
+    → IsSplit text mark body
     → NamesSection old_name from → Cuts body parts → ¬ (NoneIs (IsHeaderIn from) parts)
     → old_name ≡ new_name → edited ≡ text → RenamesSection old_name new_name text edited
-same_name {mark = mark} {body = body} {parts = parts} from split names cuts found equal edited_is =
-    (from, names, contents_of None parts, text_of split (cuts_end cuts None), mark, parts, (body, split, cuts), found, inl (equal, edited_is))
+same_name {mark = mark} {body = body} {parts = parts} from split names cuts found equal edited_is = (
+  from,
+  names,
+  contents_of None parts,
+  text_of split (cuts_end cuts None),
+  mark,
+  parts,
+  (body, split, cuts),
+  found,
+  inl (equal, edited_is),
+)
 
 -- a section that gets another name
-pub section_renamed : {text mark body new old_name new_name edited : List ℕ} {parts : List Part} (from to : Key) → IsSplit text mark body
+pub section_renamed : {text mark body new old_name new_name edited : List ℕ} {parts : List Part}
+    (from to : Key) → IsSplit text mark body
     → NamesSection old_name from → NamesSection new_name to → is_section to.section to.subsection ≡ true
     → Cuts body parts → ¬ (NoneIs (IsHeaderIn from) parts) → RenamesParts from to parts new
     → old_name ≢ new_name → edited ≡ mark ++ new → RenamesSection old_name new_name text edited
-section_renamed {mark = mark} {body = body} {new = new} {parts = parts} from to split names names_now is cuts found renames differ edited_is =
+section_renamed {mark = mark} {body = body} {new = new}
+    {parts = parts} from to split names names_now is cuts found renames differ edited_is =
     let (later, more, contents) = renamed_reads (header_spelled to.section to.subsection is) cuts renames {old = None} {now = None} (same (λ none. none)) in
     rw edited_is (
       from,
@@ -50,14 +63,26 @@ section_renamed {mark = mark} {body = body} {new = new} {parts = parts} from to 
       parts,
       (body, split, cuts),
       found,
-      inr (differ, to, names_now, contents_of None later, file_of split (cuts_end more None), contents, new, renames, refl),
+      inr (
+        differ,
+        to,
+        names_now,
+        contents_of None later,
+        file_of split (cuts_end more None),
+        contents,
+        new,
+        renames,
+        refl,
+      ),
     )
 
 -- a section that is left out
-pub section_removed : {text mark body new edited : List ℕ} {parts : List Part} (name : List ℕ) (key : Key) → IsSplit text mark body
+pub section_removed : {text mark body new edited : List ℕ} {parts : List Part} (name : List ℕ) (key : Key)
+    → IsSplit text mark body
     → NamesSection name key → Cuts body parts → ¬ (NoneIs (IsHeaderIn key) parts) → Clears key false parts new
     → edited ≡ mark ++ new → RemovesSection name text edited
-section_removed {mark = mark} {body = body} {new = new} {parts = parts} name key split names cuts found clears edited_is =
+section_removed {mark = mark} {body = body} {new = new}
+    {parts = parts} name key split names cuts found clears edited_is =
     let (later, more, none, without) = cleared_reads cuts clears None None (inr (refl, λ is. is)) in
     rw edited_is (
       key,
@@ -106,6 +131,7 @@ lacks_header name error.Section text_is (other, is, lacking) = λ key names.
     (cut_same is.cut (subst (λ t. IsKey t key) (sym text_is) names).cut) lacking
 lacks_header name e text_is refused = absurd refused
 
-pub has_header : (name : List ℕ) (key : Key) → NamesSection name key → is_section key.section key.subsection ≡ true
+pub has_header : (name : List ℕ) (key : Key) → NamesSection name key
+    → is_section key.section key.subsection ≡ true
     → ¬ (LacksHeader name)
 has_header name key names is lacking = never_without_header key.section key.subsection is (lacking key names)

@@ -9,10 +9,12 @@ use Rattle.config_edit.specs.Edit as edit
 use Rattle.config_edit.specs.Cut as cut
 use Rattle.config_edit.specs.Cut.{Part, Cuts}
 use Rattle.config_edit.specs.Sections as spec
-use Rattle.config_edit.specs.Sections.{NamesSection, IsHeaderIn, LacksSection, RenamesSection, RemovesSection, Clears, LastEnd}
+use Rattle.config_edit.specs.Sections.{NamesSection, IsHeaderIn, LacksSection, RenamesSection, RemovesSection}
+use Rattle.config_edit.specs.Sections.{Clears, LastEnd}
 use Rattle.config_edit.specs.Sections.{BeginsWithHeader, EndsInComments}
 use Rattle.config_edit.proofs.Cuts.{no_part}
-use Rattle.config_edit.proofs.Literals.{at_comment, at_end, at_entry, at_top, end, feed_end, feed_tail, not_in, plain_is, plain_key, top, valued}
+use Rattle.config_edit.proofs.Literals.{at_comment, at_end, at_entry, at_top, end, feed_end, feed_tail}
+use Rattle.config_edit.proofs.Literals.{not_in, plain_is, plain_key, top, valued}
 use Rattle.config_edit.proofs.OnePart.{parts_once}
 use Rattle.config_edit.proofs.SectionLaws.{renamed_is, removed_is}
 
@@ -59,9 +61,11 @@ at_a : {rest : List ℕ} {parts : List Part} → Cuts rest parts → Cuts (codes
 at_a cuts = at_letter 97 refl cuts
 
 at_k1 : {rest : List ℕ} {parts : List Part} → Cuts rest parts → Cuts (codes "k=1\n" ++ rest) (k1 ∷ parts)
-at_k1 cuts = at_entry [] 107 [] [] (codes "1") (codes "\n") refl refl refl refl refl (inl refl) (feed_tail _) cuts
+at_k1 cuts = at_entry [] 107 [] [] (codes "1") (codes "\n") refl refl refl refl refl (inl refl)
+    (feed_tail _) cuts
 
-unmarked : {text : List ℕ} {parts : List Part} → Cuts text parts → files.after_mark text ≡ None → cut.HasParts text [] parts
+unmarked : {text : List ℕ} {parts : List Part} → Cuts text parts → files.after_mark text ≡ None
+    → cut.HasParts text [] parts
 unmarked {text = text} cuts none = (text, cut.unmarked none, cuts)
 
 in_a : IsHeaderIn a (header_of 97)
@@ -91,22 +95,27 @@ a_is_not_b rest e = let never : ◌≡◌ {A = ℕ} 97 98 = ap (λ l. get_or l 0
 pub in_comment : (new : List ℕ) → RenamesSection (codes "a") (codes "b") (codes "#[a]\n[a]\nk=1\n") new
     → new ≡ codes "#[a]\n[b]\nk=1\n"
 in_comment new =
-    renamed_is {new = new} a b a_is b_is (a_is_not_b []) (unmarked (at_comment [] 35 (codes "[a]") refl refl refl (at_a (at_end (at_k1 cut.ends)))) refl)
+    renamed_is {new = new} a b a_is b_is (a_is_not_b [])
+    (unmarked (at_comment [] 35 (codes "[a]") refl refl refl (at_a (at_end (at_k1 cut.ends)))) refl)
     (spec.kept comment (λ h. h) (spec.renamed [] (codes "a", None) (codes "a]") in_a
     (spec.kept end (λ h. h) (spec.kept k1 (λ h. h) spec.none))))
 
 pub both_renamed : (new : List ℕ) → RenamesSection (codes "a") (codes "b") (codes "[a]\n[a]\nk=1\n") new
     → new ≡ codes "[b]\n[b]\nk=1\n"
 both_renamed new =
-    renamed_is {new = new} a b a_is b_is (a_is_not_b []) (unmarked (at_a (at_end (at_a (at_end (at_k1 cut.ends))))) refl)
+    renamed_is {new = new} a b a_is b_is (a_is_not_b [])
+    (unmarked (at_a (at_end (at_a (at_end (at_k1 cut.ends))))) refl)
     (spec.renamed [] (codes "a", None) (codes "a]") in_a (spec.kept end (λ h. h)
-    (spec.renamed [] (codes "a", None) (codes "a]") in_a (spec.kept end (λ h. h) (spec.kept k1 (λ h. h) spec.none)))))
+    (spec.renamed [] (codes "a", None) (codes "a]") in_a
+    (spec.kept end (λ h. h) (spec.kept k1 (λ h. h) spec.none)))))
 
 pub with_subsection : (new : List ℕ) → RenamesSection (codes "a") (codes "b.C") (codes "[a]\nk=1\n") new
     → new ≡ codes "[b \"C\"]\nk=1\n"
 with_subsection new =
-    renamed_is {new = new} a bC a_is bC_is (a_is_not_b (codes ".C")) (unmarked (at_a (at_end (at_k1 cut.ends))) refl)
-    (spec.renamed [] (codes "a", None) (codes "a]") in_a (spec.kept end (λ h. h) (spec.kept k1 (λ h. h) spec.none)))
+    renamed_is {new = new} a bC a_is bC_is (a_is_not_b (codes ".C"))
+    (unmarked (at_a (at_end (at_k1 cut.ends))) refl)
+    (spec.renamed [] (codes "a", None) (codes "a]") in_a
+    (spec.kept end (λ h. h) (spec.kept k1 (λ h. h) spec.none)))
 
 -- the section of `a` goes, with its lines
 no_comments : EndsInComments (end ∷ []) []
@@ -125,12 +134,15 @@ a_goes begins c =
 pub both_removed : (new : List ℕ) → RemovesSection (codes "a") (codes "[a]\n[a]\nk=1\n") new → new ≡ []
 both_removed new =
     removed_is (codes "a") {new = new} a a_is (unmarked (at_a (at_end (at_a (at_end (at_k1 cut.ends))))) refl)
-    (a_goes refl (spec.lost {next = []} (header_of 97) (end ∷ k1 ∷ []) [] in_a refl (inr (refl, refl)) ends_at_k1
+    (a_goes refl (spec.lost {next = []} (header_of 97) (end ∷ k1 ∷ []) [] in_a refl
+    (inr (refl, refl)) ends_at_k1
     spec.none))
 
-pub between_removed : (new : List ℕ) → RemovesSection (codes "a") (codes "[b]\n[a]\n[c]\n") new → new ≡ codes "[b]\n[c]\n"
+pub between_removed : (new : List ℕ) → RemovesSection (codes "a") (codes "[b]\n[a]\n[c]\n") new
+    → new ≡ codes "[b]\n[c]\n"
 between_removed new =
-    removed_is (codes "a") {new = new} a a_is (unmarked (at_letter 98 refl (at_end (at_a (at_end (at_letter 99 refl (at_end cut.ends)))))) refl)
+    removed_is (codes "a") {new = new} a a_is
+    (unmarked (at_letter 98 refl (at_end (at_a (at_end (at_letter 99 refl (at_end cut.ends)))))) refl)
     (spec.kept (header_of 98) not_b (spec.kept end (λ h. h) (a_goes refl
     (spec.kept (header_of 99) not_c (spec.kept end (λ h. h) spec.none)))))
 

@@ -3,9 +3,11 @@
 -- Look for (here and in Unset): each byte of a text is in one part, and each part of it becomes bytes that
 -- are determined. `Goes`: the place of an entry is the number of those before it. `IsEmptied`: an entry
 -- goes, and only blank lines are left. `IsBelowComment`: only blank lines are between.
-use Rattle.std.specs.Prelude.{◌≡◌, ◌≢◌, ℕ, ◌+◌, Bool, true, false, not, List, [], ◌∷◌, ◌++◌, Option, Some, None, ◌⊎◌}
+use Rattle.std.specs.Prelude.{◌≡◌, ◌≢◌, ℕ, ◌+◌, Bool, true, false, not, List, [], ◌∷◌, ◌++◌, Option, Some}
+use Rattle.std.specs.Prelude.{None, ◌⊎◌}
 use Rattle.std.specs.List.{list_all}
-use Rattle.config_file.specs.Bytes.{line_feed, left_bracket, is_blank, is_comment_sign, is_comment_byte, BeginsWithLetter}
+use Rattle.config_file.specs.Bytes.{line_feed, left_bracket, is_blank, is_comment_sign, is_comment_byte}
+use Rattle.config_file.specs.Bytes.{BeginsWithLetter}
 use Rattle.config_file.specs.Header.{Section, Header}
 use Rattle.config_file.specs.File.{TakesEntry, after_mark}
 
@@ -14,7 +16,8 @@ abbrev pub value_bytes : Option (List ℕ) → List ℕ
 value_bytes None = []
 value_bytes (Some raw) = raw
 
--- A header, behind blanks; an entry, behind blanks, with what is between its key and its value, and what is left of its
+-- A header, behind blanks; an entry, behind blanks, with what is between its key and its value, and what is
+-- left of its
 -- line; or what is left of a line, which may be all of it. A line without a line end ends the text.
 pub data Part : Type 0 where
   header : (blanks : List ℕ) (section : Section) (inner : List ℕ) → Part
@@ -24,7 +27,8 @@ pub data Part : Type 0 where
 -- the bytes of a part, in their order
 abbrev pub part_bytes : Part → List ℕ
 part_bytes (header blanks section inner) = blanks ++ left_bracket ∷ inner
-part_bytes (entry blanks key between value tail is_line) = blanks ++ ((key ++ (between ++ value_bytes value)) ++ tail)
+part_bytes (entry blanks key between value tail is_line) =
+    blanks ++ ((key ++ (between ++ value_bytes value)) ++ tail)
 part_bytes (line tail is_line) = tail
 
 abbrev pub AreBlank : List ℕ → Type 0
@@ -49,8 +53,10 @@ pub record IsTail (tail rest : List ℕ) (is_line : Bool) : Type 0 where
 -- before this rest, the bytes of the part are what it says
 abbrev pub IsPart : Part → List ℕ → Type 0
 IsPart (header blanks section inner) rest = AreBlank blanks × Header (inner ++ rest) section rest
-IsPart (entry blanks key between value tail is_line) rest = AreBlank blanks × BeginsWithLetter (key ++ (between ++ value_bytes value))
-    × ((lines : ℕ) × TakesEntry ((key ++ (between ++ value_bytes value)) ++ (tail ++ rest)) key value lines (tail ++ rest))
+IsPart (entry blanks key between value tail is_line) rest =
+    AreBlank blanks × BeginsWithLetter (key ++ (between ++ value_bytes value))
+    × ((lines : ℕ) × TakesEntry ((key ++ (between ++ value_bytes value)) ++ (tail ++ rest)) key value lines
+    (tail ++ rest))
     × IsTail tail rest is_line
 IsPart (line tail is_line) rest = (tail ≢ []) × IsTail tail rest is_line
 

@@ -20,7 +20,8 @@ use Rattle.config_file.specs.Value.{Ending, SpellsValue, outside, at_backslash}
 use Rattle.config_file.specs.Spelling.{IsGitHeader, IsGitSpelling, HasNoHeader, LacksSpelling}
 use Rattle.config_file.specs.File.{Entry, TakesEntry, Begins, IsFile}
 use Rattle.config_edit.specs.Cut as cut
-use Rattle.config_edit.specs.Cut.{AreBlank, IsTail, value_bytes, Part, HasParts, BecomesParts, part_bytes, parts_bytes}
+use Rattle.config_edit.specs.Cut.{AreBlank, IsTail, value_bytes, Part, HasParts, BecomesParts, part_bytes}
+use Rattle.config_edit.specs.Cut.{parts_bytes}
 use Rattle.config_edit.specs.Cut.{section_after, ends_line, ends_in_header, entries_in}
 use Rattle.config_file.specs.Bytes.{BeginsWithLetter}
 use Rattle.config_file.specs.Listing.{IsListedSection}
@@ -131,7 +132,8 @@ abbrev pub IsCore : List ℕ → Type 0
 IsCore bytes = (bytes ≢ []) × ((b : ℕ) (more : List ℕ) → bytes ≡ b ∷ more → is_blank b ≡ false)
     × ((more : List ℕ) (b : ℕ) → bytes ≡ more ++ b ∷ [] → is_blank b ≡ false)
 
--- The blanks before a first value and those behind it: one comes before it, if there is one. A CR alone comes behind it, since
+-- The blanks before a first value and those behind it: one comes before it, if there is one. A CR alone comes
+-- behind it, since
 -- it belongs to the line end.
 pub data PartsBlanks : List ℕ → List ℕ → Type 0 where
   none : PartsBlanks [] []
@@ -142,9 +144,12 @@ pub data PartsBlanks : List ℕ → List ℕ → Type 0 where
 abbrev pub BeginsWithSign : List ℕ → Type 0
 BeginsWithSign bytes = (sign : ℕ) × (more : List ℕ) × (bytes ≡ sign ∷ more) × (is_comment_sign sign ≡ true)
 
--- The bytes of a value, between these bytes behind the key and what is left of the line, become those of another one: blanks
--- around it stay. If the old one has only blanks, all of them stay: a space is put before the value if it would touch an `=`
--- behind blanks, and one behind it if it would touch a comment. Behind a key alone comes ` = value`, or `= value` if blanks are there.
+-- The bytes of a value, between these bytes behind the key and what is left of the line, become those of
+-- another one: blanks
+-- around it stay. If the old one has only blanks, all of them stay: a space is put before the value if it
+-- would touch an `=`
+-- behind blanks, and one behind it if it would touch a comment. Behind a key alone comes ` = value`, or `=
+-- value` if blanks are there.
 pub data PutsValue (value between tail : List ℕ) : Option (List ℕ) → List ℕ → Type 0 where
   in_place : {core spelling : List ℕ} (lead trail : List ℕ)
       → AreBlank lead → IsCore core → AreBlank trail → IsGitSpelling spelling value
@@ -161,17 +166,20 @@ pub data PutsValue (value between tail : List ℕ) : Option (List ℕ) → List 
 -- the bytes of a value become those of this one, or stay if they spell it
 abbrev pub ChangesValueTo : List ℕ → List ℕ → List ℕ → Option (List ℕ) → List ℕ → Type 0
 ChangesValueTo value between tail was bytes =
-    (HasValue was value × (bytes ≡ value_bytes was)) ⊎ (¬ (HasValue was value) × PutsValue value between tail was bytes)
+    (HasValue was value × (bytes ≡ value_bytes was))
+    ⊎ (¬ (HasValue was value) × PutsValue value between tail was bytes)
 
 -- an entry gets this value, and its other bytes stay
 abbrev pub GivesValue : List ℕ → Part → List ℕ → Type 0
 GivesValue value (cut.entry blanks key between was tail is_line) put =
-    (bytes : List ℕ) × ChangesValueTo value between tail was bytes × (put ≡ blanks ++ ((key ++ (between ++ bytes)) ++ tail))
+    (bytes : List ℕ) × ChangesValueTo value between tail was bytes
+    × (put ≡ blanks ++ ((key ++ (between ++ bytes)) ++ tail))
 GivesValue value _ put = ⊥
 
 -- behind these parts, the part is an entry of the key
 abbrev pub IsEntryOf : Key → List Part → Part → Type 0
-IsEntryOf key before (cut.entry blanks name between value tail is_line) = IsOf key (section_after before, name, value)
+IsEntryOf key before (cut.entry blanks name between value tail is_line) =
+    IsOf key (section_after before, name, value)
 IsEntryOf key before _ = ⊥
 
 -- the line end of these bytes: CR LF if they have it, and nothing if none ends their line
@@ -193,11 +201,14 @@ abbrev pub LeavesEnd : Bool → List ℕ → Bool → List ℕ → Type 0
 LeavesEnd true bytes is_line put = IsEndOfLine bytes is_line put
 LeavesEnd false bytes is_line put = put ≡ []
 
--- Of the entries of the key, the one behind this many entries gets the value. Those before it go with their lines, but for the
+-- Of the entries of the key, the one behind this many entries gets the value. Those before it go with their
+-- lines, but for the
 -- line end if a header is on the line. Every other part stays.
-pub data ReplacesPart (key : Key) (value : List ℕ) (last : ℕ) (before : List Part) (part : Part) : List ℕ → Type 0 where
+pub data ReplacesPart (key : Key) (value : List ℕ) (last : ℕ) (before : List Part) (part : Part) : List ℕ
+    → Type 0 where
   goes : {put : List ℕ}
-      → IsEntryOf key before part → entries_in before < last → LeavesEnd (ends_in_header before) (part_bytes part) (ends_line part) put
+      → IsEntryOf key before part → entries_in before < last
+      → LeavesEnd (ends_in_header before) (part_bytes part) (ends_line part) put
       → ReplacesPart key value last before part put
   gets : {put : List ℕ}
       → IsEntryOf key before part → entries_in before ≡ last → GivesValue value part put
@@ -226,7 +237,8 @@ pub data WithoutIn (key : Key) : List Content → List Content → Type 0 where
 abbrev pub NoneIn : Key → List Content → Type 0
 NoneIn key contents = WithoutIn key contents contents
 
--- The contents have one more, of the key and with this value, behind all others in its section. A value before it may be
+-- The contents have one more, of the key and with this value, behind all others in its section. A value
+-- before it may be
 -- written with more bytes now, if a backslash ended the text.
 pub record AddsContent (key : Key) (value : List ℕ) (old new : List Content) : Type 0 where
   pub before : List Content
@@ -250,27 +262,34 @@ abbrev pub is_item : Part → Bool
 is_item (cut.line tail is_line) = false
 is_item part = true
 
--- Behind these parts a new entry of the key can stand: in its section, they end in a header or an entry, or in what is left of
+-- Behind these parts a new entry of the key can stand: in its section, they end in a header or an entry, or
+-- in what is left of
 -- the line of a header.
 abbrev pub CanFollow : Key → List Part → Type 0
-CanFollow key parts = (before : List Part) × (last : Part) × (parts ≡ before ++ last ∷ []) × IsIn key (section_after parts)
+CanFollow key parts = (before : List Part) × (last : Part) × (parts ≡ before ++ last ∷ [])
+    × IsIn key (section_after parts)
     × ((is_item last ≡ true) ⊎ (ends_in_header before ≡ true))
 
--- the last place of these parts where a new entry of the key can stand, or their end and a new header if it can nowhere
+-- the last place of these parts where a new entry of the key can stand, or their end and a new header if it
+-- can nowhere
 pub data IsPlace (key : Key) (header feed : List ℕ) : List Part → List Part → List ℕ → Type 0 where
   inside : {front back : List Part}
-      → CanFollow key front → ((more left : List Part) → back ≡ more ++ left → CanFollow key (front ++ more) → more ≡ [])
+      → CanFollow key front → ((more left : List Part) → back ≡ more ++ left → CanFollow key (front ++ more)
+      → more ≡ [])
       → IsPlace key header feed front back []
   at_end : {parts : List Part}
-      → ((front back : List Part) → parts ≡ front ++ back → ¬ (CanFollow key front)) → IsWrittenHeader key header
+      → ((front back : List Part) → parts ≡ front ++ back → ¬ (CanFollow key front))
+      → IsWrittenHeader key header
       → IsPlace key header feed parts [] (header ++ feed)
 
 -- a backslash ends the text of an entry
 abbrev pub IsOpen : Part → Type 0
-IsOpen (cut.entry blanks key between (Some raw) tail is_line) = (value : List ℕ) × SpellsValue raw value at_backslash
+IsOpen (cut.entry blanks key between (Some raw) tail is_line) =
+    (value : List ℕ) × SpellsValue raw value at_backslash
 IsOpen _ = ⊥
 
--- What ends the last line of these parts: nothing if it is ended, a line end, or two behind a backslash, which would go on over
+-- What ends the last line of these parts: nothing if it is ended, a line end, or two behind a backslash,
+-- which would go on over
 -- the first one.
 pub data EndsParts (feed : List ℕ) : List Part → List ℕ → Type 0 where
   empty : EndsParts feed [] []
@@ -284,10 +303,12 @@ pub data EndsParts (feed : List ℕ) : List Part → List ℕ → Type 0 where
 -- the line end behind this front of a text: its last one, otherwise that of the text, otherwise LF
 pub data IsFeedAt (front text : List ℕ) : List ℕ → Type 0 where
   of_front : {feed : List ℕ} → IsLastLineEnd front (Some feed) → IsFeedAt front text feed
-  of_text : {feed : List ℕ} → IsLastLineEnd front None → IsLastLineEnd text (Some feed) → IsFeedAt front text feed
+  of_text : {feed : List ℕ} → IsLastLineEnd front None → IsLastLineEnd text (Some feed)
+      → IsFeedAt front text feed
   of_none : IsLastLineEnd text None → IsFeedAt front text (line_feed ∷ [])
 
--- The new text is the old one with one line more, which has the key and the value, and stands where a new entry does.
+-- The new text is the old one with one line more, which has the key and the value, and stands where a new
+-- entry does.
 pub record PutsLine (key : Key) (value old new : List ℕ) : Type 0 where
   pub mark : List ℕ
   pub front : List Part
@@ -302,7 +323,8 @@ pub record PutsLine (key : Key) (value old new : List ℕ) : Type 0 where
   pub are_ends : EndsParts feed front ends
   pub is_place : IsPlace key header feed front back headed
   pub spells : IsGitSpelling spelling value
-  pub new_is : new ≡ mark ++ (parts_bytes front ++ (ends ++ (headed ++ (entry_line key.name spelling feed ++ parts_bytes back))))
+  pub new_is : new ≡ mark ++ (parts_bytes front
+      ++ (ends ++ (headed ++ (entry_line key.name spelling feed ++ parts_bytes back))))
 
 -- a reason to refuse that an edit does not have
 abbrev pub Never : Key → List Content → Type 0
@@ -310,9 +332,11 @@ Never key contents = ⊥
 
 -- the name is this key, a header can have its section, and if there is a value, it has a spelling
 abbrev pub CanBeWritten : List ℕ → Option (List ℕ) → Key → Type 0
-CanBeWritten name value key = IsKey name key × ¬ (HasNoHeader key.section key.subsection) × ¬ (LacksSpelling value)
+CanBeWritten name value key = IsKey name key × ¬ (HasNoHeader key.section key.subsection)
+    × ¬ (LacksSpelling value)
 
--- Why an edit is refused, in this order: by the key, by the value, if there is one, by the text, or by what the text has
+-- Why an edit is refused, in this order: by the key, by the value, if there is one, by the text, or by what
+-- the text has
 -- of the key. Each reason says that those before it do not hold. Memory may be refused at any time.
 abbrev pub RefusesEdit : (Key → List Content → Type 0) → (Key → List Content → Type 0)
     → List ℕ → Option (List ℕ) → List ℕ → EditError → Type 0
@@ -326,9 +350,11 @@ RefusesEdit Several Absent name value text error.Comment = ⊥
 RefusesEdit Several Absent name value text (error.File e) =
     (key : Key) × (CanBeWritten name value key) × (entries : List Entry) × IsFile text entries (Some e)
 RefusesEdit Several Absent name value text error.Several =
-    (key : Key) × (CanBeWritten name value key) × (contents : List Content) × HasContents text contents × Several key contents
+    (key : Key) × (CanBeWritten name value key) × (contents : List Content) × HasContents text contents
+    × Several key contents
 RefusesEdit Several Absent name value text error.Absent =
-    (key : Key) × (CanBeWritten name value key) × (contents : List Content) × HasContents text contents × Absent key contents
+    (key : Key) × (CanBeWritten name value key) × (contents : List Content) × HasContents text contents
+    × Absent key contents
 
 -- memory was refused, which may be at any time
 abbrev pub IsMemory : EditError → Type 0
@@ -383,12 +409,14 @@ Decides name value text =
 abbrev pub Has : List Change → Change → Type 0
 Has changes change = (before after : List Change) × (changes ≡ before ++ change ∷ after)
 
--- the change is of the entry behind this many, and gives it this last part of its key, this value and this comment, if any
+-- the change is of the entry behind this many, and gives it this last part of its key, this value and this
+-- comment, if any
 abbrev pub IsChange : Change → ℕ → Option (List ℕ) → Option (List ℕ) → Option (List ℕ) → Type 0
 IsChange change entry name value comment = (change.entry ≡ entry) × (option_copied change.name ≡ name)
     × (option_copied change.value ≡ value) × (option_copied change.comment ≡ comment)
 
--- an entry before and after a change: it has the last part of the key and the value of the change, where that has them
+-- an entry before and after a change: it has the last part of the key and the value of the change, where that
+-- has them
 abbrev pub IsChanged : Change → Content → Content → Type 0
 IsChanged change x y = (y.0 ≡ x.0) × MatchOption (option_copied change.name) (y.1 ≡ x.1) (λ name. y.1 ≡ name)
     × MatchOption (option_copied change.value) (y.2 ≡ x.2) (HasValue y.2)
@@ -413,7 +441,8 @@ abbrev pub name_after : Option (List ℕ) → List ℕ → List ℕ
 name_after None key = key
 name_after (Some name) key = name
 
--- What Git writes for a comment: if spaces and TABs and `#` begin it, it stays as it is; a space comes before a `#` that
+-- What Git writes for a comment: if spaces and TABs and `#` begin it, it stays as it is; a space comes before
+-- a `#` that
 -- begins it; and ` # ` comes before any other.
 pub data WritesComment : List ℕ → List ℕ → Type 0 where
   spaced : (b : ℕ) (blanks more : List ℕ) → list_all is_space (b ∷ blanks) ≡ true
@@ -423,15 +452,19 @@ pub data WritesComment : List ℕ → List ℕ → Type 0 where
       → ((blanks more : List ℕ) → list_all is_space blanks ≡ true → comment ≢ blanks ++ hash ∷ more)
       → WritesComment comment (space ∷ hash ∷ space ∷ comment)
 
--- what has to come between these bytes, which a value has now, and a comment: a line end if a backslash ends the text
+-- what has to come between these bytes, which a value has now, and a comment: a line end if a backslash ends
+-- the text
 pub data FeedsComment : Option (List ℕ) → List ℕ → List ℕ → Type 0 where
   closed : {raw bytes value : List ℕ} → SpellsValue bytes value outside → FeedsComment (Some raw) bytes []
-  open_value : {raw value : List ℕ} → SpellsValue raw value at_backslash → FeedsComment (Some raw) raw (line_feed ∷ [])
+  open_value : {raw value : List ℕ} → SpellsValue raw value at_backslash
+      → FeedsComment (Some raw) raw (line_feed ∷ [])
   behind_key : {bytes : List ℕ} → FeedsComment None bytes []
 
--- The bytes that a value has now and what is left of its line become the value without the blanks behind it, the comment as Git
+-- The bytes that a value has now and what is left of its line become the value without the blanks behind it,
+-- the comment as Git
 -- writes it, and the line end of the part.
-pub record PutsComment (comment : List ℕ) (part : Part) (was : Option (List ℕ)) (bytes after : List ℕ) : Type 0 where
+pub record PutsComment (comment : List ℕ) (part : Part) (was : Option (List ℕ))
+    (bytes after : List ℕ) : Type 0 where
   pub core : List ℕ
   pub blanks : List ℕ
   pub feed : List ℕ
@@ -445,11 +478,13 @@ pub record PutsComment (comment : List ℕ) (part : Part) (was : Option (List �
   pub is_end : IsEndOfLine (part_bytes part) (ends_line part) end
   pub after_is : after ≡ core ++ (feed ++ (written ++ end))
 
--- An entry gets the key and the value of the change: what is between them stays. If the change has a comment, what is left of the
+-- An entry gets the key and the value of the change: what is between them stays. If the change has a comment,
+-- what is left of the
 -- line of the entry goes too, and the comment comes in its place.
 abbrev pub ChangesEntry : Change → Part → List ℕ → Type 0
 ChangesEntry change (cut.entry blanks key between was tail is_line) put = (bytes after : List ℕ)
-    × MatchOption (option_copied change.value) (bytes ≡ value_bytes was) (λ value. ChangesValueTo value between tail was bytes)
+    × MatchOption (option_copied change.value) (bytes ≡ value_bytes was) (λ value.
+    ChangesValueTo value between tail was bytes)
     × MatchOption (option_copied change.comment) (after ≡ bytes ++ tail)
     (λ comment. PutsComment comment (cut.entry blanks key between was tail is_line) was bytes after)
     × (put ≡ blanks ++ (name_after (option_copied change.name) key ++ (between ++ after)))
@@ -508,7 +543,8 @@ abbrev pub RefusesOneOf : List Change → EditError → Type 0
 RefusesOneOf changes e = (before after : List Change) × (change : Change) × (changes ≡ before ++ change ∷ after)
     × AllByRecursion CanBeMade before × RefusesOneChange change e
 
--- why changes are refused: by one of them, otherwise by the text, otherwise by their order and the entries of the text
+-- why changes are refused: by one of them, otherwise by the text, otherwise by their order and the entries of
+-- the text
 abbrev pub RefusesChanges : List Change → List ℕ → EditError → Type 0
 RefusesChanges changes text (error.Memory e) = ⊤
 RefusesChanges changes text (error.File e) = AllByRecursion CanBeMade changes

@@ -20,7 +20,8 @@ use Rattle.config_edit.specs.declared.write.End.TheVariants as end
 use Rattle.config_edit.specs.declared.piece.Held.{Held}
 use Rattle.config_edit.specs.declared.piece.Held.TheVariants as held
 use Rattle.config_edit.specs.declared.piece.Piece.{Piece}
-use Rattle.config_file.specs.Bytes.{line_feed, carriage_return, left_bracket, is_blank, is_comment_sign, is_comment_byte}
+use Rattle.config_file.specs.Bytes.{line_feed, carriage_return, left_bracket, is_blank, is_comment_sign}
+use Rattle.config_file.specs.Bytes.{is_comment_byte}
 use Rattle.config_file.specs.Bytes.{BeginsWithLetter}
 use Rattle.config_edit.specs.Reached.{Leads}
 use Rattle.config_file.specs.Header.{Section, Header}
@@ -32,7 +33,8 @@ use Rattle.config_file.specs.Spelling.{HasNoHeader, IsGitSpelling, git_spelled}
 use Rattle.config_file.specs.Value.{outside, at_backslash, SpellsValue, line_feeds}
 use Rattle.config_edit.specs.Edit.{Content, content, LosesOne}
 use Rattle.config_edit.specs.Cut as cut
-use Rattle.config_edit.specs.Cut.{AreBlank, HasComment, IsTail, Part, Cuts, EachBecomes, part_bytes, parts_bytes, ends_in_header, entries_in}
+use Rattle.config_edit.specs.Cut.{AreBlank, HasComment, IsTail, Part, Cuts, EachBecomes, part_bytes}
+use Rattle.config_edit.specs.Cut.{parts_bytes, ends_in_header, entries_in}
 use Rattle.config_edit.specs.Cut.{value_bytes, section_from, is_header, HaveNoHeader}
 use Rattle.config_edit.specs.Sections.{IsHeaderIn, NoneIs, RenamesParts, Clears, LastEnd, EndsInComments}
 use Rattle.config_edit.specs.Sections.{BeginsWithHeader}
@@ -41,7 +43,8 @@ use Rattle.config_edit.specs.Edit.{IsIn, IsOf, HasValue, Without, HasNone, HasNo
 use Rattle.config_edit.specs.Edit.{IsPlaceOf, HasSeveral, Replaces, SameEntry, NoneIn}
 use Rattle.config_edit.specs.Edit.{AddsContent, entry_line, PutsValue, ReplacesPart, HasOne}
 use Rattle.config_edit.specs.Edit.{ChangesEach, ChangesValueTo, ChangesPart, AreInOrder, Has}
-use Rattle.config_edit.specs.Edit.{name_after, ChangesEntry, WritesComment, IsEndOfLine, CanFollow, IsPlace, EndsParts, IsFeedAt}
+use Rattle.config_edit.specs.Edit.{name_after, ChangesEntry, WritesComment, IsEndOfLine, CanFollow, IsPlace}
+use Rattle.config_edit.specs.Edit.{EndsParts, IsFeedAt}
 use Rattle.config_file.specs.Listing.{IsListedSection}
 use Rattle.config_file.specs.Reading.Spellings.{is_spellable}
 use Rattle.config_file.specs.Views.{section_of, value_of}
@@ -66,7 +69,8 @@ pub record IsEntry
   pub is_tail : IsTail tail rest is_line
   pub joined : bytes ≡ blanks ++ (front ++ tail)
 
--- whatever line it is on and whatever follows it, the text leads from the first section to the second one, with these
+-- whatever line it is on and whatever follows it, the text leads from the first section to the second one,
+-- with these
 -- contents of entries
 abbrev pub Holds : Option Section → List ℕ → List Content → Option Section → Type 0
 Holds section text contents next = (line : ℕ) (other : List ℕ) → (end : ℕ) × (entries : List Entry)
@@ -226,7 +230,8 @@ abbrev pub IsEntryHeld : Key → Option Section → Held → Type 0
 IsEntryHeld key section (held.Entry parts) = IsOf key (content_of section parts)
 IsEntryHeld key section _ = ⊥
 
--- The first parts of the text, before this rest: the reading is in this section behind them, and so many entries are among them.
+-- The first parts of the text, before this rest: the reading is in this section behind them, and so many
+-- entries are among them.
 pub record IsCut (text rest : List ℕ) (section : Option Section) (count : ℕ) (before : List Part) : Type 0 where
   pub joined : text ≡ parts_bytes before ++ rest
   pub cuts : (later : List Part) → Cuts rest later → Cuts text (before ++ later)
@@ -245,7 +250,8 @@ entry_part piece parts between tail =
     cut.entry piece.blanks.now parts.key.now between (value_of parts.value) tail piece.is_line
 
 -- an entry of the key was the last so far: what precedes it has become this new text, and this start follows it
-pub record IsFound (key : Key) (text rest start new : List ℕ) (section : Option Section) (f : Found) (several : Bool) : Type 0 where
+pub record IsFound (key : Key) (text rest start new : List ℕ) (section : Option Section) (f : Found)
+    (several : Bool) : Type 0 where
   pub front : List ℕ
   pub between : List ℕ
   pub before : List Content
@@ -273,7 +279,8 @@ pub record IsFound (key : Key) (text rest start new : List ℕ) (section : Optio
   pub in_line : f.in_line ≡ ends_in_header parts
   pub cuts : IsCut text rest section (length (before ++ content_of at f.parts ∷ after))
       ((parts ++ entry_part f.piece f.parts inner tail ∷ []) ++ later)
-  pub changes : (value : List ℕ) (last : ℕ) → entries_in parts ≤ last → EachBecomes (ReplacesPart key value last) parts new
+  pub changes : (value : List ℕ) (last : ℕ) → entries_in parts ≤ last
+      → EachBecomes (ReplacesPart key value last) parts new
   pub stays : AllStay key (parts ++ entry_part f.piece f.parts inner tail ∷ []) later between
   pub between_is : Passed at between after section rest
   pub last : HasNone key after
@@ -282,17 +289,21 @@ pub record IsFound (key : Key) (text rest start new : List ℕ) (section : Optio
   pub many : several ≡ true → HasSeveral key (before ++ content_of at f.parts ∷ [])
 
 -- what precedes this rest of a text, in which entries of the key are looked for
-abbrev pub Replacing : Key → List ℕ → List ℕ → List ℕ → List ℕ → Option Section → Option Found → Bool → Bool → Type 0
-Replacing key text rest start new section None several in_line = (front : List ℕ) × (contents : List Content) × (parts : List Part)
+abbrev pub Replacing : Key → List ℕ → List ℕ → List ℕ → List ℕ → Option Section → Option Found → Bool → Bool
+    → Type 0
+Replacing key text rest start new section None several in_line = (front : List ℕ) × (contents : List Content)
+    × (parts : List Part)
     × IsPast text rest front contents section × HasNone key contents
     × (start ≡ text) × (new ≡ []) × (several ≡ false)
-    × IsCut text rest section (length contents) parts × AllStay key [] parts front × (in_line ≡ ends_in_header parts)
+    × IsCut text rest section (length contents) parts × AllStay key [] parts front
+    × (in_line ≡ ends_in_header parts)
 Replacing key text rest start new section (Some f) several in_line =
     (r : IsFound key text rest start new section f several)
     × (in_line ≡ ends_in_header ((r.parts ++ entry_part f.piece f.parts r.inner r.tail ∷ []) ++ r.later))
 
 -- the last entry of the key has this value in the new text, and its others are gone
-pub record IsReplaced (key : Key) (value text : List ℕ) (contents : List Content) (new : List ℕ) (several : Bool) : Type 0 where
+pub record IsReplaced (key : Key) (value text : List ℕ) (contents : List Content) (new : List ℕ)
+    (several : Bool) : Type 0 where
   pub now : List Content
   pub parts : List Part
   pub ends : Ends None new now
@@ -308,7 +319,8 @@ IsReplacement key value text replacement.Unread = (contents : List Content) → 
 IsReplacement key value text replacement.Nothing =
     (contents : List Content) × Ends None text contents × HasNone key contents
 IsReplacement key value text (replacement.Done r) =
-    (contents : List Content) × Ends None text contents × IsReplaced key value text contents r.text.items r.several
+    (contents : List Content) × Ends None text contents
+    × IsReplaced key value text contents r.text.items r.several
 
 -- what is left of an entry that is taken out, if one is: its line end, if a header precedes it on the line
 abbrev pub IsLeft : Option Found → List ℕ → Type 0
@@ -350,8 +362,10 @@ abbrev pub holds_header : Held → Bool
 holds_header (held.Header section) = true
 holds_header _ = false
 
--- before this place the text has these contents in a section of the key, and then this text, in which none is in it
-pub record IsPlaceIn (key : Key) (text rest : List ℕ) (contents : List Content) (section : Option Section) (place : Insertion)
+-- before this place the text has these contents in a section of the key, and then this text, in which none is
+-- in it
+pub record IsPlaceIn (key : Key) (text rest : List ℕ) (contents : List Content) (section : Option Section)
+    (place : Insertion)
     : Type 0 where
   pub front : List ℕ
   pub between : List ℕ
@@ -374,15 +388,18 @@ pub record IsPlaceIn (key : Key) (text rest : List ℕ) (contents : List Content
   pub contents_are : contents ≡ before ++ after
 
 -- the last place so far, if an entry or a header was in a section of the key
-abbrev pub IsPlaceSoFar : Key → List ℕ → List ℕ → List Content → Option Section → Bool → Bool → Option Insertion → List Part → Type 0
-IsPlaceSoFar key text rest contents section is_inside after None parts = NoneIn key contents × (is_inside ≡ false)
+abbrev pub IsPlaceSoFar : Key → List ℕ → List ℕ → List Content → Option Section → Bool → Bool
+    → Option Insertion → List Part → Type 0
+IsPlaceSoFar key text rest contents section is_inside after None parts =
+    NoneIn key contents × (is_inside ≡ false)
     × IsCut text rest section (length contents) parts
     × ((front back : List Part) → parts ≡ front ++ back → ¬ (CanFollow key front))
 IsPlaceSoFar key text rest contents section is_inside after (Some place) parts =
     (p : IsPlaceIn key text rest contents section place) × (parts ≡ p.parts ++ p.later)
 
 -- what precedes this rest of a text, in which a place for an entry of the key is looked for
-pub record Placing (key : Key) (text rest : List ℕ) (is_inside after : Bool) (inside : Option Insertion) (end : End) : Type 0 where
+pub record Placing (key : Key) (text rest : List ℕ) (is_inside after : Bool) (inside : Option Insertion)
+    (end : End) : Type 0 where
   pub front : List ℕ
   pub contents : List Content
   pub section : Option Section
@@ -420,7 +437,8 @@ pub record PutsLineIn (key : Key) (value old new : List ℕ) : Type 0 where
   pub are_ends : EndsParts feed front ends
   pub is_place : IsPlace key header feed front back headed
   pub spells : IsGitSpelling spelling value
-  pub new_is : new ≡ parts_bytes front ++ (ends ++ (headed ++ (entry_line key.name spelling feed ++ parts_bytes back)))
+  pub new_is : new ≡ parts_bytes front
+      ++ (ends ++ (headed ++ (entry_line key.name spelling feed ++ parts_bytes back)))
 
 -- the text has one entry more, in its section
 pub record IsAdded (key : Key) (value text : List ℕ) (contents : List Content) (new : List ℕ) : Type 0 where
@@ -471,29 +489,35 @@ pub data IsFinished (g : Group) : List ℕ → Type 0 where
   whole : (g.is_kept ≡ true) ⊎ (g.has_lost ≡ false) → IsFinished g (g.head.items ++ g.body.items)
   without_head : g.is_kept ≡ false → g.has_lost ≡ true → IsFinished g (g.line_end.now ++ g.body.items)
 
--- The parts of a section on its way: its head and its body are what is left of them, and if the header goes, its line end and
+-- The parts of a section on its way: its head and its body are what is left of them, and if the header goes,
+-- its line end and
 -- its body.
-pub record IsSection (key : Key) (places : Option (List ℕ)) (done : List Part) (top : Part) (body : List Part) (g : Group) : Type 0 where
+pub record IsSection (key : Key) (places : Option (List ℕ)) (done : List Part) (top : Part) (body : List Part)
+    (g : Group) : Type 0 where
   pub is_top : is_header top ≡ true
   pub no_header : HaveNoHeader body
   pub in_line : g.in_line ≡ ends_in_header done
   pub alone : g.in_head ≡ true → (body ≡ []) × (g.body.items ≡ []) × (g.line_end.now ≡ [])
   pub not_alone : g.in_head ≡ false → body ≢ []
-  pub stays : EachBecomes (λ front. Leaves key places (done ++ front)) (top ∷ body) (g.head.items ++ g.body.items)
+  pub stays : EachBecomes (λ front. Leaves key places (done ++ front)) (top ∷ body)
+      (g.head.items ++ g.body.items)
   pub goes : EachBecomes (LeavesEmptied key places done) (top ∷ body) (g.line_end.now ++ g.body.items)
   pub loses : (g.has_lost ≡ true) ↔ LosesOf key places (done ++ top ∷ []) body
-  pub keeps_none : (g.is_kept ≡ false) ↔ (KeepsNone key places (done ++ top ∷ []) body × ¬ (IsBelowComment done))
+  pub keeps_none : (g.is_kept ≡ false)
+      ↔ (KeepsNone key places (done ++ top ∷ []) body × ¬ (IsBelowComment done))
 
 -- before the first header all parts stay, and behind one the last section is on its way
 abbrev pub AreTaken : Key → Option (List ℕ) → List Part → List ℕ → Group → Type 0
 AreTaken key places parts new g =
-    (HaveNoHeader parts × (new ≡ []) × (g.head.items ++ g.body.items ≡ parts_bytes parts) × ¬ (g.is_kept ≡ false)
+    (HaveNoHeader parts × (new ≡ []) × (g.head.items ++ g.body.items ≡ parts_bytes parts)
+    × ¬ (g.is_kept ≡ false)
     × (g.in_head ≡ false))
     ⊎ ((done body : List Part) × (top : Part) × (parts ≡ done ++ top ∷ body) × TakesOut key places done new
     × IsSection key places done top body g)
 
 -- the parts before this rest of a text, out of which entries of the key are taken
-pub record TakesParts (key : Key) (places : Option (List ℕ)) (text rest new : List ℕ) (section : Option Section) (g : Group)
+pub record TakesParts (key : Key) (places : Option (List ℕ)) (text rest new : List ℕ)
+    (section : Option Section) (g : Group)
     (index : ℕ) (is_below : Bool) : Type 0 where
   pub parts : List Part
   pub cuts : (later : List Part) → Cuts rest later → Cuts text (parts ++ later)
@@ -504,14 +528,16 @@ pub record TakesParts (key : Key) (places : Option (List ℕ)) (text rest new : 
   pub taken : AreTaken key places parts new g
 
 -- A section on its way. If nothing of it is kept, its body holds nothing in any section.
-pub record IsGroup (g : Group) (now : List Content) (base section : Option Section) (rest : List ℕ) : Type 0 where
+pub record IsGroup (g : Group) (now : List Content) (base section : Option Section)
+    (rest : List ℕ) : Type 0 where
   pub passed : Passed base (g.head.items ++ g.body.items) now section rest
   pub alone : g.in_head ≡ true → g.body.items ≡ []
   pub is_end : IsEnd g.line_end.now
   pub empty : g.is_kept ≡ false → (now ≡ []) × ((any : Option Section) → Passed any g.body.items [] any rest)
 
 -- what precedes this rest of a text, in which entries of the key are left out
-pub record Losing (key : Key) (places : Option (List ℕ)) (text rest new : List ℕ) (section : Option Section) (g : Group)
+pub record Losing (key : Key) (places : Option (List ℕ)) (text rest new : List ℕ) (section : Option Section)
+    (g : Group)
     (count : Count) (index : ℕ) : Type 0 where
   pub front : List ℕ
   pub old : List Content
@@ -526,7 +552,8 @@ pub record Losing (key : Key) (places : Option (List ℕ)) (text rest new : List
   pub counted : Counted key places old (now ++ now_group) count
 
 -- the text is left without the entries of the key at these places, or without all of the key
-pub record IsTaken (key : Key) (places : Option (List ℕ)) (text : List ℕ) (contents : List Content) (taken : Taken) : Type 0 where
+pub record IsTaken (key : Key) (places : Option (List ℕ)) (text : List ℕ) (contents : List Content)
+    (taken : Taken) : Type 0 where
   pub now : List Content
   pub parts : List Part
   pub ends : Ends None taken.text.items now
@@ -541,7 +568,8 @@ ClearsUpTo Next key done new in_line = (later : List Part) (more : List ℕ) →
     → Clears key in_line later more → Clears key false (done ++ later) (new ++ more)
 
 -- before this rest, all that stays has become this new text, if parts of this kind follow
-pub record IsKept (Next : List Part → Type 0) (key : Key) (text rest new : List ℕ) (is_found in_line : Bool) : Type 0 where
+pub record IsKept (Next : List Part
+    → Type 0) (key : Key) (text rest new : List ℕ) (is_found in_line : Bool) : Type 0 where
   pub done : List Part
   pub behind : IsBehind text rest done
   pub clears : ClearsUpTo Next key done new in_line
@@ -568,7 +596,8 @@ pub record IsLost (key : Key) (text rest new : List ℕ) (lost : Lost) (in_line 
   pub at_line : IsAtLine body starts_line rest
 
 abbrev pub Clearing : Key → List ℕ → List ℕ → List ℕ → Bool → Option Lost → Bool → Bool → Type 0
-Clearing key text rest new is_found None in_line starts_line = IsKept (λ later. ⊤) key text rest new is_found in_line
+Clearing key text rest new is_found None in_line starts_line =
+    IsKept (λ later. ⊤) key text rest new is_found in_line
 Clearing key text rest new is_found (Some lost) in_line starts_line =
     IsLost key text rest new lost in_line starts_line × (is_found ≡ true)
 
@@ -576,7 +605,8 @@ Clearing key text rest new is_found (Some lost) in_line starts_line =
 abbrev pub ClearsPiece : Key → List ℕ → Piece → List ℕ → Bool → Bool → Option Lost → Type 0
 ClearsPiece key text piece new is_found in_line None =
     IsKept (λ later. ⊤) key text piece.rest.now (new ++ piece.bytes.now) is_found (not piece.is_line)
-ClearsPiece key text piece new is_found in_line (Some lost) = IsLost key text piece.rest.now new lost in_line piece.is_line
+ClearsPiece key text piece new is_found in_line (Some lost) =
+    IsLost key text piece.rest.now new lost in_line piece.is_line
 
 -- a change that can be written: the new last part is one of a key, and the new value has a spelling
 abbrev pub IsWritableName : Option (List ℕ) → Type 0
@@ -601,8 +631,10 @@ abbrev pub AreLater : List Change → ℕ → Type 0
 AreLater [] index = ⊤
 AreLater (change ∷ changes) index = change.entry ≢ index
 
--- the bytes of a piece, and what becomes of them if its entry gets this key and this value, or keeps the old value
-pub record IsShaped (name : List ℕ) (value : Option (List ℕ)) (parts : EntryParts) (piece : Piece) (put : List ℕ) : Type 0 where
+-- the bytes of a piece, and what becomes of them if its entry gets this key and this value, or keeps the old
+-- value
+pub record IsShaped (name : List ℕ) (value : Option (List ℕ)) (parts : EntryParts) (piece : Piece)
+    (put : List ℕ) : Type 0 where
   pub between : List ℕ
   pub bytes : List ℕ
   pub tail : List ℕ
@@ -613,7 +645,8 @@ pub record IsShaped (name : List ℕ) (value : Option (List ℕ)) (parts : Entry
       (λ new. ChangesValueTo new between tail (value_of parts.value) bytes)
   pub how : MatchOption value ⊤ (λ new. HasValue (value_of parts.value) new → HasHow parts new)
 
--- in the place of the piece of an entry, these bytes are an entry of the same key with this value, or with the old one
+-- in the place of the piece of an entry, these bytes are an entry of the same key with this value, or with
+-- the old one
 pub record IsValued (value : Option (List ℕ)) (parts : EntryParts) (piece : Piece) (put : List ℕ) : Type 0 where
   pub raw : Option (List ℕ)
   pub lines : ℕ
@@ -622,8 +655,10 @@ pub record IsValued (value : Option (List ℕ)) (parts : EntryParts) (piece : Pi
   pub entry : IsEntry parts.key.now raw lines at piece.blanks.now put piece.rest.now piece.is_line
   pub shaped : IsShaped parts.key.now value parts piece put
 
--- in the place of the piece of an entry, these bytes are the entry with this last part of its key and this value, if given
-pub record IsNamed (name value : Option (List ℕ)) (parts : EntryParts) (piece : Piece) (put : List ℕ) : Type 0 where
+-- in the place of the piece of an entry, these bytes are the entry with this last part of its key and this
+-- value, if given
+pub record IsNamed (name value : Option (List ℕ)) (parts : EntryParts) (piece : Piece)
+    (put : List ℕ) : Type 0 where
   pub raw : Option (List ℕ)
   pub lines : ℕ
   pub at : List ℕ
@@ -631,9 +666,11 @@ pub record IsNamed (name value : Option (List ℕ)) (parts : EntryParts) (piece 
   pub entry : IsEntry (name_after name parts.key.now) raw lines at piece.blanks.now put piece.rest.now piece.is_line
   pub shaped : IsShaped (name_after name parts.key.now) value parts piece put
 
--- In the place of the piece of an entry, which has become this line with this value, these bytes are the line with this
+-- In the place of the piece of an entry, which has become this line with this value, these bytes are the line
+-- with this
 -- comment.
-pub record IsCommented (value comment : List ℕ) (parts : EntryParts) (piece : Piece) (line put : List ℕ) : Type 0 where
+pub record IsCommented (value comment : List ℕ) (parts : EntryParts) (piece : Piece)
+    (line put : List ℕ) : Type 0 where
   pub core : List ℕ
   pub blanks : List ℕ
   pub tail : List ℕ
@@ -665,7 +702,8 @@ pub record IsChangedIn (change : Change) (parts : EntryParts) (piece : Piece) (p
   pub changes : ChangesEntry change (entry_part piece parts between tail) put
 
 -- what precedes this rest of a text has become this new text: the changes that are not left are made
-pub record Changing (changes : List Change) (text rest : List ℕ) (left : List Change) (new : List ℕ) (index : ℕ) : Type 0 where
+pub record Changing (changes : List Change) (text rest : List ℕ) (left : List Change) (new : List ℕ)
+    (index : ℕ) : Type 0 where
   pub front : List ℕ
   pub done : List Change
   pub old : List Content
@@ -687,7 +725,8 @@ pub record Changing (changes : List Change) (text rest : List ℕ) (left : List 
   pub room : index + length rest ≤ length text
 
 -- the changes are made in the new text
-pub record IsEachChanged (changes : List Change) (text : List ℕ) (contents : List Content) (new : List ℕ) : Type 0 where
+pub record IsEachChanged (changes : List Change) (text : List ℕ) (contents : List Content)
+    (new : List ℕ) : Type 0 where
   pub now : List Content
   pub ends : Ends None new now
   pub each : ChangesEach changes contents now

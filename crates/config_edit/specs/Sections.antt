@@ -9,7 +9,8 @@ use Rattle.config_file.specs.Header.{Section}
 use Rattle.config_file.specs.File.{Entry, IsFile}
 use Rattle.config_file.specs.Key.{Key, IsKey}
 use Rattle.config_file.specs.Spelling.{SpellsSection, HasNoHeader, spelled_section}
-use Rattle.config_edit.specs.Cut.{Part, header, line, part_bytes, parts_bytes, ends_line, HasComment, HasParts, is_header, HaveNoHeader}
+use Rattle.config_edit.specs.Cut.{Part, header, line, part_bytes, parts_bytes, ends_line, HasComment}
+use Rattle.config_edit.specs.Cut.{HasParts, is_header, HaveNoHeader}
 use Rattle.config_edit.specs.Edit.{Content, HasContents, IsIn, WithoutIn, IsEndOfLine}
 
 -- the part is a header of a section of the key
@@ -29,7 +30,8 @@ NoneIs Is parts = AllByRecursion (λ part. ¬ (Is part)) parts
 abbrev pub git_header : Key → List ℕ
 git_header key = left_bracket ∷ spelled_section key.section key.subsection
 
--- Each header of the first key becomes the blanks before it and the header of the second key. Every other part stays.
+-- Each header of the first key becomes the blanks before it and the header of the second key. Every other
+-- part stays.
 pub data RenamesParts (from to : Key) : List Part → List ℕ → Type 0 where
   none : RenamesParts from to [] []
   renamed : {parts : List Part} {new : List ℕ} (blanks : List ℕ) (section : Section) (inner : List ℕ)
@@ -43,7 +45,8 @@ pub data RenamesParts (from to : Key) : List Part → List ℕ → Type 0 where
 abbrev pub EndsInNoComment : List Part → Type 0
 EndsInNoComment parts = (front : List Part) (last : Part) → parts ≡ front ++ last ∷ [] → ¬ (IsCommentLine last)
 
--- What follows the header of a section ends in these comment lines, and no comment line precedes them. What is left of
+-- What follows the header of a section ends in these comment lines, and no comment line precedes them. What
+-- is left of
 -- the line of the header is none of them.
 pub data EndsInComments : List Part → List Part → Type 0 where
   header_alone : EndsInComments [] []
@@ -55,7 +58,8 @@ abbrev pub BeginsWithHeader : List Part → Type 0
 BeginsWithHeader [] = ⊥
 BeginsWithHeader (part ∷ parts) = is_header part ≡ true
 
--- what stays of the body of a section that goes: the comment lines directly above the next header, or nothing at the
+-- what stays of the body of a section that goes: the comment lines directly above the next header, or nothing
+-- at the
 -- end of the text
 abbrev pub Stays : List Part → List Part → List Part → Type 0
 Stays body next comments =
@@ -78,8 +82,10 @@ abbrev pub goes_on_behind : Bool → List ℕ → Bool
 goes_on_behind goes_on [] = goes_on
 goes_on_behind goes_on (b ∷ end) = false
 
--- The parts become these bytes, where a line that stays goes on before them or not. Each part stays, but for the sections
--- of the key: a header and what follows it up to the next header. Of such a section comment lines stay, and before them its
+-- The parts become these bytes, where a line that stays goes on before them or not. Each part stays, but for
+-- the sections
+-- of the key: a header and what follows it up to the next header. Of such a section comment lines stay, and
+-- before them its
 -- last line end, if the line before it goes on.
 pub data Clears (key : Key) : Bool → List Part → List ℕ → Type 0 where
   none : {goes_on : Bool} → Clears key goes_on [] []
@@ -105,8 +111,10 @@ pub data Renames (from to : Key) : List Content → List Content → Type 0 wher
 abbrev pub NamesSection : List ℕ → Key → Type 0
 NamesSection name key = IsKey (name ++ dot ∷ 120 ∷ []) key
 
--- The new text is a file with the entries of the old one, but those of the sections of the old name are in the section of
--- the new name. Each header of the old name, of which there is one, has become that of the new name, and all else stays. If
+-- The new text is a file with the entries of the old one, but those of the sections of the old name are in
+-- the section of
+-- the new name. Each header of the old name, of which there is one, has become that of the new name, and all
+-- else stays. If
 -- the names are equal, it is the old text.
 abbrev pub RenamesSection : List ℕ → List ℕ → List ℕ → List ℕ → Type 0
 RenamesSection old_name new_name old new =
@@ -117,7 +125,8 @@ RenamesSection old_name new_name old new =
     × (now : List Content) × HasContents new now × Renames from to contents now
     × (bytes : List ℕ) × RenamesParts from to parts bytes × (new ≡ mark ++ bytes)))
 
--- The new text is a file without the entries of the sections of this name, of which there is one. Those sections are gone
+-- The new text is a file without the entries of the sections of this name, of which there is one. Those
+-- sections are gone
 -- but for comments, and all else stays.
 abbrev pub RemovesSection : List ℕ → List ℕ → List ℕ → Type 0
 RemovesSection name old new =
@@ -136,7 +145,8 @@ LacksSection name text = (contents : List Content) × HasContents text contents
 abbrev pub LacksHeader : List ℕ → Type 0
 LacksHeader name = (key : Key) → NamesSection name key → HasNoHeader key.section key.subsection
 
--- Why a section is not removed: the text is no file, or else no header has the section of this name. Memory may be refused
+-- Why a section is not removed: the text is no file, or else no header has the section of this name. Memory
+-- may be refused
 -- at any time.
 abbrev pub RefusesRemoval : List ℕ → List ℕ → EditError → Type 0
 RefusesRemoval name text (error.Memory e) = ⊤

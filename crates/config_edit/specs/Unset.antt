@@ -1,16 +1,19 @@
 -- A text out of which entries of a key are taken, and the headers of sections that they leave empty.
 use Rattle.std.specs.Prelude.{◌≡◌, ℕ, Bool, true, false, List, [], ◌∷◌, ◌++◌, Option, Some, None, ◌⊎◌}
 use Rattle.config_file.specs.Key.{Key}
-use Rattle.config_edit.specs.Cut.{Part, header, entry, line, part_bytes, parts_bytes, ends_line, ends_in_header, entries_in}
+use Rattle.config_edit.specs.Cut.{Part, header, entry, line, part_bytes, parts_bytes, ends_line}
+use Rattle.config_edit.specs.Cut.{ends_in_header, entries_in}
 use Rattle.config_edit.specs.Cut.{section_after, HasComment, HasParts, EachBecomes, is_header, HaveNoHeader}
-use Rattle.config_edit.specs.Edit.{Content, HasContents, Edits, IsEntryOf, IsPlaceOf, IsEndOfLine, LosesOne, Without}
+use Rattle.config_edit.specs.Edit.{Content, HasContents, Edits, IsEntryOf, IsPlaceOf, IsEndOfLine, LosesOne}
+use Rattle.config_edit.specs.Edit.{Without}
 pub use Rattle.config_edit.specs.Edit.{LeavesEnd}
 
 -- behind these parts of a text, the part is an entry of the key, at one of the places
 abbrev pub Goes : Key → Option (List ℕ) → List Part → Part → Type 0
 Goes key places before part = IsEntryOf key before part × IsPlaceOf places (entries_in before)
 
--- Behind these parts of a text, an entry that goes leaves nothing, or its line end if a header is on its line. Every other
+-- Behind these parts of a text, an entry that goes leaves nothing, or its line end if a header is on its
+-- line. Every other
 -- part stays.
 abbrev pub Leaves : Key → Option (List ℕ) → List Part → Part → List ℕ → Type 0
 Leaves key places before part put =
@@ -37,20 +40,23 @@ pub data IsBelowComment : List Part → Type 0 where
 -- behind others, an entry of the key goes out of these parts
 abbrev pub LosesOf : Key → Option (List ℕ) → List Part → List Part → Type 0
 LosesOf key places before parts =
-    (front back : List Part) × (part : Part) × (parts ≡ front ++ part ∷ back) × Goes key places (before ++ front) part
+    (front back : List Part) × (part : Part) × (parts ≡ front ++ part ∷ back)
+    × Goes key places (before ++ front) part
 
 -- behind others, each of these parts goes or is blank
 abbrev pub KeepsNone : Key → Option (List ℕ) → List Part → List Part → Type 0
 KeepsNone key places before parts = (front back : List Part) (part : Part)
     → parts ≡ front ++ part ∷ back → Goes key places (before ++ front) part ⊎ IsBlankPart part
 
--- The section of this header, behind these parts of a text, is emptied: it loses an entry of the key, keeps none and no
+-- The section of this header, behind these parts of a text, is emptied: it loses an entry of the key, keeps
+-- none and no
 -- comment, and no comment is right above the header.
 abbrev pub IsEmptied : Key → Option (List ℕ) → List Part → Part → List Part → Type 0
 IsEmptied key places before top body = LosesOf key places (before ++ top ∷ []) body
     × KeepsNone key places (before ++ top ∷ []) body × ¬ (IsBelowComment before)
 
--- The header of an emptied section goes with what is left of its line, but for the line end if another header precedes it on
+-- The header of an emptied section goes with what is left of its line, but for the line end if another header
+-- precedes it on
 -- the line.
 abbrev pub LeavesEmptied : Key → Option (List ℕ) → List Part → List Part → Part → List ℕ → Type 0
 LeavesEmptied key places before [] part put = put ≡ []
@@ -72,9 +78,11 @@ pub data TakesOut (key : Key) (places : Option (List ℕ)) : List Part → List 
       → TakesOut key places before new → is_header top ≡ true → HaveNoHeader body
       → SectionBecomes key places before top body put → TakesOut key places (before ++ top ∷ body) (new ++ put)
 
--- the new text is the old one, with its mark, out of which the entries of the key at these places, or all of it, are taken
+-- the new text is the old one, with its mark, out of which the entries of the key at these places, or all of
+-- it, are taken
 abbrev pub IsTakenOut : Key → Option (List ℕ) → List ℕ → List ℕ → Type 0
-IsTakenOut key places old new = (mark : List ℕ) × (parts : List Part) × (bytes : List ℕ) × HasParts old mark parts
+IsTakenOut key places old new = (mark : List ℕ) × (parts : List Part) × (bytes : List ℕ)
+    × HasParts old mark parts
     × TakesOut key places parts bytes × (new ≡ mark ++ bytes)
 
 -- what `unset` makes: the one entry of the key is gone

@@ -1,4 +1,5 @@
 //! Answers what a search asks, by this system.
+ghost use Rattle.std.specs.Prelude.{◌≡◌, ◌+◌, length, OnOk};
 
 use crate::disk::{Disk, ReadError};
 use crate::environment::{HostError, current_folder, kept_variable};
@@ -205,7 +206,9 @@ fn fact_of<'t>(disk: &Disk<'t>, question: &Question) -> Result<Fact<'t>, HostErr
 }
 
 /// Adds a fact.
-fn push<'t>(facts: &mut Vec<Fact<'t>>, fact: Fact<'t>) -> Result<(), AllocError> {
+fn push<'t>(facts: &mut Vec<Fact<'t>>, fact: Fact<'t>) -> Result<(), AllocError>
+    ensures { OnOk result (length facts.new.items ≡ length facts.old.items + 1) }
+{
     Ok(facts.push(fact)?)
 }
 
@@ -213,12 +216,12 @@ fn push<'t>(facts: &mut Vec<Fact<'t>>, fact: Fact<'t>) -> Result<(), AllocError>
 pub(crate) fn search_here<'t>(disk: &Disk<'t>, folder: &'t [u8]) -> Result<Answer, HostError> {
     let alloc = disk.host.alloc();
     let mut facts = Vec::new(alloc);
-    for _ in 0..u64::MAX {
+    'questions: loop {
         match search(alloc, folder, &facts) {
             Ok(answer) => return Ok(answer),
             Err(Stop::Ask(question)) => push(&mut facts, fact_of(disk, &question)?)?,
+            Err(Stop::TooManyFacts) => return Err(HostError::TooManyFacts),
             Err(Stop::Memory(error)) => return Err(HostError::from(error)),
         }
     }
-    Err(HostError::from(AllocError))
 }

@@ -1,10 +1,12 @@
 pub mod Among
 pub mod Ceilings
+pub mod Covers
 pub mod Lists
 pub mod Names
 pub mod OneAnswer
 pub mod Parts
 pub mod Places
+pub mod Spelled
 pub mod Stores
 pub mod Trusted
 pub mod Unchangeable

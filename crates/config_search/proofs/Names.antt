@@ -1,9 +1,9 @@
 -- Texts that begin with others.
-use Rattle.std.proofs.Common.{◌≡◌, ◌∙◌, ℕ, Bool, List, [], ◌++◌, true, false, if◌then◌else◌, ◌||◌, codes, length, take, drop, refl, sym, ap, append_assoc}
+use Rattle.std.proofs.Common.{◌≡◌, ◌∙◌, ◌-◌, ℕ, Bool, List, [], ◌++◌, true, false, if◌then◌else◌, ◌||◌, arith, codes, length, take, drop, refl, subst, sym, ap, append_assoc}
 use Rattle.std.specs.Str.{bytes_eq}
-use Rattle.std.proofs.Math.Seq.{take-append_seam}
+use Rattle.std.proofs.Math.Seq.{drop-append_seam, take-append_seam}
 use Rattle.std.proofs.lemmas.Bool.{true≢false}
-use Rattle.std.proofs.lemmas.List.{append_cancel_left, take-append-drop}
+use Rattle.std.proofs.lemmas.List.{append_cancel_left, length-append, take-append-drop}
 use Rattle.std.proofs.lemmas.Slice.Eq.{bytes_eq-Decides}
 use Rattle.config_search.specs.Names.{begins, inside}
 
@@ -18,6 +18,18 @@ pub begins_not : (front text rest : List ℕ) → bytes_eq (take (length front) 
     → text ≡ front ++ rest → ⊥
 begins_not front text rest not is = true≢false (sym ((bytes_eq-Decides (take (length front) text) front).1
     (ap (take (length front)) is ∙ take-append_seam front rest)) ∙ not)
+
+-- the end of a text that ends after others
+pub drop_front : (front end : List ℕ) → drop (length (front ++ end) - length end) (front ++ end) ≡ end
+drop_front front end =
+    let same : length (front ++ end) - length end ≡ length front = omega (arith, length-append front end) in
+    rw same (drop-append_seam front end)
+
+-- a text that does not end with these bytes is none that ends with them after others
+pub ends_not : (text end front : List ℕ) → bytes_eq (drop (length text - length end) text) end ≡ false
+    → text ≡ front ++ end → ⊥
+ends_not text end front not is = true≢false (sym ((bytes_eq-Decides (drop (length text - length end) text) end).1
+    (subst (λ (t : List ℕ). drop (length t - length end) t ≡ end) (sym is) (drop_front front end))) ∙ not)
 
 -- what follows the same bytes is the same
 pub same_rest : (front text rest other : List ℕ) → text ≡ front ++ rest → text ≡ front ++ other → rest ≡ other

@@ -1,11 +1,9 @@
 -- The settings that no repository can change, one after the other.
-use Rattle.std.proofs.Common.{◌≡◌, ◌<◌, ◌+◌, ◌-◌, ◌++◌, ◌∷◌, ◌||◌, ◌==◌, [], ℕ, Bool, List, Ok, inl, inr, true, false, if◌then◌else◌, map, take, drop, length, slice_index_or, arith, codes, sym}
-use Rattle.std.proofs.Math.Seq.{drop-append_seam}
-use Rattle.std.proofs.lemmas.List.{map-append, take_more, length-append}
+use Rattle.std.proofs.Common.{◌≡◌, ◌<◌, ◌+◌, ◌-◌, ◌++◌, ◌∷◌, ◌||◌, ◌==◌, [], ℕ, Bool, List, Ok, inl, inr, true, false, if◌then◌else◌, map, take, drop, length, slice_index_or, codes, sym}
+use Rattle.std.proofs.lemmas.List.{map-append, take_more}
 use Rattle.std.proofs.lemmas.List.Elements.{All-nil}
 use Rattle.config_file.specs.Reading.Adds.{Within}
 use Rattle.config_file.specs.Settings.{AreListed}
-use Rattle.config_file.specs.Walk.{Content}
 use Rattle.config_file.specs.declared.settings.Setting.{Setting}
 use Rattle.config_file.specs.declared.walk.Known.{Known}
 use Rattle.config_file.proofs.OneAddition.{walk_keeps_listed}
@@ -16,11 +14,7 @@ use Rattle.config_search.specs.Protected.{Holds, AddsText, AddsFile, AreIn, no_f
 use Rattle.config_search.specs.Shown.{MayHold, file_of}
 use Rattle.config_search.specs.declared.answer.Named.{Named}
 use Rattle.config_search.specs.declared.fact.Fact.{Fact}
-
-drop_front : (front name : List ℕ) → drop (length (front ++ name) - length name) (front ++ name) ≡ name
-drop_front front name =
-    let same : length (front ++ name) - length name ≡ length front = omega (arith, length-append front name) in
-    rw same (drop-append_seam front name)
+use Rattle.config_search.proofs.Names.{drop_front}
 
 end_by : (is_whole ends : Bool) (folder name : List ℕ)
     → let whole = if is_whole then name else (if ends then folder ++ name else folder ++ codes "/" ++ name) in

@@ -1,15 +1,14 @@
 -- What an answer tells of a system.
 --
 -- Look for: an answer that uses a repository uses the one that the rule finds, and only if Git trusts it; one is refused
--- for its owner only if it is not the user's own. Which formats Git knows, at which texts it stops and where the top of a
--- work tree is are not stated here, but tested: such an answer says only that a git directory is there.
+-- for its owner only if Git does not. Which formats Git knows, at which texts it stops and where the top of a work tree
+-- is are not stated here, but tested: such an answer says only that a git directory is there.
 use Rattle.std.specs.Prelude.{◌≡◌, ◌⊎◌, ℕ, List, [], Option, None, Some, codes, map}
 use Rattle.config_search.specs.System.{System}
 use Rattle.config_search.specs.Rule.{GitDir, IsBare, Common, Own, Linked, Broken, or_itself, resolved, common_of}
 use Rattle.config_search.specs.Search.{Sought, Nowhere, Inside, Refused, OnlySeeks, path_of, start_of}
 use Rattle.config_search.specs.Files.{File, AreOnlyFiles, of_repository_in}
-use Rattle.config_search.specs.Owner.{IsOwn}
-use Rattle.config_search.specs.Trust.{IsTrusted}
+use Rattle.config_search.specs.Trust.{IsTrusted, IsUntrusted}
 use Rattle.config_search.specs.Shown.{file_of}
 use Rattle.config_search.specs.declared.answer.Answer.{Answer}
 use Rattle.config_search.specs.declared.answer.Outcome.{Outcome}
@@ -63,37 +62,40 @@ IsBareThere Nowhere = ⊥
 IsBareThere (Inside folder it) = it.form ≡ IsBare
 IsBareThere (Refused text) = ⊥
 
--- a git directory is there that is not the user's own
-abbrev pub IsOfOther : System → Sought → Type 0
-IsOfOther system Nowhere = ⊥
-IsOfOther system (Inside folder it) = ¬ (IsOwn system folder it)
-IsOfOther system (Refused text) = ⊥
+-- a git directory is there that Git does not trust
+abbrev pub IsOfOther : System → List ℕ → Sought → Type 0
+IsOfOther system start Nowhere = ⊥
+IsOfOther system start (Inside folder it) = IsUntrusted system start folder it
+IsOfOther system start (Refused text) = ⊥
 
-abbrev pub RefusesIt : System → Sought → Refusal → Type 0
-RefusesIt system sought (OfVariable text) = sought ≡ Refused text.items
-RefusesIt system sought (Version version) = IsThere sought
-RefusesIt system sought (Extension name) = IsThere sought
-RefusesIt system sought (ExtensionOfLater name) = IsThere sought
-RefusesIt system sought (Owner folder) = IsOfOther system sought
-RefusesIt system sought (Bare folder) = IsBareThere sought
+abbrev pub RefusesIt : System → List ℕ → Sought → Refusal → Type 0
+RefusesIt system start sought (OfVariable text) = sought ≡ Refused text.items
+RefusesIt system start sought (Version version) = IsThere sought
+RefusesIt system start sought (Extension name) = IsThere sought
+RefusesIt system start sought (ExtensionOfLater name) = IsThere sought
+RefusesIt system start sought (Owner folder) = IsOfOther system start sought
+RefusesIt system start sought (Bare folder) = IsBareThere sought
 
 -- a git directory that is there is refused for this
 abbrev pub IsOfOneThere : Refusal → Type 0
-IsOfOneThere refusal = (system : System) (sought : Sought) → IsThere sought → RefusesIt system sought refusal
+IsOfOneThere refusal = (system : System) (start : List ℕ) (sought : Sought) → IsThere sought
+    → RefusesIt system start sought refusal
 
 -- one that is a folder itself is refused for that
 abbrev pub IsOfBareOne : Refusal → Type 0
-IsOfBareOne refusal = (system : System) (sought : Sought) → IsBareThere sought → RefusesIt system sought refusal
+IsOfBareOne refusal = (system : System) (start : List ℕ) (sought : Sought) → IsBareThere sought
+    → RefusesIt system start sought refusal
 
--- one that is not the user's own is refused for that
+-- one that Git does not trust is refused for that
 abbrev pub IsOfOtherOne : Refusal → Type 0
-IsOfOtherOne refusal = (system : System) (sought : Sought) → IsOfOther system sought → RefusesIt system sought refusal
+IsOfOtherOne refusal = (system : System) (start : List ℕ) (sought : Sought) → IsOfOther system start sought
+    → RefusesIt system start sought refusal
 
 -- what Git does with what it finds where it starts in a folder
 abbrev pub Tells : System → List ℕ → Sought → Outcome → Type 0
 Tells system start sought (Uses repository) = UsesIt system start sought repository
 Tells system start sought FindsNone = sought ≡ Nowhere
-Tells system start sought (Refuses refusal) = RefusesIt system sought refusal
+Tells system start sought (Refuses refusal) = RefusesIt system start sought refusal
 Tells system start sought (Stops fault) = Unit {0}
 
 -- the files of the repository that is used, if one is

@@ -1,5 +1,5 @@
 -- What the rule says of the values of the program.
-use Rattle.std.specs.Prelude.{◌≡◌, ◌⊎◌, ℕ, Bool, true, false, List, [], IfSome, MatchBool, codes, map, option_copied}
+use Rattle.std.specs.Prelude.{◌≡◌, ◌<◌, ◌≤◌, ◌⊎◌, ℕ, Bool, true, false, List, [], IfSome, MatchBool, codes, length, map, option_copied}
 use Rattle.config_file.specs.Key.{Key, HasKey}
 use Rattle.config_file.specs.Settings.{path_bytes}
 use Rattle.config_file.specs.Views.{entry_of}
@@ -10,7 +10,7 @@ use Rattle.config_search.specs.Names.{opened}
 use Rattle.config_search.specs.Questions.{IsNeeded, MayName}
 use Rattle.config_search.specs.declared.fact.Fact.{Fact}
 use Rattle.config_search.specs.declared.fact.Stop.{Stop}
-use Rattle.config_search.specs.declared.fact.Stop.TheVariants.{Ask, Memory}
+use Rattle.config_search.specs.declared.fact.Stop.TheVariants.{Ask, TooManyFacts, Memory}
 use Rattle.config_search.specs.declared.halt.Halt.{Halt}
 use Rattle.config_search.specs.declared.halt.Halt.TheVariants.{Stopped, Fault}
 use Rattle.config_search.specs.Rule as rule
@@ -18,7 +18,7 @@ use Rattle.config_search.specs.Search as search
 use Rattle.config_search.specs.Files.{File, AreFiles}
 use Rattle.config_search.specs.Protected.{Holds, IsOfCommand}
 use Rattle.config_search.specs.Trust.{NamesFolder}
-use Rattle.config_search.specs.declared.TheConstants.{DEVICE}
+use Rattle.config_search.specs.declared.TheConstants.{DEVICE, MOST_FACTS}
 use Rattle.config_search.specs.declared.answer.Named.{Named}
 use Rattle.config_search.specs.declared.protected.Sources.{Sources}
 use Rattle.config_search.specs.declared.seek.Found.{Found}
@@ -31,10 +31,11 @@ use Rattle.config_search.specs.declared.seek.Form.TheVariants.{Given, Below, Bar
 use Rattle.config_search.specs.declared.seek.GitDir.{GitDir}
 use Rattle.config_search.specs.declared.git_dir.Common.TheVariants.{Own, Linked, Broken}
 
--- a question that stops a search in a folder is one that it needs, and that no fact answers
+-- a question that stops a search in a folder is one that it needs, that no fact answers, and for which there is room
 abbrev pub IsNew : List ℕ → List Fact → Stop → Type 0
 IsNew folder facts (Ask question) = IsOpen facts question.subject question.name.items
-    × IsNeeded folder facts question.subject question.name.items
+    × IsNeeded folder facts question.subject question.name.items × (length facts < MOST_FACTS)
+IsNew folder facts TooManyFacts = MOST_FACTS ≤ length facts
 IsNew folder facts (Memory error) = Unit {0}
 
 -- a file that the program names

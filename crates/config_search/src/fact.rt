@@ -8,6 +8,7 @@ ghost use Rattle.config_search.specs.Names.{inside};
 ghost use Rattle.config_search.specs.Rule as rule;
 ghost use Rattle.config_search.specs.declared.fact.Stop.TheVariants.{Memory};
 
+use crate::MOST_FACTS;
 use crate::name::{inside, is_inside};
 use std::alloc::{AllocError, Global};
 use std::cell::Cell;
@@ -41,6 +42,8 @@ pub struct Question {
 pub enum Stop {
     /// It needs the answer to this question, which no fact gives.
     Ask(Question),
+    /// It needs one more answer, and there are [`MOST_FACTS`](crate::MOST_FACTS) facts or more.
+    TooManyFacts,
     /// Memory is refused.
     Memory(AllocError),
 }
@@ -130,6 +133,7 @@ pub(crate) fn fact_in<'t>(
 {
     match fact_of(asked, subject, folder, name) {
         Some(fact) => Ok(fact),
+        None if asked.facts.len() >= MOST_FACTS => Err(Stop::TooManyFacts),
         None => {
             let name = inside(asked.alloc, folder, name)?;
             Err(Stop::Ask(Question { subject, name }))

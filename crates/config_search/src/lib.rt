@@ -3,7 +3,8 @@
 //! [`search`] takes a folder and a table of [`Fact`]s, each of which answers a question, and ends with an
 //! [`Answer`]: where Git works, the repository that it uses or why it uses none, and the files that it reads. If it
 //! needs what no fact tells, it stops with that question as [`Stop::Ask`]. The caller adds the fact and searches
-//! again, until no question is left. It answers each question once, and may also tell what was not asked yet.
+//! again, until no question is left. It answers each question once, and may also tell what was not asked yet. Such a
+//! loop ends: a search that has [`MOST_FACTS`] facts asks nothing more.
 //!
 //! A [`Question`] has a subject, one of the numbers below, and a name. Its answer is a text, or none, if the system has
 //! no answer. The name of a file that does not begin with `/` begins in the current folder of the caller. A caller
@@ -49,6 +50,10 @@ mod start;
 pub use crate::answer::{Answer, Fault, FaultKind, Named, Outcome, Refusal, Repository};
 pub use crate::fact::{Fact, Question, Stop};
 pub use crate::place::search;
+
+/// The number of facts from which on a search asks nothing: it stops as [`Stop::TooManyFacts`] instead. A folder below
+/// 300 others takes about 900, and each file that is included one.
+pub const MOST_FACTS: usize = 262_144;
 
 /// Asks for the value of a variable.
 pub const VARIABLE: u32 = 1;

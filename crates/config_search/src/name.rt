@@ -54,7 +54,8 @@ pub(crate) fn after<'a>(front: &[u8], text: &'a [u8]) -> Option<&'a [u8]>
 
 /// What precedes these bytes in a text, or `None` if it does not end with them.
 pub(crate) fn before<'a>(end: &[u8], text: &'a [u8]) -> Option<&'a [u8]>
-    ensures { IfSome result (λ front. text.now ≡ front.now ++ end.now) }
+    ensures { MatchOption result ((front : List ℕ) → text.now ≢ front ++ end.now)
+        (λ front. text.now ≡ front.now ++ end.now) }
 {
     let (front, back) = text.split_at(text.len().saturating_sub(end.len()));
     if back == end { Some(front) } else { None }

@@ -1,5 +1,5 @@
 //! Which repositories Git trusts: those of the same owner, and those that settings name which no repository can change.
-ghost use Rattle.std.specs.Prelude.{◌≡◌, ◌≤◌, ◌⊎◌, ◌++◌, ℕ, List, Some, true, codes, length, IfErr, IfOk, IfSome, MatchBool, MatchOption, MatchResult, map};
+ghost use Rattle.std.specs.Prelude.{◌≡◌, ◌≢◌, ◌≤◌, ◌⊎◌, ◌++◌, ℕ, List, [], true, codes, length, Decides, IfErr, IfOk, IfSome, MatchBool, MatchOption, MatchResult, map};
 ghost use Rattle.std.specs.List.{prefix_len};
 ghost use Rattle.config_file.specs.Listing.{IsListed};
 ghost use Rattle.config_file.specs.Settings.{AreListed, path_bytes};
@@ -12,7 +12,6 @@ ghost use Rattle.config_search.specs.Search.{Inside};
 ghost use Rattle.config_search.specs.Owner as rule;
 ghost use Rattle.config_search.specs.Protected.{AreProtected};
 ghost use Rattle.config_search.specs.Trust as trust;
-ghost use Rattle.config_search.specs.declared.TheConstants.{REAL};
 ghost use Rattle.config_search.specs.Answers.{IsOfBareOne, IsOfOtherOne, RefusesIt};
 ghost use Rattle.config_search.specs.Shown.{AsksNothing, IsNew, IsNewHalt, IsSafeAfter, form_of, git_dir_of};
 ghost use Rattle.config_file.specs.KeyView.{key_of};
@@ -116,7 +115,8 @@ fn first_length(name: &[u8]) -> usize
 fn of_user(asked: &Asked<'_, '_>, value: &[u8]) -> Result<Option<Vec<u8>>, Stop>
     ensures { MatchResult result
         (λ found. (system : System) → AreTrueIn system asked.now.facts.now
-        → IfSome found (λ path. trust.Spells system value.now path.items))
+        → MatchOption found ((path : List ℕ) → ¬ (trust.SpellsOther system value.now path))
+        (λ path. trust.SpellsOther system value.now path.items))
         (IsNew asked.now.folder.now asked.now.facts.now) }
 {
     let Some(rest) = after(b"~", value) else {
@@ -136,7 +136,8 @@ fn of_user(asked: &Asked<'_, '_>, value: &[u8]) -> Result<Option<Vec<u8>>, Stop>
 fn spelled(asked: &Asked<'_, '_>, value: &[u8]) -> Result<Option<Vec<u8>>, Stop>
     ensures { MatchResult result
         (λ found. (system : System) → AreTrueIn system asked.now.facts.now
-        → IfSome found (λ path. trust.Spells system value.now path.items))
+        → MatchOption found ((path : List ℕ) → ¬ (trust.Spells system value.now path))
+        (λ path. trust.Spells system value.now path.items))
         (IsNew asked.now.folder.now asked.now.facts.now) }
 {
     let directories = Directories {
@@ -151,7 +152,8 @@ fn spelled(asked: &Asked<'_, '_>, value: &[u8]) -> Result<Option<Vec<u8>>, Stop>
 
 /// A name without one slash at its end.
 fn without_slash(name: &[u8]) -> &[u8]
-    ensures { (name.now ≡ result.now) ⊎ (name.now ≡ result.now ++ codes "/") }
+    ensures { (name.now ≡ result.now ++ codes "/")
+        ⊎ (((front : List ℕ) → name.now ≢ front ++ codes "/") × (name.now ≡ result.now)) }
 {
     match before(b"/", name) {
         Some(front) => front,
@@ -161,7 +163,7 @@ fn without_slash(name: &[u8]) -> &[u8]
 
 /// Whether the folder is below another one.
 fn is_below(top: &[u8], folder: &[u8]) -> bool
-    ensures { result ≡ true → trust.IsBelow top.now folder.now }
+    ensures { Decides result (trust.IsBelow top.now folder.now) }
 {
     let Some(rest) = after(without_slash(top), folder) else {
         return false;
@@ -175,8 +177,8 @@ fn is_below(top: &[u8], folder: &[u8]) -> bool
 /// Whether the folder is below the one of this name, of which an empty one is the root.
 fn is_above(asked: &Asked<'_, '_>, name: &[u8], folder: &[u8]) -> Result<bool, Stop>
     ensures { MatchResult result
-        (λ is. (system : System) → AreTrueIn system asked.now.facts.now → is ≡ true
-        → (top : List ℕ) × (system REAL (trust.or_root name.now) ≡ Some top) × trust.IsBelow top folder.now)
+        (λ is. (system : System) → AreTrueIn system asked.now.facts.now
+        → Decides is (trust.IsAbove system name.now folder.now))
         (IsNew asked.now.folder.now asked.now.facts.now) }
 {
     let above = if name.is_empty() { b"/" } else { name };
@@ -189,8 +191,8 @@ fn is_above(asked: &Asked<'_, '_>, name: &[u8], folder: &[u8]) -> Result<bool, S
 /// Whether a path from the root is that of a folder, or is one above it that ends with `/*`.
 fn covers(asked: &Asked<'_, '_>, path: &[u8], folder: &[u8]) -> Result<bool, Stop>
     ensures { MatchResult result
-        (λ is. (system : System) → AreTrueIn system asked.now.facts.now → is ≡ true
-        → trust.Covers system path.now folder.now)
+        (λ is. (system : System) → AreTrueIn system asked.now.facts.now
+        → Decides is (trust.Covers system path.now folder.now))
         (IsNew asked.now.folder.now asked.now.facts.now) }
 {
     if let Some(above) = before(b"/*", path) {
@@ -211,8 +213,8 @@ fn names_folder(
     folder: &[u8],
 ) -> Result<bool, Stop>
     ensures { MatchResult result
-        (λ is. (system : System) → AreTrueIn system asked.now.facts.now → is ≡ true
-        → trust.NamesFolder system start.now value.now folder.now)
+        (λ is. (system : System) → AreTrueIn system asked.now.facts.now
+        → Decides is (trust.NamesFolder system start.now value.now folder.now))
         (IsNew asked.now.folder.now asked.now.facts.now) }
 {
     if value == b"*".as_slice() {
@@ -241,6 +243,13 @@ fn text_of<'s>(setting: &'s Setting<'_>) -> &'s [u8]
     }
 }
 
+/// Whether a folder was safe and stays so at a value, since that is not empty.
+fn stays_safe(was_safe: bool, value: &[u8]) -> bool
+    ensures { Decides result ((was_safe ≡ true) × (value.now ≢ [])) }
+{
+    was_safe && !value.is_empty()
+}
+
 /// Whether a folder is safe after a setting, before which it was or not. An empty value of this key takes back those
 /// before it.
 fn is_safe_after(
@@ -254,14 +263,14 @@ fn is_safe_after(
     ensures asks { IfErr result (IsNew asked.now.folder.now asked.now.facts.now) }
     ensures safe { (text : List ℕ)
         → IsListed (entry_of setting.now.entry).section (entry_of setting.now.entry).key text → IfOk result
-        (λ is. (system : System) → AreTrueIn system asked.now.facts.now → is ≡ true
-        → IsSafeAfter system start.now folder.now (key_of key.now) setting.now was_safe) }
+        (λ is. (system : System) → AreTrueIn system asked.now.facts.now
+        → Decides is (IsSafeAfter system start.now folder.now (key_of key.now) setting.now was_safe)) }
 {
     if !key.is_of(&setting.entry) {
         return Ok(was_safe);
     }
     let value = text_of(setting);
-    if was_safe && !value.is_empty() {
+    if stays_safe(was_safe, value) {
         return Ok(true);
     }
     Ok(names_folder(asked, start, value, folder)?)
@@ -277,8 +286,8 @@ fn name_as_safe(
 ) -> Result<bool, Stop>
     ensures asks { IfErr result (IsNew asked.now.folder.now asked.now.facts.now) }
     ensures safe { AreListed settings.now → IfOk result
-        (λ are. (system : System) → AreTrueIn system asked.now.facts.now → are ≡ true
-        → trust.AreSafe system start.now folder.now (key_of key.now) settings.now) }
+        (λ are. (system : System) → AreTrueIn system asked.now.facts.now
+        → Decides are (trust.AreSafe system start.now folder.now (key_of key.now) settings.now)) }
 {
     let mut are_safe = false;
     for setting in settings {
@@ -296,8 +305,8 @@ fn say_safe(
 ) -> Result<bool, Stop>
     ensures asks { IfErr result (IsNew asked.now.folder.now asked.now.facts.now) }
     ensures safe { AreListed settings.now → IfOk result
-        (λ say. (system : System) → AreTrueIn system asked.now.facts.now → say ≡ true
-        → trust.SaysSafe system start.now folder.now settings.now) }
+        (λ say. (system : System) → AreTrueIn system asked.now.facts.now
+        → Decides say (trust.SaysSafe system start.now folder.now settings.now)) }
 {
     let Ok(key) = Key::parse(b"safe.directory") else {
         return Ok(false);
@@ -308,9 +317,9 @@ fn say_safe(
 /// Whether the settings that no repository can change say that this folder is safe.
 fn is_safe(asked: &Asked<'_, '_>, start: &[u8], folder: &[u8]) -> Result<bool, Halt>
     ensures { MatchResult result
-        (λ is. (system : System) → AreTrueIn system asked.now.facts.now → is ≡ true
+        (λ is. (system : System) → AreTrueIn system asked.now.facts.now
         → (settings : List SettingOf) × AreProtected system start.now settings
-        × trust.SaysSafe system start.now folder.now settings)
+        × Decides is (trust.SaysSafe system start.now folder.now settings))
         (IsNewHalt asked.now.folder.now asked.now.facts.now) }
 {
     let sources = sources_of(asked)?;
@@ -385,7 +394,8 @@ fn refuses_owner(
 ) -> Result<Option<Refusal>, Halt>
     ensures { MatchResult result
         (λ refusal. (system : System) → AreTrueIn system asked.now.facts.now
-        → MatchOption refusal (trust.IsSafe system start.now folder.entry.name.now) IsOfOtherOne)
+        → MatchOption refusal (trust.IsSafe system start.now folder.entry.name.now)
+        (λ r. trust.IsUnsafe system start.now folder.entry.name.now × IsOfOtherOne r))
         (IsNewHalt asked.now.folder.now asked.now.facts.now) }
 {
     let Some(real) = told(asked, REAL, opened(folder.name))? else {
@@ -410,7 +420,7 @@ pub(crate) fn refuses(
         (λ refusal. (system : System) → AreTrueIn system asked.now.facts.now
         → MatchOption refusal
         (trust.IsTrusted system start.now folder.entry.name.now (git_dir_of git_dir.now))
-        (RefusesIt system (Inside folder.entry.name.now (git_dir_of git_dir.now))))
+        (RefusesIt system start.now (Inside folder.entry.name.now (git_dir_of git_dir.now))))
         (IsNewHalt asked.now.folder.now asked.now.facts.now) }
 {
     match git_dir.form {

@@ -81,7 +81,7 @@ impl<'t> Files<'t> for Included<'_, '_, 't> {
         }
         match self.content(name) {
             Ok(content) => Ok(content),
-            Err(Stop::Ask(_)) => Ok(Content::Unreadable("")),
+            Err(Stop::Ask(_) | Stop::TooManyFacts) => Ok(Content::Unreadable("")),
             Err(Stop::Memory(error)) => Err(error),
         }
     }

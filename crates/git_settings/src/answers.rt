@@ -12,7 +12,7 @@ use config_host::text::Text;
 use config_url::{Url, last_for_url};
 use gix_config_value::canonical::{Kind, TryRead};
 use gix_config_value::{Boolean, Color};
-use std::alloc::AllocError;
+use std::alloc::{AllocError, Global};
 use std::cmp::Ordering;
 use std::io::IsTerminal;
 
@@ -50,6 +50,59 @@ fn put_plain_key(key: &mut Text, section: &str, name: &[u8]) {
     }
 }
 
+/// The URL for which settings are asked for, of a section or of a key.
+#[derive(Drop)]
+pub struct ForUrl<'r> {
+    section: &'r str,
+    url: Url,
+}
+
+impl<'r> ForUrl<'r> {
+    /// What is asked about this URL, or `None` if Git compares none like it. The text is a section, or a key.
+    pub fn new(alloc: Global, text: &'r str, url: &str) -> Result<Option<ForUrl<'r>>, AllocError> {
+        let (section, _) = section_and_name(text);
+        match Url::parse(alloc, url.as_bytes())? {
+            Some(url) => Ok(Some(ForUrl { section, url })),
+            None => Ok(None),
+        }
+    }
+
+    /// The setting of these of one name that decides for the URL, with the key under which it is told.
+    fn decided<'s, 't>(
+        &self,
+        alloc: Global,
+        group: &'s Settings<'t>,
+    ) -> Result<Option<(&'s Setting<'t>, Vec<u8>)>, AllocError> {
+        let Some(first) = group.entries.first() else {
+            return Ok(None);
+        };
+        let mut text = Text::new(alloc);
+        put_plain_key(&mut text, self.section, first.entry.key);
+        let text = text.end()?;
+        let Ok(key) = Key::parse(&text) else {
+            return Ok(None);
+        };
+        match last_for_url(alloc, group, &key, &self.url)? {
+            Some(setting) => Ok(Some((setting, text))),
+            None => Ok(None),
+        }
+    }
+
+    /// The setting, if it is of the URL.
+    pub fn of_url<'t>(
+        &self,
+        alloc: Global,
+        setting: Setting<'t>,
+    ) -> Result<Option<Setting<'t>>, AllocError> {
+        let mut alone = Settings::new(alloc);
+        add(&mut alone, setting)?;
+        if self.decided(alloc, &alone)?.is_none() {
+            return Ok(None);
+        }
+        Ok(alone.entries.pop())
+    }
+}
+
 /// Whether the run goes on after a setting that has no value of its type. As in Git, it ends at others.
 fn is_passed_over(shown: Shown, setting: &Setting<'_>) -> bool {
     match shown {
@@ -61,22 +114,21 @@ fn is_passed_over(shown: Shown, setting: &Setting<'_>) -> bool {
 
 impl<'t> Reading<'_, 't> {
     /// Appends the settings that decide for a URL: of a section the one of each name, in the order of names.
-    pub fn answer_url(&mut self, text: &str, url: &str) -> Result<Ending, HostError> {
-        let Some(url) = Url::parse(self.rt.alloc(), url.as_bytes())? else {
+    pub fn answer_url(&mut self, url: &str) -> Result<Ending, HostError> {
+        let Some(wanted) = self.found.for_url.take() else {
             tell(
                 self.rt,
                 &[b"fatal: no URL that Git compares: ", url.as_bytes()],
             );
             return Ok(Ending::Refused);
         };
-        let (section, _) = section_and_name(text);
         let mut found = self.taken();
         found.sort_by(order_of_names)?;
         let mut group = Settings::new(self.rt.alloc());
         let mut ending = Ending::Absent;
         for setting in found {
             if is_of_other(&group, &setting) {
-                ending = self.answer_group(ending, section, &group, &url)?;
+                ending = self.answer_group(ending, &wanted, &group)?;
                 group = Settings::new(self.rt.alloc());
             }
             if matches!(ending, Ending::Refused) {
@@ -84,7 +136,7 @@ impl<'t> Reading<'_, 't> {
             }
             add(&mut group, setting)?;
         }
-        self.answer_group(ending, section, &group, &url)
+        self.answer_group(ending, &wanted, &group)
     }
 
     /// Appends the one of these settings of a name that decides for a URL, if one does. Returns how the run
@@ -92,21 +144,11 @@ impl<'t> Reading<'_, 't> {
     fn answer_group(
         &mut self,
         ending: Ending,
-        section: &str,
+        wanted: &ForUrl<'_>,
         group: &Settings<'t>,
-        url: &Url,
     ) -> Result<Ending, HostError> {
-        let mut text = Text::new(self.rt.alloc());
-        match group.entries.first() {
-            Some(first) => put_plain_key(&mut text, section, first.entry.key),
-            None => return Ok(ending),
-        }
-        let text = text.so_far()?;
-        let Ok(key) = Key::parse(text) else {
-            return Ok(ending);
-        };
-        match last_for_url(self.rt.alloc(), group, &key, url)? {
-            Some(setting) => self.answer_for_url(setting, text),
+        match wanted.decided(self.rt.alloc(), group)? {
+            Some((setting, key)) => self.answer_for_url(setting, &key),
             None => Ok(ending),
         }
     }

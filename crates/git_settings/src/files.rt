@@ -1,6 +1,7 @@
 //! Lists the entries of texts, or prints values of them.
 ghost use Rattle.std.specs.Prelude.{⊤};
 
+use crate::answers::ForUrl;
 use crate::output::{Ending, Name, form_of};
 use crate::request::{Request, Subject, Texts};
 use crate::shown::{Outcome, Shown, System, Values, Wrong, homes_of, tell_wrong};
@@ -12,6 +13,7 @@ use config_answers::choice::Choice;
 use config_answers::read::{Receiver, Stopped, Text};
 use config_file::{Key, Scope, Setting};
 use config_host::{HereError, HostError};
+use std::alloc::AllocError;
 use std::io::{self, Write};
 use std::mem;
 
@@ -20,22 +22,35 @@ const ROOM: usize = 65536;
 
 /// What gets the settings that are asked for, and what is to be written of them.
 #[derive(Drop)]
-pub struct Found<'t> {
+pub struct Found<'r, 't> {
     /// How values are shown, by the system.
     pub values: Values<'t, System<'t>>,
     /// Whether settings are listed at once.
     lists: bool,
-    /// The settings that are kept, if they are not.
+    /// The URL of which they have to be, if one is asked for.
+    pub for_url: Option<ForUrl<'r>>,
+    /// The settings that are kept, if they are not listed.
     settings: Vec<Setting<'t>>,
     /// How many settings were received.
     received: usize,
     /// How many of them this reading has come to.
     passed: usize,
     /// What is still to be written.
-    pub writer: Writer,
+    pub writer: Writer<'t>,
 }
 
-impl<'t> Found<'t> {
+impl<'t> Found<'_, 't> {
+    /// Keeps a setting, if it is of the URL that is asked for.
+    fn keep(&mut self, setting: Setting<'t>) -> io::Result<()> {
+        let Some(wanted) = &self.for_url else {
+            return Ok(self.settings.push(setting)?);
+        };
+        match wanted.of_url(self.values.host.0.alloc(), setting)? {
+            Some(setting) => Ok(self.settings.push(setting)?),
+            None => Ok(()),
+        }
+    }
+
     /// Appends a setting, as it is listed under this key.
     pub fn put(&mut self, setting: &Setting<'_>, key: &[u8]) -> io::Result<Outcome> {
         let place = self.writer.unfiled.place(setting);
@@ -63,10 +78,11 @@ impl<'t> Found<'t> {
     }
 }
 
-impl<'t> Receiver<'t> for Found<'t> {
+impl<'t> Receiver<'t> for Found<'_, 't> {
     ghost receives = { λ _ _ _. ⊤ };
 
     /// Lists a setting, or keeps it, once. As in Git, a list leaves out what is none of its type.
+    #[inline(always)]
     fn receive(&mut self, setting: Setting<'t>) -> io::Result<()> {
         self.passed = self.passed.saturating_add(1);
         if self.passed <= self.received {
@@ -74,7 +90,7 @@ impl<'t> Receiver<'t> for Found<'t> {
         }
         self.received = self.passed;
         if !self.lists {
-            return Ok(self.settings.push(setting)?);
+            return self.keep(setting);
         }
         self.writer.put_setting(&self.values, &setting)?;
         if self.writer.output.len() >= ROOM {
@@ -92,7 +108,7 @@ pub struct Reading<'r, 't> {
     /// What is asked.
     pub request: &'r Request<'r>,
     /// What is found.
-    pub found: Found<'t>,
+    pub found: Found<'r, 't>,
 }
 
 /// Reads the texts that are opened, up to where Git stops, which is told. Returns `None` if it is not known what a
@@ -101,7 +117,7 @@ fn read_all<'t>(
     rt: &HostRuntime,
     opened: &Opened<'t>,
     choice: &mut Choice<'_, '_>,
-    found: &mut Found<'t>,
+    found: &mut Found<'_, 't>,
 ) -> Result<Option<Ending>, HostError> {
     for source in &opened.sources {
         let files = opened.included(source)?;
@@ -136,7 +152,7 @@ fn read_opened<'t>(
     texts: Texts<'_>,
     opened: &mut Opened<'t>,
     choice: &mut Choice<'_, '_>,
-    found: &mut Found<'t>,
+    found: &mut Found<'_, 't>,
 ) -> Result<Ending, HereError<'t>> {
     if let Some(ending) = read_all(rt, opened, choice, found)? {
         return Ok(ending);
@@ -196,11 +212,41 @@ impl<'t> Reading<'_, 't> {
         match self.request.chosen.subject {
             Subject::Entries => Ok(Ending::Done),
             Subject::Key(key) | Subject::Pattern(key) => self.answer_key(key),
-            Subject::Url(name, url) => self.answer_url(name, url),
+            Subject::Url(_, url) => self.answer_url(url),
             Subject::Color(_) => self.answer_color(),
             Subject::UsesColor(key, said) => self.answer_use(key, said),
         }
     }
+}
+
+/// What is found before the texts that are opened are read.
+fn nothing_found<'r, 't>(
+    rt: &'t HostRuntime,
+    request: &Request<'r>,
+    opened: &Opened<'t>,
+) -> Result<Found<'r, 't>, AllocError> {
+    let alloc = rt.alloc();
+    let shown = if request.shows_values {
+        request.shown
+    } else {
+        Shown::Text
+    };
+    Ok(Found {
+        values: Values {
+            host: System(rt),
+            homes: homes_of(&opened.disk, shown)?,
+            shown,
+        },
+        lists: request.lists(),
+        for_url: match request.chosen.subject {
+            Subject::Url(text, url) => ForUrl::new(alloc, text, url)?,
+            _ => None,
+        },
+        settings: Vec::new(alloc),
+        received: 0,
+        passed: 0,
+        writer: Writer::new(alloc, form_of(request), unfiled(&opened.sources)),
+    })
 }
 
 /// Answers the request for the chosen entries. The texts of the files are kept in `texts`. If a file is not
@@ -216,23 +262,7 @@ fn answer_in<'r, 't>(
     let Some(mut opened) = open_texts(rt, texts, request, commands)? else {
         return Ok(Ending::Refused);
     };
-    let shown = if request.shows_values {
-        request.shown
-    } else {
-        Shown::Text
-    };
-    let mut found = Found {
-        values: Values {
-            host: System(rt),
-            homes: homes_of(&opened.disk, shown)?,
-            shown,
-        },
-        lists: request.lists(),
-        settings: Vec::new(rt.alloc()),
-        received: 0,
-        passed: 0,
-        writer: Writer::new(rt.alloc(), form_of(request), unfiled(&opened.sources)),
-    };
+    let mut found = nothing_found(rt, request, &opened)?;
     let mut ending = read_opened(rt, request.texts, &mut opened, &mut choice, &mut found)?;
     let mut reading = Reading { rt, request, found };
     if matches!(ending, Ending::Done) {

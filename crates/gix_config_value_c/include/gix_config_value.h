@@ -81,6 +81,7 @@ typedef GCV_ENUM(gcv_status) {
     GCV_BAD_VALUE = 33, GCV_BAD_SECTION = 34, GCV_SEVERAL = 35,
     GCV_FORBIDDEN_URL = 36, /* the URL of a remote is in a file that is included on a condition */
     GCV_ASKS = 37,          /* a search needs a fact that it was not told */
+    GCV_TOO_MANY_FACTS = 38, /* a search needs one more, and has 262,144 */
     /* only of calls over files: one is not read, and errno says why; the settings of a command include a relative name;
      * another program holds the lock of a file; the lock is not made or the new text not written, and errno says why */
     GCV_NOT_READ = 64, GCV_RELATIVE = 65, GCV_LOCKED = 66, GCV_NOT_WRITTEN = 67,
@@ -378,7 +379,8 @@ GCV_CALL((1, 5)) gcv_command_text(gcv_get_variable *get, void *state, char *GCV_
 
 /* The search for what Git reads in a folder. It opens nothing: its caller tells it facts about the system. gcv_search
  * returns GCV_ASKS if it needs a fact that is not there, and `out->subject` and `out->name` say which. The caller adds
- * it and calls again with all facts, until there is another status. It may also tell facts that were not asked for.
+ * it and calls again with all facts, until there is another status. It may also tell facts that were not asked for. A
+ * search that has 262,144 facts asks nothing more, and returns GCV_TOO_MANY_FACTS where it would.
  *
  * A fact has a subject, a name, and a text if `has` is 1; `has` is 0 if the system has no answer. Neither pointer may be
  * null. A name of a file that does not begin with / begins in the caller's current folder. These are the subjects, with

@@ -30,7 +30,7 @@ all_statuses =
     ∷ statuses.TooDeep ∷ statuses.BadDepth ∷ statuses.BadCount ∷ statuses.TooManySettings ∷ statuses.MissingKey
     ∷ statuses.MissingValue ∷ statuses.BadParameters ∷ statuses.NoKey ∷ statuses.EmptyKey ∷ statuses.NoSection
     ∷ statuses.NoKeyName ∷ statuses.BadKey ∷ statuses.KeyLineFeed ∷ statuses.BadValue ∷ statuses.BadSection
-    ∷ statuses.Several ∷ statuses.ForbiddenUrl ∷ statuses.Asks ∷ []
+    ∷ statuses.Several ∷ statuses.ForbiddenUrl ∷ statuses.Asks ∷ statuses.TooManyFacts ∷ []
 
 pub statuses_apart : TellsApart status_number
 statuses_apart = told_apart status_number (λ n. slice_get all_statuses n) again where

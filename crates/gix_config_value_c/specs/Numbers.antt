@@ -61,6 +61,7 @@ status_number statuses.BadSection = 34
 status_number statuses.Several = 35
 status_number statuses.ForbiddenUrl = 36
 status_number statuses.Asks = 37
+status_number statuses.TooManyFacts = 38
 
 -- the number of a role
 abbrev pub role_number : Role → ℕ

@@ -213,6 +213,7 @@ fn search_told(
             told.push(&question.name)?;
             Ok((told, Status::Asks as u32))
         }
+        Err(Stop::TooManyFacts) => Ok((told, Status::TooManyFacts as u32)),
         Err(Stop::Memory(error)) => Err(error),
     }
 }
@@ -220,9 +221,9 @@ fn search_told(
 /// Searches for what Git reads in a folder, by these facts. Puts the texts that it tells at the front of the buffer, and
 /// tells the rest in `out`.
 ///
-/// Returns `Asks` if it needs a fact that is not there: `subject` and `folder` are the question. Returns `ShortBuffer`
-/// if the buffer is shorter than the texts, and then only writes `out`. Returns `NoMemory` if memory is refused, and
-/// then writes nothing.
+/// Returns `Asks` if it needs a fact that is not there: `subject` and `folder` are the question. Returns `TooManyFacts`
+/// if it needs one and has `MOST_FACTS`. Returns `ShortBuffer` if the buffer is shorter than the texts, and then only
+/// writes `out`. Returns `NoMemory` if memory is refused, and then writes nothing.
 #[unsafe(no_mangle)]
 pub extern "C" fn gcv_raw_search(
     alloc: Global,

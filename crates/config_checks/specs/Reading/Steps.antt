@@ -1,6 +1,8 @@
 -- What the steps of a check count, and what is received.
-use Rattle.std.specs.Prelude.{◌≡◌, ◌≢◌, ⊤, ℕ, ◌+◌, ◌^◌, ◌<◌, ◌≤◌, List, [], ◌∷◌, ◌++◌, Option, None, Some, option_map}
-use Rattle.std.specs.Prelude.{Bool, true, false, not, IsTrue, ◌↔◌, IfSome, ◌==◌, ◌*◌, ◌%◌, slice_index_or, All, codes}
+use Rattle.std.specs.Prelude.{◌≡◌, ◌≢◌, ⊤, ℕ, ◌+◌, ◌^◌, ◌<◌, ◌≤◌, List, [], ◌∷◌, ◌++◌, Option, None, Some}
+use Rattle.std.specs.Prelude.{option_map}
+use Rattle.std.specs.Prelude.{Bool, true, false, not, IsTrue, ◌↔◌, IfSome, ◌==◌, ◌*◌, ◌%◌, slice_index_or}
+use Rattle.std.specs.Prelude.{All, codes}
 use Rattle.std.specs.List.{AllZip, list_any, fold}
 use Rattle.std.specs.Char.{to_ascii_lowercase}
 use denote.Ref.{Bor}
@@ -23,7 +25,8 @@ use Rattle.config_checks.specs.declared.suggestion.SectionFacts.{SectionFacts}
 use Rattle.config_checks.specs.declared.row.Run.{Run}
 use Rattle.config_checks.specs.Rows.{rows_of}
 use Rattle.config_checks.specs.Nearest.{FewEdits}
-use Rattle.config_checks.specs.Suggestions.{AreAlike, IsOtherWord, IsPassed, IsUnknownKey, unknown_severity, unknown_text, SectionEdits, HasSection}
+use Rattle.config_checks.specs.Suggestions.{AreAlike, IsOtherWord, IsPassed, IsUnknownKey, unknown_severity}
+use Rattle.config_checks.specs.Suggestions.{unknown_text, SectionEdits, HasSection}
 use Rattle.config_checks.specs.Report.{ReportsSetting, Report, EndsReport, HasSettings, Receives, key_meant}
 
 -- the texts do not begin with the same byte
@@ -64,7 +67,8 @@ pub record HasRoomForFinding (s : Counts) : Type 0 where
   pub warnings : s.warnings + 1 < 2 ^ 64
 
 -- the setting is counted, and its finding is received
-abbrev pub Reports : List Row → Options → Setting → Counts → Counts → Option (List Finding) → Option (List Finding) → Type 0
+abbrev pub Reports : List Row → Options → Setting → Counts → Counts → Option (List Finding)
+    → Option (List Finding) → Type 0
 Reports rows options setting s s' known known' =
     (said : List Finding) × ReportsSetting rows options setting s said s' × Receives known known' said
 
@@ -72,10 +76,12 @@ Reports rows options setting s s' known known' =
 abbrev pub IsSaidAs : List Row → List ℕ → Option (List ℕ) → Option (List ℕ) → Type 0
 IsSaidAs rows key None meant = IsPassed rows key
 IsSaidAs rows key (Some text) meant =
-    (unknown : UnknownKey) × IsUnknownKey rows key unknown × (text ≡ unknown_text unknown) × (meant ≡ key_meant unknown)
+    (unknown : UnknownKey) × IsUnknownKey rows key unknown × (text ≡ unknown_text unknown)
+    × (meant ≡ key_meant unknown)
 
 abbrev pub IsSaid : List Row → Said → Type 0
-IsSaid rows said = IsSaidAs rows said.key.items (option_map (λ t. t.items) said.reason) (option_map (λ t. t.items) said.meant)
+IsSaid rows said = IsSaidAs rows said.key.items (option_map (λ t. t.items) said.reason)
+    (option_map (λ t. t.items) said.meant)
 
 -- the finding about a setting, which this many entries precede, whose key is reported with these texts
 abbrev pub findings_as : (before : ℕ) → Setting → Option (List ℕ) → Option (List ℕ) → List Finding
@@ -96,7 +102,8 @@ findings_as before setting (Some text) meant = record {
 } ∷ []
 
 abbrev pub said_findings : (before : ℕ) → Setting → Said → List Finding
-said_findings before setting said = findings_as before setting (option_map (λ t. t.items) said.reason) (option_map (λ t. t.items) said.meant)
+said_findings before setting said =
+    findings_as before setting (option_map (λ t. t.items) said.reason) (option_map (λ t. t.items) said.meant)
 
 abbrev pub is_some : Option (List ℕ) → Bool
 is_some None = false
@@ -106,17 +113,20 @@ abbrev pub is_reported : Said → Bool
 is_reported said = is_some (option_map (λ t. t.items) said.reason)
 
 -- if the file is refused, its error is received and counted
-abbrev pub ReportsError : List ℕ → Option errors.FileError → Counts → Counts → Option (List Finding) → Option (List Finding) → Type 0
+abbrev pub ReportsError : List ℕ → Option errors.FileError → Counts → Counts → Option (List Finding)
+    → Option (List Finding) → Type 0
 ReportsError file error s s' known known' =
     (last : List Finding) × EndsReport file error s last s' × Receives known known' last
 
 -- the findings of these settings are received
-abbrev pub ReportsAll : List Row → Options → List Setting → Option (List Finding) → Option (List Finding) → Counts → Type 0
+abbrev pub ReportsAll : List Row → Options → List Setting → Option (List Finding) → Option (List Finding)
+    → Counts → Type 0
 ReportsAll rows options settings known known' s =
     (found : List Finding) × Receives known known' found × Report rows options settings found s
 
 -- the findings of the settings of a file are received, up to its end or to this error
-pub record ReportsEntries (rows : List Row) (options : Options) (file text : List ℕ) (known known' : Option (List Finding))
+pub record ReportsEntries (rows : List Row) (options : Options) (file text : List ℕ)
+    (known known' : Option (List Finding))
     (s : Counts) (error : Option errors.FileError) : Type 0 where
   pub settings : List Setting
   pub of_file : HasSettings file text settings error
@@ -125,7 +135,8 @@ pub record ReportsEntries (rows : List Row) (options : Options) (file text : Lis
 -- every other field is one behind which a color stands no more: `color` if the last is where a color belongs
 pub data Turn : (color : Bool) → List (List ℕ) → Type 0 where
   start : Turn false []
-  turn : (color : Bool) (fields : List (List ℕ)) (field : List ℕ) → Turn color fields → Turn (not color) (fields ++ field ∷ [])
+  turn : (color : Bool) (fields : List (List ℕ)) (field : List ℕ) → Turn color fields
+      → Turn (not color) (fields ++ field ∷ [])
 
 -- the number of edits, or `None` if there is no such number of at most three
 abbrev pub IsFew : (ℕ → Type 0) → Option ℕ → Type 0

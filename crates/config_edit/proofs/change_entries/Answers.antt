@@ -15,9 +15,14 @@ pub returns-in-None : goal.returns-in-None
 returns-in-None c =
     let (entries, is_file) = c.in_default.ensures in
     let ends = body_ends is_file c.split_mark.ensures in
-    let out = rw c.in-None.is at (c.in_ok-new.ensures (map content entries) ends) in
-    (all_written c.args.changes.now c.in_ok-check_changes.ensures, map content entries, text_of c.split_mark.ensures ends, out)
+    let out = rw c.in-None.is at (c.in_ok-new.ensures (map content entries) ends) in (
+      all_written c.args.changes.now c.in_ok-check_changes.ensures,
+      map content entries,
+      text_of c.split_mark.ensures ends,
+      out,
+    )
 
 pub returns-in-Err : goal.returns-in-Err
 returns-in-Err c =
-    change_refused c.args.changes.now c.args.text.now _ (all_written c.args.changes.now c.in_ok-check_changes.ensures) c.in-Err.ensures
+    change_refused c.args.changes.now c.args.text.now _
+    (all_written c.args.changes.now c.in_ok-check_changes.ensures) c.in-Err.ensures

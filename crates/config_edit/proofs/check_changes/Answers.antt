@@ -10,7 +10,8 @@ changes-preserved c =
     let changes = c.args.changes.now in
     let index = c.changes.index in
     rw (take_more index changes c.in-Some.change.now c.in-Some.ensures.0)
-    (all_appended IsWritable (take index changes) (c.in-Some.change.now ∷ []) c.changes.invariant (c.in_default-check_change.ensures, tt))
+    (all_appended IsWritable (take index changes) (c.in-Some.change.now ∷ []) c.changes.invariant
+    (c.in_default-check_change.ensures, tt))
 
 pub returns-in-Err : goal.returns-in-Err
 returns-in-Err c =

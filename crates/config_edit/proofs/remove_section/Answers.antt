@@ -17,7 +17,8 @@ returns-in-Some c =
     let (entries, is_file) = c.in_ok-check_file.ensures in
     let names = rw (c.as_slice.ensures.value ∙ c.in_ok-key_text.ensures) at c.in-Ok.ensures in
     let (parts, cuts, (found, clears)) = rw c.in-Some.is at (c.in_ok-new.ensures (map content entries) (body_ends is_file split)) in
-    section_removed c.args.name.now (key_of c.in-Ok.key) split names cuts found clears c.in_ok-marked-in-Some.ensures
+    section_removed c.args.name.now
+    (key_of c.in-Ok.key) split names cuts found clears c.in_ok-marked-in-Some.ensures
 
 pub returns : goal.returns
 returns c =

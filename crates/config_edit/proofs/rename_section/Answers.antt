@@ -5,7 +5,8 @@ use Rattle.config_edit.specs.Sections.{RenamesSection}
 use Rattle.config_file.specs.KeyView.{key_of}
 use Rattle.config_edit.specs.Edit.{content}
 use Rattle.config_edit.proofs.Edits.{body_ends}
-use Rattle.config_edit.proofs.SectionEdits.{no_file_renamed, same_name, section_renamed, lacks, lacks_any, lacks_header, has_header}
+use Rattle.config_edit.proofs.SectionEdits.{no_file_renamed, same_name, section_renamed, lacks, lacks_any}
+use Rattle.config_edit.proofs.SectionEdits.{lacks_header, has_header}
 use Rattle.config_edit.proofs.rename_section.Goals as goal
 
 pub returns-in_default : goal.returns-in_default
@@ -47,7 +48,8 @@ returns-in-Some-2 c =
     let names = rw (c.as_slice-2.ensures.value ∙ c.in_ok-old_key.ensures) at c.in-Ok-parse.ensures in
     let names_now = rw (c.as_slice.ensures.value ∙ c.in_ok-new_key.ensures) at c.in-Ok.ensures.0 in
     let (parts, cuts, (found, renames)) = rw c.in-Some.is at (c.in_ok-renamed.ensures (map content entries) (body_ends is_file split)) in
-    section_renamed (key_of c.in-Ok-parse.from) (key_of c.in-Ok.to) split names names_now c.in-Ok.ensures.1 cuts found renames
+    section_renamed (key_of c.in-Ok-parse.from)
+    (key_of c.in-Ok.to) split names names_now c.in-Ok.ensures.1 cuts found renames
     (search rules) c.in_ok-marked-in-Some-2.ensures
 
 pub returns : goal.returns

@@ -8,7 +8,8 @@ returns-then-replaced c =
     let (contents, ends, r) = rw c.in-Done.is at c.in_ok-replaced.ensures in
     let key = c.in_ok-key.ensures in
     let value = c.in_ok-check_value.ensures in
-    refuses (Some c.args.value.now) (key.0, key.2, value.1) c.split_mark.ensures ends (r.many c.if-replaced.true)
+    refuses (Some c.args.value.now) (key.0, key.2, value.1) c.split_mark.ensures ends
+    (r.many c.if-replaced.true)
 
 pub returns-in_ok-marked-in-Done : goal.returns-in_ok-marked-in-Done
 returns-in_ok-marked-in-Done c =

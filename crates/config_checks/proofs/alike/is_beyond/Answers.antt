@@ -8,7 +8,16 @@ pub returns-then-abs_diff-most : goal.returns-then-abs_diff-most
 returns-then-abs_diff-most c = λ yes n few.
     let near = lengths_near c.args.row.now c.args.name.now n few.0 in
     let most = few.1 in
-    omega (arith, clamps, near.0, near.1, c.if-abs_diff-most.true, most, c.abs_diff.ensures, c.most_edits-most.ensures)
+    omega (
+      arith,
+      clamps,
+      near.0,
+      near.1,
+      c.if-abs_diff-most.true,
+      most,
+      c.abs_diff.ensures,
+      c.most_edits-most.ensures,
+    )
 
 pub returns-else-abs_diff-most : goal.returns-else-abs_diff-most
 returns-else-abs_diff-most c = λ yes n few.

@@ -22,4 +22,5 @@ loop-byte-preserved c =
 
 pub returns : goal.returns
 returns c =
-    rw (take_all c.loop-byte.byte-index c.args.name.now (omega (arith, c.loop-byte-test.false))) at c.loop-byte.invariant.1
+    rw (take_all c.loop-byte.byte-index c.args.name.now
+    (omega (arith, c.loop-byte-test.false))) at c.loop-byte.invariant.1

@@ -7,6 +7,7 @@ pub returns-else-eq_ignore_ascii_case : goal.returns-else-eq_ignore_ascii_case
 returns-else-eq_ignore_ascii_case c = λ alike.
     let ends = alike_share c.args.a.now c.args.b.now alike in
     elim ends.2 [
-      | inl first ↦ absurd (false≢true (sym c.if-eq_ignore_ascii_case.false ∙ c.eq_ignore_ascii_case.ensures ∙ first))
+      | inl first ↦ absurd (false≢true (sym c.if-eq_ignore_ascii_case.false ∙ c.eq_ignore_ascii_case.ensures
+          ∙ first))
       | inr last ↦ c.eq_ignore_ascii_case-else-eq_ignore_ascii_case.ensures ∙ last
     ]

@@ -13,9 +13,11 @@ returns-in-Err-marks_of-clause-fails g c = fails_starting _ _ _ _ _
 pub returns-clause-completes : goal.returns-clause-completes
 returns-clause-completes g c =
     let all = rw (ap rows_of c.deref.ensures.value ∙ c.in-Ok.ensures) at c.in_ok-counts.ensures.ok in
-    IfOk-weaker c.tell.result _ _ (λ after told. completes _ _ _ _ _ _ all.of_file _ _ _ all.all _ after told) c.tell.ensures.ok
+    IfOk-weaker c.tell.result _ _ (λ after told.
+    completes _ _ _ _ _ _ all.of_file _ _ _ all.all _ after told) c.tell.ensures.ok
 
 pub returns-clause-fails : goal.returns-clause-fails
 returns-clause-fails g c =
     let all = rw (ap rows_of c.deref.ensures.value ∙ c.in-Ok.ensures) at c.in_ok-counts.ensures.ok in
-    on_err_weaker c.tell.result (λ none. fails_telling _ _ _ _ _ _ all.of_file _ _ _ all.all _ none) c.tell.ensures.err
+    on_err_weaker c.tell.result (λ none.
+    fails_telling _ _ _ _ _ _ all.of_file _ _ _ all.all _ none) c.tell.ensures.err

@@ -17,11 +17,12 @@ returns-in_default-clause-ok g c =
     let said = rw (c.in-Ok.ensures.0 ∙ c.deref-in_default.ensures.value) at c.in-Ok.ensures.1.0 in
     let reported = c.in_ok-give_said.ensures.reported in
     elim c.if-branch.branch [
-      | then-branch w ↦ rw w.counts-is (rw (w.with-counts.ensures, c.unknown_severity-severity.ensures, c.deref-in_default-2.ensures.value) (
-        said_findings s.entries setting c.in-Ok.said,
-        said_something rows c.args.options.now setting s text meant said (sym reported ∙ w.if-branch.true),
-        c.in_ok-give_said.ensures.ok,
-      ))
+      | then-branch w ↦ rw w.counts-is
+          (rw (w.with-counts.ensures, c.unknown_severity-severity.ensures, c.deref-in_default-2.ensures.value) (
+            said_findings s.entries setting c.in-Ok.said,
+            said_something rows c.args.options.now setting s text meant said (sym reported ∙ w.if-branch.true),
+            c.in_ok-give_said.ensures.ok,
+          ))
       | else-branch w ↦ rw w.counts-is (
         said_findings s.entries setting c.in-Ok.said,
         said_nothing rows c.args.options.now setting s text meant is said (sym reported ∙ w.if-branch.false),
@@ -37,7 +38,8 @@ returns-in_ok-give_reason-in-Ok-Some-clause-ok g c =
     let bad = rw c.in-Ok-Some.field-0-is at c.in-Ok-Some.ensures in (
       reason_finding s.entries c.args.setting.now row reason ∷ [],
       found row reason (rw c.deref.ensures.value at c.in-Some.ensures) (rw c.value_of-value.ensures at bad) refl
-          (c.with-counts-in-Ok-Some.ensures ∙ ap (λ v. counted v (record s { entries = s.entries + 1 })) c.severity.ensures),
+          (c.with-counts-in-Ok-Some.ensures
+          ∙ ap (λ v. counted v (record s { entries = s.entries + 1 })) c.severity.ensures),
       c.in_ok-give_reason-in-Ok-Some.ensures.ok,
     )
 

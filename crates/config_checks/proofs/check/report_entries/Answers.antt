@@ -7,7 +7,8 @@ pub loop-entry-init : goal.loop-entry-init
 loop-entry-init g c =
     let none = c.default.ensures in (
       tt,
-      rw c.into_iter-entry-iterator.ensures.into_iter_gives (reported_start _ _ _ _ c.new-entry-items.result _ c.default.result c.new-entry-items.ensures.section c.new-entry-items.ensures.begins
+      rw c.into_iter-entry-iterator.ensures.into_iter_gives
+          (reported_start _ _ _ _ c.new-entry-items.result _ c.default.result c.new-entry-items.ensures.section c.new-entry-items.ensures.begins
           (are_none c.default.result none.0 none.1.0 none.1.1.0 none.1.1.1.0 none.1.1.1.1)),
     )
 

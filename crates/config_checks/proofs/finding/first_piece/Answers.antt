@@ -12,7 +12,12 @@ returns c =
     let some : 0 < length c.args.text.now = not_empty c.args.text.now c.if-is_empty.ensures in
     record {
       shown =
-          rw (c.decode-character.ensures.char, c.split_at.ensures.front, c.split_at.ensures.back, c.decode-character.ensures.size)
+          rw (
+            c.decode-character.ensures.char,
+            c.split_at.ensures.front,
+            c.split_at.ensures.back,
+            c.decode-character.ensures.size,
+          )
           (shown_front c.args.text.now some);
       shorter = rw (c.split_at.ensures.back, c.decode-character.ensures.size) (shorter_rest c.args.text.now some);
     }

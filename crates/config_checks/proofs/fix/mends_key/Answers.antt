@@ -15,5 +15,6 @@ returns c =
     let back = rows_of c.deref-2.result.now in
     let clean : IsClean rows c.args.options.now key (value_of setting) = search rules in
     IfOk-weaker c.is_only_key.result _ _
-    (λ b only. key_if rows back c.args.options.now setting key b (ap rows_of c.deref-2.ensures.value ∙ judge.order) clean
+    (λ b only. key_if rows back c.args.options.now setting key b (ap rows_of c.deref-2.ensures.value
+    ∙ judge.order) clean
     (rw c.deref-3.ensures.value at only)) c.is_only_key.ensures

@@ -36,4 +36,5 @@ returns c =
     let decides = rw c.deref.ensures.value at c.in-Some.ensures in
     let none : HasFinding options row (Some new) None = search rules in
     IfOk-weaker c.is_only_value.result _ _
-    (λ b only. mends_if rows options setting c.args.code new row decides b none (rw c.value_of.ensures at only)) c.is_only_value.ensures
+    (λ b only. mends_if rows options setting c.args.code new row decides b none
+    (rw c.value_of.ensures at only)) c.is_only_value.ensures

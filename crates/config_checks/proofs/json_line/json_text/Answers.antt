@@ -7,5 +7,6 @@ use Rattle.config_checks.proofs.json_line.json_text.Goals as goal
 pub returns-clause-one_line : goal.returns-clause-one_line
 returns-clause-one_line c =
     IfOk-weaker c.finding_text.result _ _
-    (λ t is. rw is (data_one_line (finding_json c.args.column c.args.equal c.args.fix (finding_of c.args.finding.now))))
+    (λ t is. rw is (data_one_line (finding_json c.args.column c.args.equal c.args.fix
+    (finding_of c.args.finding.now))))
     c.finding_text.ensures.text

@@ -12,7 +12,9 @@ loop-run-init c = λ k d inside. absurd (omega (arith, inside))
 pub loop-run-preserved-then-not-is_same_word : goal.loop-run-preserved-then-not-is_same_word
 loop-run-preserved-then-not-is_same_word c =
     let other : ¬ (SameWord c.run-item.result.section.now (key_of c.in_ok-key.key).section) = search rules in
-    all_more (λ row. ¬ (Covers (key_of row.key) (key_of c.in_ok-key.key))) c.args.runs.now c.loop-run.run-index c.run-item.result c.loop-run-test.true (sym c.run-item.is)
+    all_more (λ row. ¬ (Covers (key_of row.key)
+    (key_of c.in_ok-key.key))) c.args.runs.now c.loop-run.run-index c.run-item.result c.loop-run-test.true
+    (sym c.run-item.is)
     c.loop-run.invariant (other_section (key_of c.in_ok-key.key) c.run-item.result other)
 
 pub returns-in-Some : goal.returns-in-Some
@@ -21,7 +23,9 @@ returns-in-Some c = decides (key_of c.in_ok-key.key) c.args.key.now c.args.runs.
 
 pub loop-run-preserved : goal.loop-run-preserved
 loop-run-preserved c =
-    all_more (λ row. ¬ (Covers (key_of row.key) (key_of c.in_ok-key.key))) c.args.runs.now c.loop-run.run-index c.run-item.result c.loop-run-test.true (sym c.run-item.is)
+    all_more (λ row. ¬ (Covers (key_of row.key)
+    (key_of c.in_ok-key.key))) c.args.runs.now c.loop-run.run-index c.run-item.result c.loop-run-test.true
+    (sym c.run-item.is)
     c.loop-run.invariant c.in_default.ensures
 
 pub returns : goal.returns

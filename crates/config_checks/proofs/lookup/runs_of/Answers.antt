@@ -19,7 +19,13 @@ runs-preserved c =
       so_far = ap rows_of c.in_ok-push.ensures.items
           ∙ runs_grow c.args.rows.now c.runs.runs.items c.in-Some.run' c.runs.start c.runs.invariant.so_far
           (c.in-Some.ensures.1 ∙ ap (λ l. take (length c.in-Some.run'.rows.now) l) rest);
-      within = omega (arith, within, ap length rest, c.runs.invariant.within, length-drop c.runs.start c.args.rows.now);
+      within = omega (
+        arith,
+        within,
+        ap length rest,
+        c.runs.invariant.within,
+        length-drop c.runs.start c.args.rows.now,
+      );
     }
 
 pub returns : goal.returns

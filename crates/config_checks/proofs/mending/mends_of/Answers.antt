@@ -15,5 +15,6 @@ loop-proposal-preserved c =
       | in-Some+in_ok-push w ↦
           rw (taken, w.mends-is, w.in_ok-push.ensures.items)
           (mended one w.in-Some.change c.loop-proposal.invariant (rw w.in-Some.is at c.in_ok-change.ensures))
-      | in_default w ↦ rw (taken, w.mends-is) (left one c.loop-proposal.invariant (rw w.in_default.is at c.in_ok-change.ensures))
+      | in_default w ↦ rw (taken, w.mends-is)
+          (left one c.loop-proposal.invariant (rw w.in_default.is at c.in_ok-change.ensures))
     ]

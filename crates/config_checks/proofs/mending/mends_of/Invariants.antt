@@ -5,4 +5,5 @@ use Rattle.config_checks.proofs.mending.mends_of.Given as goal
 
 abbrev pub invariant-loop-proposal : goal.invariant-loop-proposal
 invariant-loop-proposal l =
-    HasMends (rows_of l.judge.runs.items) l.options l.guesses l.settings (take l.proposal-index l.proposals) l.mends.items
+    HasMends (rows_of l.judge.runs.items) l.options l.guesses l.settings
+    (take l.proposal-index l.proposals) l.mends.items

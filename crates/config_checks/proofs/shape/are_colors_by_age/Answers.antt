@@ -20,7 +20,8 @@ loop-field-preserved c =
     let field = c.in-Some.field.now in
     let more = next_field loop.is_right c.may_follow.result loop.color had field loop.invariant.0 c.may_follow.ensures in
     let grown = sym (map-append (λ f. f.now) loop.yielded (c.in-Some.field ∷ [])) in (
-      rw c.both-is_right.ensures (subst (λ fields. IsTrue (loop.is_right && c.may_follow.result) ↔ Alternate (not loop.color) fields) grown more),
+      rw c.both-is_right.ensures (subst (λ fields. IsTrue (loop.is_right && c.may_follow.result)
+          ↔ Alternate (not loop.color) fields) grown more),
       subst (Turn (not loop.color)) grown (turn loop.color had field loop.invariant.1),
     )
 

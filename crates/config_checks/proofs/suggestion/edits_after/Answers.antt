@@ -12,4 +12,5 @@ returns-in-true-false c =
 pub returns-in-false-true : goal.returns-in-false-true
 returns-in-false-true c =
     of_subsection (key_of c.args.row.now) (key_of c.args.key.now)
-    (λ covers. false≢true (c.in-false-true.ensures.1 covers)) (c.in-false-true.ensures'.0 refl) _ c.subsection_edits.ensures
+    (λ covers. false≢true (c.in-false-true.ensures.1 covers))
+    (c.in-false-true.ensures'.0 refl) _ c.subsection_edits.ensures

@@ -6,4 +6,5 @@ use Rattle.config_checks.specs.Rows.{rows_of}
 use Rattle.config_checks.proofs.suggestion.has_section.Given as goal
 
 abbrev pub invariant-loop-run : goal.invariant-loop-run
-invariant-loop-run l = All (λ row. ¬ (SameWord (key_of row.key).section l.section)) (rows_of (take l.run-index l.runs))
+invariant-loop-run l = All (λ row. ¬ (SameWord (key_of row.key).section l.section))
+    (rows_of (take l.run-index l.runs))

@@ -9,7 +9,8 @@ pub loop-run-init : goal.loop-run-init
 loop-run-init c = λ k d inside. absurd (omega (arith, inside))
 
 pub returns-in-Some : goal.returns-in-Some
-returns-in-Some c = first_such (IsMovedRow (key_of c.args.key.now)) c.args.runs.now c.loop-run.run-index c.run-item.result c.in-Some.row.now
+returns-in-Some c = first_such (IsMovedRow
+    (key_of c.args.key.now)) c.args.runs.now c.loop-run.run-index c.run-item.result c.in-Some.row.now
     c.loop-run-test.true (sym c.run-item.is) c.loop-run.invariant c.in-Some.ensures
 
 pub loop-run-preserved : goal.loop-run-preserved
@@ -18,4 +19,5 @@ loop-run-preserved c =
     c.loop-run.invariant c.in_default.ensures
 
 pub returns : goal.returns
-returns c = rw (take_all c.loop-run.run-index c.args.runs.now (omega (arith, c.loop-run-test.false))) at c.loop-run.invariant
+returns c = rw (take_all c.loop-run.run-index c.args.runs.now
+    (omega (arith, c.loop-run-test.false))) at c.loop-run.invariant

@@ -14,7 +14,8 @@ use Rattle.config_checks.specs.Suggestions.{RowEdits}
 use Rattle.config_checks.proofs.NearestLemmas.{nothing, take_more, passes, far_one, keeps, betters, whole}
 use Rattle.config_checks.proofs.RunLemmas.{rows_more}
 use Rattle.config_checks.proofs.SuggestionLemmas.{one_number, zipped_at, same_relation, far_run}
-use Rattle.config_checks.proofs.suggestion.nearest.Goals.{in-Some+then-edits-least, in-Some+else-edits-least, in_default, in_default-2, in-Far}
+use Rattle.config_checks.proofs.suggestion.nearest.Goals.{in-Some+then-edits-least, in-Some+else-edits-least}
+use Rattle.config_checks.proofs.suggestion.nearest.Goals.{in_default, in_default-2, in-Far}
 use Rattle.config_checks.proofs.suggestion.nearest.Goals as goal
 
 pub bounds-relations-place : goal.bounds-relations-place
@@ -23,7 +24,8 @@ bounds-relations-place c =
     omega (
       arith,
       c.runs-test.true,
-      AllZip-long (λ (run : Run) (r : Relation). IsRelation run.section.now key.section r) c.args.runs.now c.args.relations.now c.requires,
+      AllZip-long (λ (run : Run) (r : Relation).
+          IsRelation run.section.now key.section r) c.args.runs.now c.args.relations.now c.requires,
     )
 
 pub runs-init : goal.runs-init
@@ -37,7 +39,8 @@ runs-preserved-then-matches c =
     let is = zipped_at (λ (run : Run) (r : Relation). IsRelation run.section.now key.section r) c.args.runs.now c.args.relations.now
     c.requires c.runs.place run Same c.runs-test.true (sym c.index-runs-place.is) in
     rw (rows_more c.args.runs.now c.runs.place run c.runs-test.true (sym c.index-runs-place.is))
-    (passes (RowEdits key) seen run.rows.now c.runs.least c.runs.best c.runs.invariant (elim c.match-matches.branch [
+    (passes (RowEdits key) seen run.rows.now c.runs.least c.runs.best c.runs.invariant
+    (elim c.match-matches.branch [
       | in-Far w ↦ far_run key run (subst (IsRelation run.section.now key.section) w.in-Far.is is)
       | in_default w ↦ absurd (false≢true (sym w.matches-is ∙ c.if-matches.true))
     ]))
@@ -67,7 +70,8 @@ rows-preserved c =
           rw (w.best-is, w.least-is, next, ← grown)
           (keeps (RowEdits key) one seen c.rows.least w.in-Some.edits c.rows.best row so_far edits.0 w.if-edits-least.false)
       | in_default-2 w ↦
-          rw (w.best-is, w.least-is, next, ← grown) (passes (RowEdits key) seen (row ∷ []) c.rows.least c.rows.best so_far
+          rw (w.best-is, w.least-is, next, ← grown)
+          (passes (RowEdits key) seen (row ∷ []) c.rows.least c.rows.best so_far
           (far_one (RowEdits key) row (rw w.in_default-2.is at c.in_ok-edits.ensures)))
     ]
 
@@ -92,4 +96,5 @@ one_part_edits-requires-clause-relation c =
     c.requires c.runs.place run Same c.runs-test.true (sym c.index-runs-place.is) in
     let in_run = subst (λ (row : Row). SameWord (key_of row.key).section run.section.now) (sym c.row-item.is)
     (run.of_section c.rows.row-index c.row-item.result c.rows-test.true) in
-    same_relation (key_of c.row-item.result.key).section run.section.now key.section (get_or c.args.relations.now c.runs.place Same) in_run is
+    same_relation (key_of c.row-item.result.key).section run.section.now key.section
+    (get_or c.args.relations.now c.runs.place Same) in_run is

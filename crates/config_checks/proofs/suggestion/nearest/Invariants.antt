@@ -10,4 +10,5 @@ invariant-runs l = IsBest (RowEdits (key_of l.fn.key)) (rows_of (take l.place l.
 
 abbrev pub invariant-rows : goal.invariant-rows
 invariant-rows l =
-    IsBest (RowEdits (key_of l.fn.key)) (rows_of (take l.place l.runs) ++ take l.row-index l.row-items) l.best l.least
+    IsBest (RowEdits (key_of l.fn.key))
+    (rows_of (take l.place l.runs) ++ take l.row-index l.row-items) l.best l.least

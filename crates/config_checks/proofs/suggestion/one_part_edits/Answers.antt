@@ -14,7 +14,8 @@ pub returns-in-Near : goal.returns-in-Near
 returns-in-Near c =
     let row = key_of c.args.row.now in
     let key = key_of c.args.key.now in
-    near_if row key c.in-Near.edits (subst (IsRelation row.section key.section) c.in-Near.is c.requires.relation) c.edits_if_covered.result
+    near_if row key c.in-Near.edits
+    (subst (IsRelation row.section key.section) c.in-Near.is c.requires.relation) c.edits_if_covered.result
     c.edits_if_covered.ensures
 
 pub returns-in-Far : goal.returns-in-Far

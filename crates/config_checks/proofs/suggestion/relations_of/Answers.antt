@@ -15,11 +15,16 @@ loop-run-preserved c =
     let section = c.args.section.now in
     let run = c.run-item.result in
     let is = c.in_ok-relation.ensures in (
-      rw (take_more c.args.runs.now c.loop-run.run-index run c.loop-run-test.true (sym c.run-item.is), c.in_ok-push.ensures.items)
-          (all_zipped_more (λ (run : Run) (r : Relation). IsRelation run.section.now section r) _ _ run c.in_ok-relation.relation
+      rw (
+        take_more c.args.runs.now c.loop-run.run-index run c.loop-run-test.true (sym c.run-item.is),
+        c.in_ok-push.ensures.items,
+      )
+          (all_zipped_more (λ (run : Run) (r : Relation).
+          IsRelation run.section.now section r) _ _ run c.in_ok-relation.relation
           c.loop-run.invariant.0 is),
       is,
     )
 
 pub returns : goal.returns
-returns c = rw (take_all c.loop-run.run-index c.args.runs.now (omega (arith, c.loop-run-test.false))) at c.loop-run.invariant.0
+returns c = rw (take_all c.loop-run.run-index c.args.runs.now
+    (omega (arith, c.loop-run-test.false))) at c.loop-run.invariant.0

@@ -7,7 +7,8 @@ pub returns-in-Some-strip_prefix : goal.returns-in-Some-strip_prefix
 returns-in-Some-strip_prefix c =
     let begins = strip_prefix_is Decides-eqb c.in-Some.field.now.now c.args.front.now (Some c.in-Some-strip_prefix.text)
     c.in-Some-strip_prefix.ensures.cases in
-    ap (map (λ field. field.now)) c.in-Some.ensures.cases.0 ∙ ap (λ t. t ∷ map (λ field. field.now) c.in-Some.rest.now) begins
+    ap (map (λ field. field.now)) c.in-Some.ensures.cases.0
+    ∙ ap (λ t. t ∷ map (λ field. field.now) c.in-Some.rest.now) begins
 
 pub returns-in-None : goal.returns-in-None
 returns-in-None c =

@@ -25,4 +25,5 @@ returns c =
     c.args.line.now split.rest split.done split.closure (λ x b q k. search (rules, tests)) in
     let all = YieldsList-end parts loop.yielded _ loop.yielded_by _ _ c.in-None.is c.next.ensures.steps in
     loop.invariant.fields
-    ∙ ap (flat_map field_if_some) (sym (without_comment _ loop.invariant.before) ∙ ap (take_while is_no_comment) all.0)
+    ∙ ap (flat_map field_if_some) (sym (without_comment _ loop.invariant.before)
+    ∙ ap (take_while is_no_comment) all.0)

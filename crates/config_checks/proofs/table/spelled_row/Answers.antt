@@ -28,4 +28,5 @@ returns-in_err-marks-clause-refused c =
     let parts : fields ≡ key.now ∷ marked = search rules in
     let bad : IfErr c.from_residual.result (λ fault. (fault ≡ NoVersion) × HasBadVersion marked) = search rules in
     IfErr-weaker c.from_residual.result _ (IsBadRow fields)
-    (λ fault is. bad_version fields marked key.now (key_of c.in-Some-split.key) fault parts c.in-Some-split.ensures is) bad
+    (λ fault is. bad_version fields marked key.now
+    (key_of c.in-Some-split.key) fault parts c.in-Some-split.ensures is) bad

@@ -45,4 +45,5 @@ returns-then-made-changes c = λ contents ends.
 
 pub returns-else-made-changes : goal.returns-else-made-changes
 returns-else-made-changes c = λ contents ends.
-    each_changed c.pieces.invariant ends c.in_default.ensures.piece (drop_of_length-le c.args.changes.now c.if-made-changes.false)
+    each_changed c.pieces.invariant ends c.in_default.ensures.piece
+    (drop_of_length-le c.args.changes.now c.if-made-changes.false)

@@ -3,14 +3,16 @@ use Rattle.config_edit.specs.Edit.{name_after}
 use Rattle.config_edit.proofs.EachEntry.{no_comment, changed_plain}
 use Rattle.config_edit.proofs.Commented.{changed_commented, writable_comment}
 use Rattle.config_edit.proofs.each.push_change.Goals as goal
-use Rattle.config_edit.proofs.each.push_change.Goals.{in_default-via-in-Some+in_default, in_default-via-in_default}
+use Rattle.config_edit.proofs.each.push_change.Goals.{in_default-via-in-Some+in_default}
+use Rattle.config_edit.proofs.each.push_change.Goals.{in_default-via-in_default}
 
 pub returns-in_default : goal.returns-in_default
 returns-in_default c =
     let change = c.args.change.now in
     let (put, pushed, named) = c.in_ok-push_named.ensures in
     let none : option_copied change.comment ≡ None =
-    no_comment (option_copied change.value) (option_copied change.comment) c.requires.writable.2 (elim c.in_default.branch [
+    no_comment (option_copied change.value) (option_copied change.comment) c.requires.writable.2
+    (elim c.in_default.branch [
       | in_default-via-in-Some+in_default w ↦ inr (ap (λ o. option_copied o) w.in_default.is-1)
       | in_default-via-in_default w ↦ inl (ap (λ o. option_copied o) w.in_default.is-0)
     ]) in

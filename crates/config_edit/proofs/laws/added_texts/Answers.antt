@@ -1,4 +1,5 @@
-use Rattle.std.proofs.Common.{◌≡◌, ◌≢◌, ℕ, true, false, List, [], ◌∷◌, ◌++◌, Some, None, codes, length, refl, ap, arith, inl, inr}
+use Rattle.std.proofs.Common.{◌≡◌, ◌≢◌, ℕ, true, false, List, [], ◌∷◌, ◌++◌, Some, None, codes, length, refl}
+use Rattle.std.proofs.Common.{ap, arith, inl, inr}
 use Rattle.config_file.specs.Header as header
 use Rattle.config_file.specs.Listing as listing
 use Rattle.config_file.specs.File as file
@@ -8,18 +9,22 @@ use Rattle.config_file.specs.Spelling.{git_spelled}
 use Rattle.config_edit.specs.Cut as cut
 use Rattle.config_edit.specs.Cut.{Cuts, IsTail, Part, parts_bytes}
 use Rattle.config_edit.specs.Edit as spec
-use Rattle.config_edit.specs.Edit.{AddsContent, AddsOne, Content, HasValue, IsIn, IsOpen, IsWrittenHeader, NoneIn, PutsLine}
+use Rattle.config_edit.specs.Edit.{AddsContent, AddsOne, Content, HasValue, IsIn, IsOpen, IsWrittenHeader}
+use Rattle.config_edit.specs.Edit.{NoneIn, PutsLine}
 use Rattle.config_edit.proofs.Added.{one_ending}
 use Rattle.config_edit.proofs.Changed.{spells_between}
 use Rattle.config_edit.proofs.Closed.{same_entries}
 use Rattle.config_file.specs.Header.{Section}
 use Rattle.config_edit.proofs.OneEdit.{one_added}
-use Rattle.config_edit.proofs.Literals.{as_git, at_comment, at_end, at_entry, at_key, at_top, comment_tail, end, feed_end, feed_tail}
-use Rattle.config_edit.proofs.Literals.{has_value, is_last, is_nowhere, no_item, not_in, plain_key, reads, spelled, top, valued}
+use Rattle.config_edit.proofs.Literals.{as_git, at_comment, at_end, at_entry, at_key, at_top, comment_tail}
+use Rattle.config_edit.proofs.Literals.{end, feed_end, feed_tail}
+use Rattle.config_edit.proofs.Literals.{has_value, is_last, is_nowhere, no_item, not_in, plain_key, reads}
+use Rattle.config_edit.proofs.Literals.{spelled, top, valued}
 use Rattle.config_edit.proofs.Literals.{ak, ak_is, elsewhere, gitproxy, gitproxy_is}
 use Rattle.config_edit.proofs.laws.added_texts.Goals as goal
 
-adds_one : {key : Key} {value : List ℕ} (before after : List Content) (section : Section) (raw : List ℕ) → IsIn key (Some section)
+adds_one : {key : Key} {value : List ℕ} (before after : List Content) (section : Section) (raw : List ℕ)
+    → IsIn key (Some section)
     → HasValue (Some raw) value → NoneIn key after
     → AddsContent key value (before ++ after) (before ++ (Some section, key.name, Some raw) ∷ after)
 adds_one before after section raw in_section has_value last =
@@ -58,7 +63,8 @@ above =
       is_feed = spec.of_front (codes "[a]", [], refl, refl, feed_end (codes "[a") 93 (omega arith));
       are_ends = spec.ended (top (codes "a") ∷ []) end refl;
       is_place = spec.inside (top (codes "a") ∷ [], end, refl, listing.plain, inr refl)
-          (is_last ak (top (codes "a") ∷ end ∷ []) (comment ∷ []) (no_item ak (top (codes "a") ∷ end ∷ []) comment refl refl, tt));
+          (is_last ak (top (codes "a") ∷ end ∷ []) (comment ∷ [])
+          (no_item ak (top (codes "a") ∷ end ∷ []) comment refl refl, tt));
       spells = as_git (codes "1") refl;
       new_is = refl;
     } in
@@ -83,7 +89,17 @@ not_open : ¬ (IsOpen last_l)
 not_open = λ (text, s). one_ending (spelled [] [] (codes " 3") refl) s
 
 ends_here : IsTail [] [] false
-ends_here = record { blanks = []; comment = []; are_blank = refl; is_comment = cut.absent; ends = inr (refl, refl, refl) }
+ends_here = record {
+  blanks = [];
+  comment = [];
+  are_blank = refl;
+  is_comment = cut.absent;
+  ends = inr (
+    refl,
+    refl,
+    refl,
+  );
+}
 
 at_last : Cuts (codes "\tl = 3") (last_l ∷ [])
 at_last =
@@ -133,9 +149,18 @@ returns-clause-new_section c =
       headed = codes "[a]\n";
       spelling = codes "1";
       has_parts = (old, cut.unmarked refl, cuts);
-      is_feed = spec.of_front (codes "[b]", codes "\tl = 3", refl, refl, feed_end (codes "[b") 93 (omega arith));
+      is_feed = spec.of_front (
+        codes "[b]",
+        codes "\tl = 3",
+        refl,
+        refl,
+        feed_end (codes "[b") 93 (omega arith),
+      );
       are_ends = spec.unended (top (codes "b") ∷ end ∷ []) last_l refl not_open;
-      is_place = spec.at_end (is_nowhere ak parts (elsewhere ak _ not_b, (elsewhere ak _ not_b, (elsewhere ak _ not_b, tt)))) written;
+      is_place = spec.at_end (is_nowhere ak parts (
+        elsewhere ak _ not_b,
+        (elsewhere ak _ not_b, (elsewhere ak _ not_b, tt)),
+      )) written;
       spells = as_git (codes "1") refl;
       new_is = refl;
     } in
@@ -153,9 +178,12 @@ returns-clause-behind_comment c =
     let key_alone = cut.entry (codes "\t") (codes "sslVerify") [] None (codes "\n") true in
     let front = top (codes "core") ∷ end ∷ valued (codes "\t") (codes "gitproxy") [] (codes "default-proxy ") (codes "; for all the rest\n") ∷ [] in
     let cuts = at_top (codes "core") (λ e. cc) refl (at_end
-    (at_entry (codes "\t") 103 (codes "itproxy") [] (codes "default-proxy ") (codes "; for all the rest\n") refl refl refl refl refl (inr refl)
-    (comment_tail 59 (codes " for all the rest") _ refl refl) (at_end (at_comment [] 59 (codes " HTTP") refl refl refl
-    (at_top (codes "http") (λ e. cc) refl (at_end (at_key (codes "\t") 115 (codes "slVerify") refl refl refl cut.ends))))))) in
+    (at_entry (codes "\t") 103 (codes "itproxy") [] (codes "default-proxy ")
+    (codes "; for all the rest\n") refl refl refl refl refl (inr refl)
+    (comment_tail 59 (codes " for all the rest") _ refl refl)
+    (at_end (at_comment [] 59 (codes " HTTP") refl refl refl
+    (at_top (codes "http") (λ e. cc) refl
+    (at_end (at_key (codes "\t") 115 (codes "slVerify") refl refl refl cut.ends))))))) in
     let not_http = not_in gitproxy (codes "http") refl in
     let raw = codes " " ++ (git_spelled text ++ []) in
     let has : HasValue (Some raw) text = (value.outside, spells_between (codes " ") [] refl refl (as_git text refl).0.0) in
@@ -177,13 +205,24 @@ returns-clause-behind_comment c =
         refl,
         feed_end (codes "[core]\n\tgitproxy=default-proxy ; for all the res") 116 (omega arith),
       );
-      are_ends = spec.ended (top (codes "core") ∷ end ∷ []) (valued (codes "\t") (codes "gitproxy") [] (codes "default-proxy ") (codes "; for all the rest\n")) refl;
-      is_place = spec.inside (top (codes "core") ∷ end ∷ [], valued (codes "\t") (codes "gitproxy") [] (codes "default-proxy ") (codes "; for all the rest\n"), refl, listing.plain, inl refl)
+      are_ends = spec.ended (top (codes "core") ∷ end ∷ [])
+          (valued (codes "\t") (codes "gitproxy") [] (codes "default-proxy ")
+          (codes "; for all the rest\n")) refl;
+      is_place = spec.inside (
+        top (codes "core") ∷ end ∷ [],
+        valued (codes "\t") (codes "gitproxy") [] (codes "default-proxy ") (codes "; for all the rest\n"),
+        refl,
+        listing.plain,
+        inl refl,
+      )
           (is_last gitproxy front (end ∷ comment ∷ top (codes "http") ∷ end ∷ key_alone ∷ []) (
             no_item gitproxy front end refl refl,
             (
               no_item gitproxy (front ++ end ∷ []) comment refl refl,
-              (elsewhere gitproxy _ not_http, (elsewhere gitproxy _ not_http, (elsewhere gitproxy _ not_http, tt))),
+              (
+                elsewhere gitproxy _ not_http,
+                (elsewhere gitproxy _ not_http, (elsewhere gitproxy _ not_http, tt)),
+              ),
             ),
           ));
       spells = as_git text refl;

@@ -1,11 +1,13 @@
-use Rattle.std.proofs.Common.{◌≡◌, ℕ, List, [], ◌∷◌, ◌++◌, Some, None, codes, length, refl, ap, arith, true, inl, inr, get_or}
+use Rattle.std.proofs.Common.{◌≡◌, ℕ, List, [], ◌∷◌, ◌++◌, Some, None, codes, length, refl, ap, arith, true}
+use Rattle.std.proofs.Common.{inl, inr, get_or}
 use Rattle.config_file.specs.Listing as listing
 use Rattle.config_file.specs.Key.{Key, IsKey}
 use Rattle.config_edit.specs.Cut as cut
 use Rattle.config_edit.specs.Edit as spec
 use Rattle.config_edit.specs.Edit.{Content, GivesValue, IsOf, ReplacesAll}
 use Rattle.config_edit.proofs.OneEdit.{one_replaced}
-use Rattle.config_edit.proofs.Literals.{as_git, at_comment, at_end, at_entry, at_top, becomes, comment_tail, core, end, feed_tail}
+use Rattle.config_edit.proofs.Literals.{as_git, at_comment, at_end, at_entry, at_top, becomes, comment_tail}
+use Rattle.config_edit.proofs.Literals.{core, end, feed_tail}
 use Rattle.config_edit.proofs.Literals.{has_other, has_value, plain_key, reads, replaces, same, top, valued}
 use Rattle.config_edit.proofs.Literals.{ak, ak_is, gitproxy, gitproxy_is}
 use Rattle.config_edit.proofs.laws.replaced_texts.Goals as goal
@@ -22,7 +24,8 @@ replaced =
     let is_of : IsOf ak x = (listing.plain, refl) in
     let part = valued [] (codes "k") (codes " ") (codes "1 ") (codes "# me\n") in
     let cuts = at_comment [] 35 (codes " Do not touch") refl refl refl (at_top (codes "a") (λ e. cc) refl (at_end (at_entry [] 107 [] (codes " ")
-    (codes "1 ") (codes "# me\n") refl refl refl refl refl (inr refl) (comment_tail 35 (codes " me") _ refl refl)
+    (codes "1 ") (codes "# me\n") refl refl refl refl refl (inr refl)
+    (comment_tail 35 (codes " me") _ refl refl)
     (at_comment [] 35 (codes " x") refl refl refl cut.ends)))) in
     let gives : GivesValue (codes "2") part (codes "k =2 # me\n") = (
       codes "2 ",
@@ -64,9 +67,12 @@ returns-clause-several c =
     let is_of : IsOf ak y = (listing.plain, refl) in
     let part = valued (codes "\t") (codes "k") (codes " ") (codes " 2") (codes "\n") in
     let cuts = at_top (codes "a") (λ e. cc) refl (at_end
-    (at_entry (codes "\t") 107 [] (codes " ") (codes " 1") (codes "\n") refl refl refl refl refl (inl refl) (feed_tail _)
-    (at_entry (codes "\t") 106 [] (codes " ") (codes " 0") (codes "\n") refl refl refl refl refl (inl refl) (feed_tail _)
-    (at_entry (codes "\t") 107 [] (codes " ") (codes " 2") (codes "\n") refl refl refl refl refl (inl refl) (feed_tail []) cut.ends)))) in
+    (at_entry (codes "\t") 107 [] (codes " ") (codes " 1") (codes "\n") refl refl refl refl refl (inl refl)
+    (feed_tail _)
+    (at_entry (codes "\t") 106 [] (codes " ") (codes " 0") (codes "\n") refl refl refl refl refl (inl refl)
+    (feed_tail _)
+    (at_entry (codes "\t") 107 [] (codes " ") (codes " 2") (codes "\n") refl refl refl refl refl (inl refl)
+    (feed_tail []) cut.ends)))) in
     let gives : GivesValue (codes "3") part (codes "\tk = 3\n") = (
       codes " 3",
       inr (
@@ -97,24 +103,29 @@ returns-clause-with_comment c =
     let is_of : IsOf gitproxy y = (listing.plain, refl) in
     let part = valued (codes "\t") (codes "gitproxy") [] (codes "default-proxy ") (codes "; for all the rest\n") in
     let cuts = at_top (codes "core") (λ e. cc) refl (at_end
-    (at_entry (codes "\t") 103 (codes "itproxy") [] (codes "proxy-command for kernel.org") (codes "\n") refl refl refl refl refl (inl refl) (feed_tail _)
-    (at_entry (codes "\t") 103 (codes "itproxy") [] (codes "default-proxy ") (codes "; for all the rest\n") refl refl refl refl refl (inr refl)
+    (at_entry (codes "\t") 103 (codes "itproxy") [] (codes "proxy-command for kernel.org")
+    (codes "\n") refl refl refl refl refl (inl refl) (feed_tail _)
+    (at_entry (codes "\t") 103 (codes "itproxy") [] (codes "default-proxy ")
+    (codes "; for all the rest\n") refl refl refl refl refl (inr refl)
     (comment_tail 59 (codes " for all the rest") [] refl refl) cut.ends))) in
     let gives : GivesValue (codes "ssh") part (codes "\tgitproxy=ssh ; for all the rest\n") = (
       codes "ssh ",
       inr (
         has_other (codes "default-proxy ") (codes "ssh") refl refl,
-        spec.in_place [] (codes " ") refl (core (codes "default-proxy") (λ e. cc) refl) refl (as_git (codes "ssh") refl),
+        spec.in_place [] (codes " ") refl (core (codes "default-proxy") (λ e. cc) refl) refl
+            (as_git (codes "ssh") refl),
       ),
       refl,
     ) in
     let first = cut.next (valued (codes "\t") (codes "gitproxy") [] (codes "proxy-command for kernel.org") (codes "\n")) []
-    (same end no (same (top (codes "core")) no cut.none)) (spec.goes (listing.plain, refl) (omega arith) refl) in
+    (same end no (same (top (codes "core")) no cut.none))
+    (spec.goes (listing.plain, refl) (omega arith) refl) in
     let each = cut.next part (codes "\tgitproxy=ssh ; for all the rest\n") first (spec.gets is_of refl gives) in (
       gitproxy,
       gitproxy_is,
       x ∷ y ∷ [],
       reads old refl refl,
       inl (replaces (x ∷ []) [] [] y (codes "ssh ") (reads new refl refl) is_of spec.none
-          (spec.lost x spec.none (listing.plain, refl) tt) (has_value (codes "ssh ") refl) (becomes {old = old} {new = new} refl cuts each)),
+          (spec.lost x spec.none (listing.plain, refl) tt) (has_value (codes "ssh ") refl)
+          (becomes {old = old} {new = new} refl cuts each)),
     )

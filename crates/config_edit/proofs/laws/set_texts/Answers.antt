@@ -1,4 +1,5 @@
-use Rattle.std.proofs.Common.{◌≡◌, ℕ, List, [], ◌∷◌, ◌++◌, Some, None, codes, length, refl, ap, arith, true, inl, inr, get_or}
+use Rattle.std.proofs.Common.{◌≡◌, ℕ, List, [], ◌∷◌, ◌++◌, Some, None, codes, length, refl, ap, arith, true}
+use Rattle.std.proofs.Common.{inl, inr, get_or}
 use Rattle.config_file.specs.Listing as listing
 use Rattle.config_file.specs.Value as value
 use Rattle.config_file.specs.Key.{Key, IsKey}
@@ -7,7 +8,8 @@ use Rattle.config_edit.specs.Cut.{Cuts, Part}
 use Rattle.config_edit.specs.Edit as spec
 use Rattle.config_edit.specs.Edit.{Content, GivesValue, IsOf, Sets}
 use Rattle.config_edit.proofs.OneEdit.{one_set}
-use Rattle.config_edit.proofs.Literals.{as_git, at_comment, at_end, at_entry, at_top, becomes, comment_tail, core, end, feed_tail}
+use Rattle.config_edit.proofs.Literals.{as_git, at_comment, at_end, at_entry, at_top, becomes, comment_tail}
+use Rattle.config_edit.proofs.Literals.{core, end, feed_tail}
 use Rattle.config_edit.proofs.Literals.{has_other, has_value, plain_key, reads, replaces, same, top, valued}
 use Rattle.config_edit.proofs.Literals.{ak, ak_is, plain_is}
 use Rattle.config_edit.proofs.laws.set_texts.Goals as goal
@@ -38,8 +40,10 @@ set_empty =
       reads (codes "[a]\nk =# me\n") refl refl,
       inl (
         ([], [], x, refl, is_of, spec.none, spec.none),
-        replaces [] [] [] x (codes " 2 ") (reads (codes "[a]\nk = 2 # me\n") refl refl) is_of spec.none spec.none
-            (has_value (codes " 2 ") refl) (becomes {old = codes "[a]\nk =# me\n"} {new = codes "[a]\nk = 2 # me\n"} refl cuts each),
+        replaces [] [] [] x (codes " 2 ")
+            (reads (codes "[a]\nk = 2 # me\n") refl refl) is_of spec.none spec.none
+            (has_value (codes " 2 ") refl) (becomes {old = codes "[a]\nk =# me\n"}
+            {new = codes "[a]\nk = 2 # me\n"} refl cuts each),
       ),
     )
 
@@ -68,14 +72,16 @@ set_commented =
     let about = cut.line (codes "# About b\n") true in
     let later = valued [] (codes "l") [] (codes "3") (codes "\n") in
     let below = at_end (at_comment [] 35 (codes " About b") refl refl refl (at_top (codes "b") (λ e. cc) refl
-    (at_end (at_entry [] 108 [] [] (codes "3") (codes "\n") refl refl refl refl refl (inl refl) (feed_tail []) cut.ends)))) in
+    (at_end (at_entry [] 108 [] [] (codes "3") (codes "\n") refl refl refl refl refl (inl refl)
+    (feed_tail []) cut.ends)))) in
     let cuts = at_top (codes "a") (λ e. cc) refl (at_end (at_entry [] 107 [] (codes " ") (codes " 1 ") (codes "# me\n") refl refl refl refl refl
     (inr refl) (comment_tail 35 (codes " me") _ refl refl) below)) in
     let gives : GivesValue (codes "2") part (codes "k = 2 # me\n") = (
       codes " 2 ",
       inr (
         has_other (codes " 1 ") (codes "2") refl refl,
-        spec.in_place (codes " ") (codes " ") refl (core (codes "1") (λ e. cc) refl) refl (as_git (codes "2") refl),
+        spec.in_place (codes " ") (codes " ") refl (core (codes "1") (λ e. cc) refl) refl
+            (as_git (codes "2") refl),
       ),
       refl,
     ) in
@@ -87,7 +93,8 @@ set_commented =
       reads old refl refl,
       inl (
         ([], b ∷ [], x, refl, is_of, spec.none, spec.kept b spec.none (λ is. other is.0)),
-        replaces [] [] (b ∷ []) x (codes " 2 ") (reads new refl refl) is_of (spec.kept b spec.none (λ is. other is.0)) spec.none
+        replaces [] [] (b ∷ []) x (codes " 2 ") (reads new refl refl) is_of
+            (spec.kept b spec.none (λ is. other is.0)) spec.none
             (has_value (codes " 2 ") refl) (becomes {old = old} {new = new} refl cuts each),
       ),
     )
@@ -114,13 +121,15 @@ returns-clause-below_comment c =
     let is_of : IsOf filemode x = (listing.plain, refl) in
     let part = valued (codes "\t") (codes "filemode") (codes " ") (codes " false") (codes "\n") in
     let cuts = at_top (codes "core") (λ e. cc) refl (at_end (at_comment (codes "\t") 59 (codes " Don't trust file modes") refl refl refl
-    (at_entry (codes "\t") 102 (codes "ilemode") (codes " ") (codes " false") (codes "\n") refl refl refl refl refl (inl refl) (feed_tail [])
+    (at_entry (codes "\t") 102 (codes "ilemode") (codes " ") (codes " false")
+    (codes "\n") refl refl refl refl refl (inl refl) (feed_tail [])
     cut.ends))) in
     let gives : GivesValue (codes "true") part (codes "\tfilemode = true\n") = (
       codes " true",
       inr (
         has_other (codes " false") (codes "true") refl refl,
-        spec.in_place (codes " ") [] refl (core (codes "false") (λ e. cc) refl) refl (as_git (codes "true") refl),
+        spec.in_place (codes " ") [] refl (core (codes "false") (λ e. cc) refl) refl
+            (as_git (codes "true") refl),
       ),
       refl,
     ) in

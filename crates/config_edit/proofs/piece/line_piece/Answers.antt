@@ -16,7 +16,8 @@ returns-after-tail-clause-piece c =
     let rest = c.in-Some.tail.rest.now in
     let whole = joined_more c.args.text.now blanks c.args.at.now tail rest c.requires.joined cut in
     let made =
-    line_made c.if-tail.result blanks c.in-Some.tail.is_line tail c.requires.blank (same_bytes rest c.before-in-Some.ensures whole) is in
+    line_made c.if-tail.result blanks c.in-Some.tail.is_line tail c.requires.blank
+    (same_bytes rest c.before-in-Some.ensures whole) is in
     record {
       joined = c.before-in-Some.ensures;
       blank = c.requires.blank;

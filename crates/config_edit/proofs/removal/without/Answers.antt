@@ -60,9 +60,12 @@ pieces-preserved c =
           let one : p.index + 1 ≡ p.index + length (contents_in piece.held section) = rw w.in-Entry.is in
           let count_is : m.count ≡ one_more p.count = w.count-is ∙ w.more-count.ensures in
           rw (w.new-is, w.group-is, count_is, w.left-is, w.index-is, w.section-is) (
-            losing_loses losing is shorter w.lose.new.self w.in-Entry.parts end w.in-Entry.is of at (left_is_end p.group.in_head piece.bytes.now end piece.is_line leaves) pushed kept,
-            rw w.in-Entry.is at (taken_loses taken is shorter {next = p.index + 1} (rw w.in-Entry.is refl) (rw w.in-Entry.is (of, at)) leaves pushed one below lost kept),
-            left_after places (option_copied p.left) (option_copied w.at_place-is_place.result.1) p.index left w.at_place-is_place.ensures.left,
+            losing_loses losing is shorter w.lose.new.self w.in-Entry.parts end w.in-Entry.is of at
+                (left_is_end p.group.in_head piece.bytes.now end piece.is_line leaves) pushed kept,
+            rw w.in-Entry.is at (taken_loses taken is shorter {next = p.index + 1} (rw w.in-Entry.is refl)
+                (rw w.in-Entry.is (of, at)) leaves pushed one below lost kept),
+            left_after places (option_copied p.left)
+                (option_copied w.at_place-is_place.result.1) p.index left w.at_place-is_place.ensures.left,
             omega arith,
           )
       | in-Entry+else-is_place+in_ok-keep-in-Entry w ↦
@@ -73,14 +76,16 @@ pieces-preserved c =
                 (sym ((w'.is_of.ensures losing.past.listable).1 (rw w.in-Entry.is at held))
                 ∙ w'.if-is_of.false)
             | else-is_place-via-else-is_place w' ↦ true≢false
-                (sym (w.at_place-is_place.ensures.here.1 ((left p.index (omega arith)).0 at)) ∙ w'.if-is_place.false)
+                (sym (w.at_place-is_place.ensures.here.1 ((left p.index (omega arith)).0 at))
+                ∙ w'.if-is_place.false)
           ] in
           let one : p.index + 1 ≡ p.index + length (contents_in piece.held section) = rw w.in-Entry.is in
           let same = ap (λ h. section_after h section) w.in-Entry.is in
           rw (w.new-is, w.group-is, w.count-is, w.left-is, w.index-is, w.section-is) (
             losing_keeps losing is shorter w.keep.new.self other one same pushed kept,
             rw same at (taken_keeps taken is shorter (rw w.in-Entry.is refl) other pushed one below lost kept),
-            left_after places (option_copied p.left) (option_copied w.at_place-is_place.result.1) p.index left w.at_place-is_place.ensures.left,
+            left_after places (option_copied p.left)
+                (option_copied w.at_place-is_place.result.1) p.index left w.at_place-is_place.ensures.left,
             omega arith,
           )
       | in-Nothing+in_ok-keep-in-Nothing w ↦
@@ -92,7 +97,8 @@ pieces-preserved c =
           let same = no_header_after piece.held section w.in-Nothing.is in
           rw (w.new-is, w.group-is, w.count-is, w.left-is, w.index-is, w.section-is) (
             losing_keeps losing is shorter w.keep-in-Nothing.new.self other one same pushed kept,
-            rw same at (taken_keeps taken is shorter (nothing_header w.in-Nothing.is) other pushed one below lost kept),
+            rw same at (taken_keeps taken is shorter
+                (nothing_header w.in-Nothing.is) other pushed one below lost kept),
             left,
             omega arith,
           )

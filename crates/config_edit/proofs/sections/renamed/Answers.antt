@@ -29,7 +29,8 @@ pieces-preserved c =
           (rw (w.is_found-is, new_is, header_is) (renaming_changes renaming piece is shorter held), header_is)
       | else-is_header_of+in_ok-extend_from_slice-3 w ↦
           let other : ¬ (IsHeaderHeld from piece.held) =
-          λ held. true≢false (sym ((c.is_header_of.ensures c.pieces.rest.now is).1 held) ∙ w.if-is_header_of.false) in
+          λ held. true≢false (sym ((c.is_header_of.ensures c.pieces.rest.now is).1 held)
+          ∙ w.if-is_header_of.false) in
           let new_is : c.if-is_header_of.new.items ≡ c.pieces.new.items ++ piece.bytes.now = search rules in
           (rw (w.is_found-is, new_is) (renaming_keeps renaming piece is shorter other), header_is)
     ]

@@ -19,7 +19,9 @@ returns c = λ contents ends.
       | in-Some+in_ok-push_inside-in-Some w ↦
           let (front, feed, feed_at, cut, pushed) = w.in_ok-push_inside-in-Some.ensures in
           let is_place = rw w.in-Some.is at p.inside in
-          added_inside value text c.match-places.new.items feed front {section = p.section} {place = w.in-Some.place} c.requires.name c.requires.spellable is_place.0 feed_at cut (ap (λ n. n.items) w.new-is ∙ pushed ∙ rw c.in_ok-new.ensures.items)
+          added_inside value text c.match-places.new.items feed front {section = p.section}
+          {place = w.in-Some.place} c.requires.name c.requires.spellable is_place.0 feed_at cut
+          (ap (λ n. n.items) w.new-is ∙ pushed ∙ rw c.in_ok-new.ensures.items)
       | in-None+in_ok-push_behind-in-None w ↦
           let (feed, feed_at, pushed) = w.in_ok-push_behind-in-None.ensures in
           let (nothing, never) = rw w.in-None.is at p.inside in

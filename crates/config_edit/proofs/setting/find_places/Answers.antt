@@ -3,7 +3,8 @@ use Rattle.config_edit.specs.declared.setting.Places.{Places}
 use Rattle.config_file.specs.KeyView.{key_of}
 use Rattle.config_edit.specs.Edit.{IsIn}
 use Rattle.config_edit.specs.Reading.{section_after, holds_header, is_item}
-use Rattle.config_edit.proofs.Added.{ends_no_line, placing_begins, placing_here, placing_kept, placing_ends, place_within}
+use Rattle.config_edit.proofs.Added.{ends_no_line, placing_begins, placing_here, placing_kept, placing_ends}
+use Rattle.config_edit.proofs.Added.{place_within}
 use Rattle.config_edit.proofs.Added.{inside_after_header, inside_after_other, header_after}
 use Rattle.config_edit.proofs.setting.find_places.Goals as goal
 use Rattle.config_edit.proofs.setting.find_places.Goals.{in-Header, in_default-held}
@@ -33,7 +34,8 @@ pieces-preserved-then-is_item c =
       | in-Header w ↦ w.is_header-is ∙ sym (ap (λ h. holds_header h) w.in-Header.is)
       | in_default-held w ↦ header_after piece.held m.is_header w.in_default-held.not-Header w.is_header-is
     ] in
-    placing_here p is c.in-Some.ensures.shorter c.of-end.ensures (ends_no_line piece.held is.unended) m.is_inside m.is_header inside header
+    placing_here p is c.in-Some.ensures.shorter c.of-end.ensures
+    (ends_no_line piece.held is.unended) m.is_inside m.is_header inside header
     c.if-is_inside.true (elim c.if-after_header.branch [
       | then-after_header v ↦ inl v.if-after_header.true
       | else-after_header v ↦ inr (sym v.is_item.ensures ∙ sym v.value-is ∙ c.if-is_item.true)
@@ -67,7 +69,8 @@ pieces-preserved c =
       ]
       | else-is_inside-via-else-is_inside w ↦ inl w.if-is_inside.false
     ] in
-    placing_kept p is c.in-Some.ensures.shorter c.of-end.ensures (ends_no_line piece.held is.unended) m.is_inside m.is_header inside header either
+    placing_kept p is c.in-Some.ensures.shorter c.of-end.ensures
+    (ends_no_line piece.held is.unended) m.is_inside m.is_header inside header either
 
 pub returns-clause-places : goal.returns-clause-places
 returns-clause-places c = λ contents ends.

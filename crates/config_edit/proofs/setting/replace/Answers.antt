@@ -33,7 +33,15 @@ pieces-preserved c =
     elim c.match-piece.branch [
       | in-Header w ↦
           let other : ¬ (IsEntryHeld key section piece.held) = rw w.in-Header.is (λ held. held) in
-          rw (w.new-is, w.start-is, w.found-is, w.several-is, w.section-is, c.is_header-in_line.ensures ∙ ap (λ h. holds_header h) w.in-Header.is)
+          rw (
+            w.new-is,
+            w.start-is,
+            w.found-is,
+            w.several-is,
+            w.section-is,
+            c.is_header-in_line.ensures
+                ∙ ap (λ h. holds_header h) w.in-Header.is,
+          )
           (rw w.in-Header.is at (passes other))
       | in-Entry+then-is_of+in_ok-push_before-in-Entry w ↦
           let f : Found = record { piece = piece; parts = w.in-Entry.parts; in_line = p.in_line } in
@@ -53,7 +61,15 @@ pieces-preserved c =
           p.invariant).2.listable in
           let other : ¬ (IsEntryHeld key section piece.held) = λ held.
           true≢false (sym ((w.is_of.ensures listable).1 (rw w.in-Entry.is at held)) ∙ w.if-is_of.false) in
-          rw (w.new-is, w.start-is, w.found-is, w.several-is, w.section-is, c.is_header-in_line.ensures ∙ ap (λ h. holds_header h) w.in-Entry.is)
+          rw (
+            w.new-is,
+            w.start-is,
+            w.found-is,
+            w.several-is,
+            w.section-is,
+            c.is_header-in_line.ensures
+                ∙ ap (λ h. holds_header h) w.in-Entry.is,
+          )
           (rw w.in-Entry.is at (passes other))
       | in-Nothing w ↦
           let step = passes (no_entry_held key section piece.held w.in-Nothing.is) in

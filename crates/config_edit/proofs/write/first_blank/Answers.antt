@@ -12,14 +12,17 @@ pub returns-then-first-ne13-clause-parts : goal.returns-then-first-ne13-clause-p
 returns-then-first-ne13-clause-parts c =
     first_one c.args.blanks.now c.split_at-then-first-ne13.result.0.now c.split_at-then-first-ne13.result.1.now
     c.in-Some.rest.now c.in-Some.first (search rules)
-    (omega (arith, c.split_at-then-first-ne13.ensures.front_len)) c.in-Some.ensures (λ (is, none). c.if-first-ne13.true is)
+    (omega (arith, c.split_at-then-first-ne13.ensures.front_len)) c.in-Some.ensures (λ (is, none).
+    c.if-first-ne13.true is)
 
 pub returns-then-is_empty-clause-parts : goal.returns-then-is_empty-clause-parts
 returns-then-is_empty-clause-parts c =
     let none = is_none_left c.in-Some.rest.now (sym c.if-is_empty.true ∙ c.is_empty.ensures) in
-    none_first c.args.blanks.now c.split_at-then-is_empty.result.0.now c.split_at-then-is_empty.result.1.now (search rules)
+    none_first c.args.blanks.now c.split_at-then-is_empty.result.0.now c.split_at-then-is_empty.result.1.now
+    (search rules)
     (omega (arith, c.split_at-then-is_empty.ensures.front_len))
-    (inr (c.in-Some.ensures ∙ ap (λ r. c.in-Some.first ∷ r) none ∙ ap (λ b. b ∷ []) (omega (arith, c.if-first-ne13.false))))
+    (inr (c.in-Some.ensures ∙ ap (λ r. c.in-Some.first ∷ r) none
+    ∙ ap (λ b. b ∷ []) (omega (arith, c.if-first-ne13.false))))
 
 pub returns-else-is_empty-clause-parts : goal.returns-else-is_empty-clause-parts
 returns-else-is_empty-clause-parts c =

@@ -1,9 +1,11 @@
-use Rattle.std.proofs.Common.{◌≡◌, ◌++◌, ◌∷◌, ◌∙◌, ◌↔◌, [], refl, sym, ap, Some, None, IsTrue, append_assoc, append-nil}
+use Rattle.std.proofs.Common.{◌≡◌, ◌++◌, ◌∷◌, ◌∙◌, ◌↔◌, [], refl, sym, ap, Some, None, IsTrue, append_assoc}
+use Rattle.std.proofs.Common.{append-nil}
 use Rattle.std.proofs.Common.{length, ◌==◌}
 use Rattle.config_file.specs.Spelling.{git_spelled}
 use Rattle.config_file.specs.Views.{value_of}
 use Rattle.config_edit.proofs.Changed.{can_hold, tail_cut, front_cut, value_changed, value_given, value_kept}
-use Rattle.config_edit.proofs.Changed.{how_spelled, not_spelled, behind, key_taken, front_is_behind, start_is_behind}
+use Rattle.config_edit.proofs.Changed.{how_spelled, not_spelled, behind, key_taken, front_is_behind}
+use Rattle.config_edit.proofs.Changed.{start_is_behind}
 use Rattle.config_edit.proofs.Changed.{spaced_of, closed_of, appended}
 use Rattle.config_edit.proofs.Edits.{is_none_left}
 use Rattle.config_edit.specs.Cut.{value_bytes}
@@ -67,8 +69,12 @@ returns c =
           let (put, pushed, is_put) = w.in_ok-push_in_place-in-Some.ensures between spaced in
           let pushes = w.in_ok-extend_from_slice-in-Some.ensures.items in
           let whole : c.extend_from_slice-2.new.self.items ≡ text ++ (start ++ (put ++ tail)) =
-          appended text start put tail (c.in_ok-extend_from_slice-2.ensures.items ∙ ap (λ t. t.items ++ tail) w.text-is) pushed pushes in
-          (start ++ (put ++ tail), whole, value_changed raw value put start between tail held e tail_is front_is bytes_is is_put other)
+          appended text start put tail (c.in_ok-extend_from_slice-2.ensures.items
+          ∙ ap (λ t. t.items ++ tail) w.text-is) pushed pushes in (
+            start ++ (put ++ tail),
+            whole,
+            value_changed raw value put start between tail held e tail_is front_is bytes_is is_put other,
+          )
       | in-None+in_ok-extend_from_slice-in-None+in_ok-push_given-in-None w ↦
           let close = w.is_empty.result in
           let put = space_if close ++ 61 ∷ 32 ∷ git_spelled value in
@@ -89,6 +95,10 @@ returns c =
           let pushed = w.in_ok-push_given-in-None.ensures in
           let pushes = w.in_ok-extend_from_slice-in-None.ensures.items in
           let whole : c.extend_from_slice-2.new.self.items ≡ text ++ (front ++ (put ++ tail)) =
-          appended text front put tail (c.in_ok-extend_from_slice-2.ensures.items ∙ ap (λ t. t.items ++ tail) w.text-is) pushed pushes in
-          (front ++ (put ++ tail), whole, rw (front_is, tail_is) (value_given close b.between held e behind_is c.requires.spellable close_is))
+          appended text front put tail (c.in_ok-extend_from_slice-2.ensures.items
+          ∙ ap (λ t. t.items ++ tail) w.text-is) pushed pushes in (
+            front ++ (put ++ tail),
+            whole,
+            rw (front_is, tail_is) (value_given close b.between held e behind_is c.requires.spellable close_is),
+          )
     ]

@@ -6,7 +6,8 @@ use Rattle.config_edit.specs.Reading.{IsOpenEntry}
 use Rattle.config_file.specs.Views.{value_of}
 use Rattle.config_edit.proofs.Changed.{has_of, how_spelled, not_spelled}
 use Rattle.config_edit.proofs.write.push_commented.Goals as goal
-use Rattle.config_edit.proofs.write.push_commented.Goals.{then-is_open+in_ok-has_value+then-branch+in_ok-push, else-is_open}
+use Rattle.config_edit.proofs.write.push_commented.Goals.{then-is_open+in_ok-has_value+then-branch+in_ok-push}
+use Rattle.config_edit.proofs.write.push_commented.Goals.{else-is_open}
 use Rattle.config_edit.proofs.write.push_commented.Goals.{else-is_open-via-then-is_open+in_ok-has_value+else-branch}
 use Rattle.config_edit.proofs.write.push_commented.Goals.{else-is_open-via-else-is_open}
 
@@ -34,7 +35,8 @@ returns c =
     let end = c.line_end.result.now in
     let first = c.in_ok-extend_from_slice.ensures.items in
     let (feed, fed, feed_is) : (feed : List ℕ) × (c.if-is_open.text.items ≡ text ++ (core ++ feed))
-    × ((IsOpenEntry parts × HasValue was value × (feed ≡ 10 ∷ [])) ⊎ (¬ (IsOpenEntry parts × HasValue was value) × (feed ≡ []))) =
+    × ((IsOpenEntry parts × HasValue was value × (feed ≡ 10 ∷ []))
+    ⊎ (¬ (IsOpenEntry parts × HasValue was value) × (feed ≡ []))) =
     elim c.if-is_open.branch [
       | then-is_open+in_ok-has_value+then-branch+in_ok-push w ↦
           let known = w.in_ok-has_value.ensures in

@@ -22,5 +22,8 @@ returns c = λ between is_spaced.
     let no = c.if-is_empty.false in grind (arith, nat_tests) in
     let first = c.in_ok-extend_from_slice.ensures.items in
     let whole : c.extend_from_slice-2.new.self.items ≡ text ++ (lead ++ (git ++ trail)) =
-    simp (c.in_ok-extend_from_slice-2.ensures.items, c.in_ok-push_as_git.ensures, first, append_assoc) in
-    (lead ++ (git ++ trail), whole, put_between lead rest core trail value c.requires c.run.ensures some c.trimmed.ensures.joined c.trimmed.ensures.blank c.trimmed.ensures.last)
+    simp (c.in_ok-extend_from_slice-2.ensures.items, c.in_ok-push_as_git.ensures, first, append_assoc) in (
+      lead ++ (git ++ trail),
+      whole,
+      put_between lead rest core trail value c.requires c.run.ensures some c.trimmed.ensures.joined c.trimmed.ensures.blank c.trimmed.ensures.last,
+    )

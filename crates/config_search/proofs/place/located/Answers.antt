@@ -4,5 +4,5 @@ use Rattle.config_search.proofs.place.located.Goals as goal
 
 pub returns-in-Some : goal.returns-in-Some
 returns-in-Some c = λ system agrees shares trusted. rw c.in_ok-new.ensures
-    ((rw c.in-Some.is at c.in_ok-refusal.ensures) system
+    ((rw c.in-Some.is at c.in_ok-refusal.ensures) system c.args.site.now.start.name.now
     (Inside c.args.site.now.folder.name.now (git_dir_of c.args.site.now.git_dir)) tt)

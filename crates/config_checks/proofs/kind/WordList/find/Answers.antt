@@ -13,8 +13,13 @@ loop-word-preserved c =
     let wrong : ¬ (IsTrue c.is_word.result) = search rules in
     no_more list c.args.text.now c.loop-word.word-index c.loop-word.invariant inside
     (λ d word. wrong (c.is_word.ensures.1
-    (rw (words, get_or_default list.words.items c.loop-word.word-index (record { ref_ptr = (0, 0); now = [] }) d inside) word)))
+    (rw (
+      words,
+      get_or_default list.words.items c.loop-word.word-index
+          (record { ref_ptr = (0, 0); now = [] }) d inside,
+    ) word)))
 
 pub returns : goal.returns
 returns c = subst (IsNoWord c.args.self.now c.args.text.now)
-    (take_all c.loop-word.word-index c.args.self.now.words.items (omega (arith, ap length c.deref-words.ensures.value, c.loop-word-test.false))) c.loop-word.invariant
+    (take_all c.loop-word.word-index c.args.self.now.words.items
+    (omega (arith, ap length c.deref-words.ensures.value, c.loop-word-test.false))) c.loop-word.invariant

@@ -7,7 +7,8 @@ use Rattle.config_checks.proofs.WordLemmas.{more_pieces}
 use Rattle.config_checks.proofs.kind.WordList.has_each.Goals as goal
 
 pub loop-piece-preserved : goal.loop-piece-preserved
-loop-piece-preserved c = more_pieces (IsPiece c.args.self.now) c.loop-piece.yielded c.in-Some.piece c.loop-piece.invariant
+loop-piece-preserved c = more_pieces
+    (IsPiece c.args.self.now) c.loop-piece.yielded c.in-Some.piece c.loop-piece.invariant
     (c.takes_piece.ensures.0 (search rules))
 
 pub returns-then-not-takes_piece : goal.returns-then-not-takes_piece
@@ -17,8 +18,11 @@ returns-then-not-takes_piece c =
     let parts = parts_of _ _ _ _ loop.yielded_by c.into_iter-piece-iterator.ensures.into_iter_gives is_separator
     c.args.text.now split.rest split.done split.closure (λ x b q k. search (rules, tests)) in
     let here = YieldsList-turn parts loop.yielded _ loop.yielded_by _ _ c.in-Some.piece c.in-Some.is c.next.ensures.steps in
-    let wrong : ¬ (IsPiece c.args.self.now c.in-Some.piece.now) = λ piece. absurd (search rules) in
-    (λ no. absurd (cc), λ all. absurd (wrong (subst (IsPiece c.args.self.now) (sym here.1) (all _ c.in-Some.piece.now here.0))))
+    let wrong : ¬ (IsPiece c.args.self.now c.in-Some.piece.now) = λ piece. absurd (search rules) in (
+      λ no. absurd (cc),
+      λ all. absurd
+          (wrong (subst (IsPiece c.args.self.now) (sym here.1) (all _ c.in-Some.piece.now here.0))),
+    )
 
 pub returns : goal.returns
 returns c =

@@ -7,7 +7,8 @@ use Rattle.config_checks.proofs.WordLemmas.{more_pieces}
 use Rattle.config_checks.proofs.kind.WordList.has_one.Goals as goal
 
 pub loop-piece-preserved : goal.loop-piece-preserved
-loop-piece-preserved c = more_pieces (λ piece. ¬ (HasWord c.args.self.now piece)) c.loop-piece.yielded c.in-Some.piece
+loop-piece-preserved c = more_pieces (λ piece.
+    ¬ (HasWord c.args.self.now piece)) c.loop-piece.yielded c.in-Some.piece
     c.loop-piece.invariant (λ word. absurd (search rules))
 
 pub returns-then-has : goal.returns-then-has
@@ -16,8 +17,11 @@ returns-then-has c =
     let loop = c.loop-piece in
     let parts = parts_of _ _ _ _ loop.yielded_by c.into_iter-piece-iterator.ensures.into_iter_gives is_no_letter
     c.args.text.now split.rest split.done split.closure (λ x b q k. search (rules, tests)) in
-    let here = YieldsList-turn parts loop.yielded _ loop.yielded_by _ _ c.in-Some.piece c.in-Some.is c.next.ensures.steps in
-    (λ _. (length loop.yielded, c.in-Some.piece.now, here.0, sym here.1, c.has.ensures.0 (search rules)), λ _. search rules)
+    let here = YieldsList-turn parts loop.yielded _ loop.yielded_by _ _ c.in-Some.piece c.in-Some.is c.next.ensures.steps in (
+      λ _. (length loop.yielded, c.in-Some.piece.now, here.0, sym here.1, c.has.ensures.0 (search rules)),
+      λ _.
+          search rules,
+    )
 
 pub returns : goal.returns
 returns c =

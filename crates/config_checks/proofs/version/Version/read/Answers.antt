@@ -10,7 +10,8 @@ returns-in-Err c = λ v is.
     let same = cut_same c.in_ok-parts.ensures is.cut in
     let key = key_of c.in_ok-parts.parts in
     let section : c.section.result.now ≡ key.section = search rules in
-    absurd (c.in-Err.ensures.1 v.major (subst (λ t. AmountText t v.major) (sym (section ∙ ap (λ k. k.section) same)) is.major))
+    absurd (c.in-Err.ensures.1 v.major
+    (subst (λ t. AmountText t v.major) (sym (section ∙ ap (λ k. k.section) same)) is.major))
 
 pub returns-in-Err-try_read : goal.returns-in-Err-try_read
 returns-in-Err-try_read c = λ v is.

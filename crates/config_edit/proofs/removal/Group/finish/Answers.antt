@@ -13,6 +13,9 @@ returns c =
     elim c.head_left.ensures [
       | inl (same, stays) ↦
           (g.head.items ++ g.body.items, whole ∙ ap (λ l. new ++ (l ++ g.body.items)) same, edit.whole stays)
-      | inr (same, not_kept, lost) ↦
-          (g.line_end.now ++ g.body.items, whole ∙ ap (λ l. new ++ (l ++ g.body.items)) same, edit.without_head not_kept lost)
+      | inr (same, not_kept, lost) ↦ (
+        g.line_end.now ++ g.body.items,
+        whole ∙ ap (λ l. new ++ (l ++ g.body.items)) same,
+        edit.without_head not_kept lost,
+      )
     ]
