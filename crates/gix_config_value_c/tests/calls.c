@@ -387,7 +387,7 @@ static void status_texts(void)
     count(strcmp(unknown, "unknown status") == 0 && gcv_status_text((gcv_status)UINT32_MAX) == unknown, unknown);
     for (uint32_t status = GCV_OK; status <= GCV_BAD_FORMAT; status++) {
         const char *text = gcv_status_text((gcv_status)status);
-        int is_none = status == 11 || (status > GCV_ASKS && status < GCV_NOT_READ), differs = strlen(text) > 0;
+        int is_none = status == 11 || (status > GCV_TOO_MANY_FACTS && status < GCV_NOT_READ), differs = strlen(text) > 0;
         for (uint32_t other = status + 1; other <= GCV_BAD_FORMAT + 1; other++) {
             differs = differs && (is_none || strcmp(text, gcv_status_text((gcv_status)other)) != 0);
         }
