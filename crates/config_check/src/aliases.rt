@@ -117,7 +117,7 @@ impl<'t> Aliases<'t> {
     }
 
     /// Takes note of the aliases of a file, up to a line that Git cannot read.
-    pub(crate) fn take(
+    pub(crate) fn add_file(
         &mut self,
         alloc: Global,
         file: &'t str,

@@ -7,7 +7,7 @@ use crate::changes::{
 };
 use crate::diff::diff_of;
 use crate::failure::{Failure, failed, tell, written};
-use crate::options::{Asked, Format, Output};
+use crate::options::{Format, Output, Request};
 use crate::report::{Lines, Report, counts_of};
 use crate::rows::{Must, Rows, built_in, knows_all, settings_for};
 use crate::sarif;
@@ -78,7 +78,7 @@ struct Checking<'c, 't> {
     /// The settings that rows ask for.
     musts: Vec<Must<'c, 'c>>,
     aliases: Aliases<'t>,
-    asked: &'c Asked<'c, 'c>,
+    request: &'c Request<'c, 'c>,
     options: Options<'t>,
     report: Report<'c>,
     disk: Disk<'t>,
@@ -232,7 +232,7 @@ impl<'c, 't> Checking<'c, 't> {
         let Ok(file) = str::from_utf8(name) else {
             return Ok(text);
         };
-        let (text, counts) = match self.asked.output {
+        let (text, counts) = match self.request.output {
             Output::Fixed if is_named => self.mend(file, text)?,
             Output::Diff if is_named => (text, self.show_changes(file, text)?),
             _ => (text, self.judge(file, text)?),
@@ -242,7 +242,7 @@ impl<'c, 't> Checking<'c, 't> {
         if is_modules(file) {
             self.judge_submodules(file, text)?;
         }
-        self.aliases.take(self.rt.alloc(), file, text)?;
+        self.aliases.add_file(self.rt.alloc(), file, text)?;
         Ok(text)
     }
 
@@ -334,7 +334,7 @@ impl<'c, 't> Checking<'c, 't> {
     ) -> Result<Looked, Failure<'static>> {
         let alloc = self.rt.alloc();
         let collects = matches!(pass, Pass::Looks { .. });
-        let mut guesses = self.asked.guesses;
+        let mut guesses = self.request.guesses;
         let mut mender = Some(Mender::new(alloc, self.disk.again()));
         let mut fixes = Vec::new(alloc);
         match pass {
@@ -414,7 +414,7 @@ impl<'c, 't> Checking<'c, 't> {
     fn all_rows(&mut self) -> Result<Vec<Row<'c>>, Failure<'static>> {
         match self.rows.take() {
             Some(rows) => Ok(rows),
-            None => built_in(self.rt.alloc(), self.asked.git, SETTINGS.as_bytes()),
+            None => built_in(self.rt.alloc(), self.request.git, SETTINGS.as_bytes()),
         }
     }
 
@@ -426,7 +426,7 @@ impl<'c, 't> Checking<'c, 't> {
         pass: Pass,
     ) -> Result<Looked, Failure<'static>> {
         let alloc = self.rt.alloc();
-        let mut rows = built_in(alloc, self.asked.git, MODULES.as_bytes())?;
+        let mut rows = built_in(alloc, self.request.git, MODULES.as_bytes())?;
         let count = rows.len();
         for row in self.all_rows()? {
             add(&mut rows, row)?;
@@ -474,7 +474,7 @@ impl<'c, 't> Checking<'c, 't> {
         text: &'t [u8],
     ) -> Result<Option<Counts>, Failure<'static>> {
         let alloc = self.rt.alloc();
-        let rows = built_in(alloc, self.asked.git, settings)?;
+        let rows = built_in(alloc, self.request.git, settings)?;
         let is_known = knows_all(alloc, &rows, text)?;
         if !is_known {
             return Ok(None);
@@ -485,8 +485,8 @@ impl<'c, 't> Checking<'c, 't> {
 
     /// Whether what is written tells which findings can be mended.
     fn tells_fixes(&self) -> bool {
-        matches!(self.asked.style.format, Format::Json | Format::Sarif)
-            && matches!(self.asked.output, Output::Findings | Output::Fixed)
+        matches!(self.request.style.format, Format::Json | Format::Sarif)
+            && matches!(self.request.output, Output::Findings | Output::Fixed)
     }
 
     /// The changes of which is told, with their lines if these are told too.
@@ -547,7 +547,7 @@ impl<'c, 't> Checking<'c, 't> {
         text: &'t [u8],
     ) -> Result<(&'t [u8], Counts), Failure<'static>> {
         let looks = Pass::Looks {
-            guesses: self.asked.guesses,
+            guesses: self.request.guesses,
         };
         let Looked { counts, changed } = self.look_by_all(file, text, looks)?;
         if counts.findings == 0 {
@@ -565,7 +565,7 @@ impl<'c, 't> Checking<'c, 't> {
         text: &'t [u8],
         changed: Option<Result<Changed, Unchanged>>,
     ) -> Result<&'t [u8], Failure<'static>> {
-        let Some(changed) = self.told(file, changed) else {
+        let Some(changed) = self.some_changes(file, changed) else {
             return Ok(text);
         };
         match change_file(&self.disk, file.as_bytes(), text, &changed.text) {
@@ -581,7 +581,11 @@ impl<'c, 't> Checking<'c, 't> {
     }
 
     /// The changes of a file, if there are some. Reports why they cannot be made.
-    fn told(&mut self, file: &str, changed: Option<Result<Changed, Unchanged>>) -> Option<Changed> {
+    fn some_changes(
+        &mut self,
+        file: &str,
+        changed: Option<Result<Changed, Unchanged>>,
+    ) -> Option<Changed> {
         match changed? {
             Ok(changed) if changed.changes.is_empty() => None,
             Ok(changed) => Some(changed),
@@ -596,7 +600,7 @@ impl<'c, 't> Checking<'c, 't> {
     fn show_changes(&mut self, file: &'t str, text: &'t [u8]) -> Result<Counts, Failure<'static>> {
         let alloc = self.rt.alloc();
         let Looked { counts, changed } = self.look_by_all(file, text, Pass::Both)?;
-        if let Some(changed) = self.told(file, changed) {
+        if let Some(changed) = self.some_changes(file, changed) {
             let diff = diff_of(alloc, file, text, &changed.text, &changed.changes)?;
             written(self.rt.stdout().write_all(&diff))?;
         }
@@ -640,7 +644,7 @@ impl<'c, 't> Checking<'c, 't> {
     /// begins at the root.
     fn rooted(&self, entry: &Entry<'t>, name: Vec<u8>) -> Result<Vec<u8>, AllocError> {
         let alloc = self.rt.alloc();
-        let Some(root) = self.asked.root else {
+        let Some(root) = self.request.root else {
             return Ok(name);
         };
         if !is_from_root(alloc, entry)? {
@@ -774,7 +778,7 @@ impl<'c, 't> Checking<'c, 't> {
         };
         self.open.clear();
         let text = self.check(place.name, text, true)?;
-        if self.musts.is_empty() && (!self.asked.follows || !has_includes(text)) {
+        if self.musts.is_empty() && (!self.request.follows || !has_includes(text)) {
             return Ok(());
         }
         self.walk(Walk::new(place, text))
@@ -790,7 +794,7 @@ impl<'c, 't> Checking<'c, 't> {
                 Step::Ends => break,
             };
             self.meet(&entry)?;
-            if !self.asked.follows
+            if !self.request.follows
                 || matches!(include, Include::NotFollowed | Include::MissingValue)
             {
                 continue;
@@ -807,7 +811,7 @@ impl<'c, 't> Checking<'c, 't> {
     /// The files that are named, or those that Git reads in the current folder, each once.
     fn first_files(&mut self) -> Result<Vec<&'t [u8]>, Failure<'static>> {
         let alloc = self.rt.alloc();
-        let found = match (self.asked.files, self.asked.output) {
+        let found = match (self.request.files, self.request.output) {
             ([], Output::Fixed) => return Err(Failure::Whole(UNNAMED)),
             ([], _) => files_here(&self.disk)?,
             (names, _) => named(alloc, &self.disk, names)?,
@@ -864,8 +868,8 @@ impl<'c, 't> Checking<'c, 't> {
 
     /// Whether the findings are a SARIF document.
     fn is_sarif(&self) -> bool {
-        matches!(self.asked.style.format, Format::Sarif)
-            && matches!(self.asked.output, Output::Findings | Output::Fixed)
+        matches!(self.request.style.format, Format::Sarif)
+            && matches!(self.request.output, Output::Findings | Output::Fixed)
     }
 
     /// Writes what follows the findings.
@@ -874,11 +878,11 @@ impl<'c, 't> Checking<'c, 't> {
         if self.is_sarif() {
             written(self.rt.stdout().write_all(sarif::END.as_bytes()))?;
         }
-        if matches!(self.asked.output, Output::Statistics) {
+        if matches!(self.request.output, Output::Statistics) {
             let text = self.report.statistics(alloc)?;
             written(self.rt.stdout().write_all(&text))?;
         }
-        if self.asked.is_quiet {
+        if self.request.is_quiet {
             return Ok(());
         }
         let line = self.summary()?;
@@ -892,7 +896,7 @@ impl<'c, 't> Checking<'c, 't> {
             return Err(Failure::Whole("Git reads no file here: name one"));
         }
         let has_stdin = files.contains(&STDIN);
-        if has_stdin && matches!(self.asked.output, Output::Fixed) {
+        if has_stdin && matches!(self.request.output, Output::Fixed) {
             return Err(Failure::Whole(UNCHANGEABLE));
         }
         if has_stdin && self.rt.stdin().is_terminal() {
@@ -905,8 +909,8 @@ impl<'c, 't> Checking<'c, 't> {
         self.report_aliases()?;
         self.report_missing()?;
         self.end()?;
-        let status = self.reported().status(self.asked.fails_on);
-        Ok(if status == 1 && self.asked.passes {
+        let status = self.reported().status(self.request.fails_on);
+        Ok(if status == 1 && self.request.passes {
             0
         } else {
             status
@@ -915,16 +919,16 @@ impl<'c, 't> Checking<'c, 't> {
 }
 
 /// The options of a check, with the users of this system or, with `--root`, of the one in that folder.
-fn options_of<'t>(disk: &Disk<'t>, asked: &Asked<'_, '_>) -> Result<Options<'t>, AllocError> {
-    let found = Users::new(disk, asked.root.unwrap_or("").as_bytes())?;
+fn options_of<'t>(disk: &Disk<'t>, request: &Request<'_, '_>) -> Result<Options<'t>, AllocError> {
+    let found = Users::new(disk, request.root.unwrap_or("").as_bytes())?;
     let has_home = found.home.is_some();
     let users = match found.passwd {
         Some(passwd) => Some(paths::KnownUsers { has_home, passwd }),
         None => None,
     };
     Ok(Options {
-        git: asked.git,
-        canonical: asked.canonical,
+        git: request.git,
+        canonical: request.canonical,
         users,
     })
 }
@@ -934,11 +938,11 @@ pub(crate) fn check<'m, 't>(
     rt: &'t HostRuntime,
     texts: &'t Bump,
     all: Rows<'m, '_>,
-    asked: Asked<'_, 'm>,
+    request: Request<'_, 'm>,
 ) -> Result<u8, Failure<'m>> {
     let alloc = rt.alloc();
     let Rows { rows, musts } = all;
-    let baseline = match asked.baseline {
+    let baseline = match request.baseline {
         Some(file) => Some(fingerprints(rt, file)?),
         None => None,
     };
@@ -949,9 +953,9 @@ pub(crate) fn check<'m, 't>(
         by_sections: FEW_FILES,
         musts,
         aliases: Aliases::new(alloc)?,
-        asked: &asked,
-        options: options_of(&disk, &asked)?,
-        report: Report::new(alloc, &asked, baseline)?,
+        request: &request,
+        options: options_of(&disk, &request)?,
+        report: Report::new(alloc, &request, baseline)?,
         surroundings: Surroundings::new(&disk, Followed::Everything)?,
         disk,
         seen: BTreeSet::new(alloc),

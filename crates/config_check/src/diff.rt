@@ -168,7 +168,7 @@ fn put_range(out: &mut Text, sign: &str, span: Span) {
 }
 
 /// The lines of a text that a hunk shows, of which these change.
-fn shown(lines: &[&[u8]], first: Span, last: Span) -> Span {
+fn in_hunk(lines: &[&[u8]], first: Span, last: Span) -> Span {
     Span {
         first: first.first.saturating_sub(CONTEXT).max(1),
         last: last.last.saturating_add(CONTEXT).min(lines.len()),
@@ -197,9 +197,9 @@ fn put_hunk(out: &mut Text, old: &[&[u8]], new: &[&[u8]], regions: &[Region]) {
     let (Some(first), Some(last)) = (regions.first(), regions.last()) else {
         return;
     };
-    let whole = shown(old, first.old, last.old);
+    let whole = in_hunk(old, first.old, last.old);
     put_range(out, "@@ -", whole);
-    put_range(out, " +", shown(new, first.new, last.new));
+    put_range(out, " +", in_hunk(new, first.new, last.new));
     put(out, " @@");
     put_guesses(out, regions);
     put(out, "\n");

@@ -22,7 +22,7 @@ use crate::checking::check;
 use crate::explain::{explain_code, explain_key};
 use crate::failure::{Failure, status, written};
 use crate::options::{
-    ABOUT, Asked, TABLES, VERSION, check_once, git_of, ignored_by, values_of, with_those_of,
+    ABOUT, Request, TABLES, VERSION, check_once, git_of, ignored_by, values_of, with_those_of,
 };
 use crate::rows::{built_in, read_shared, rows_of};
 use bumpalo::Bump;
@@ -45,10 +45,10 @@ fn run_check<'m>(
     };
     let options = with_those_of(alloc, &words, given)?;
     let ignored = ignored_by(alloc, &values_of(alloc, &options, "ignore")?)?;
-    let asked = Asked::of(rt, &options, &ignored)?;
+    let request = Request::of(rt, &options, &ignored)?;
     let files = values_of(alloc, &options, "settings")?;
-    let rows = rows_of(rt, texts, asked.git, &files, text)?;
-    check(rt, texts, rows, asked)
+    let rows = rows_of(rt, texts, request.git, &files, text)?;
+    check(rt, texts, rows, request)
 }
 
 /// Says what a code means, or what the rows say of a key. Returns the exit status.

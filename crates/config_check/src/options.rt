@@ -190,7 +190,7 @@ pub(crate) enum Ignored<'m> {
 
 /// What a run is asked for.
 #[derive(Clone, Copy)]
-pub(crate) struct Asked<'r, 'm> {
+pub(crate) struct Request<'r, 'm> {
     pub(crate) git: Version,
     pub(crate) canonical: bool,
     pub(crate) style: Style,
@@ -369,12 +369,12 @@ pub(crate) fn ignored_by<'m>(
 
 /// What is written on standard output.
 fn output_of(options: &Options<'_>) -> Result<Output, Failure<'static>> {
-    let asked = (
+    let kinds = (
         options.has("fix"),
         options.has("diff"),
         options.has("statistics"),
     );
-    match asked {
+    match kinds {
         (false, false, false) => Ok(Output::Findings),
         (true, false, false) => Ok(Output::Fixed),
         (false, true, false) => Ok(Output::Diff),
@@ -395,14 +395,14 @@ fn guesses_of(options: &Options<'_>) -> Result<bool, Failure<'static>> {
     }
 }
 
-impl<'r, 'm: 'r> Asked<'r, 'm> {
+impl<'r, 'm: 'r> Request<'r, 'm> {
     /// What these options ask for, of which `--ignore` is read already.
     pub(crate) fn of(
         rt: &HostRuntime,
         options: &'r Options<'m>,
         ignored: &'r [Ignored<'m>],
-    ) -> Result<Asked<'r, 'm>, Failure<'m>> {
-        Ok(Asked {
+    ) -> Result<Request<'r, 'm>, Failure<'m>> {
+        Ok(Request {
             git: git_of(rt, options)?,
             canonical: options.has("canonical"),
             style: Style {

@@ -5,7 +5,7 @@ use crate::annotations::put_annotation;
 use crate::causes::Cause;
 use crate::changes::{Mended, Mender};
 use crate::hints::{Hint, hint_for, key_in_order, name_meant, put_slots};
-use crate::options::{Asked, Format, Ignored, Output, Style};
+use crate::options::{Format, Ignored, Output, Request, Style};
 use crate::sarif::result_of;
 use crate::source::{Source, Spot};
 use crate::text::{put, put_hint, put_meant, put_number, put_text};
@@ -156,15 +156,15 @@ impl<'c> Report<'c> {
     /// A report without a finding so far.
     pub(crate) fn new(
         alloc: Global,
-        asked: &Asked<'c, 'c>,
+        request: &Request<'c, 'c>,
         baseline: Option<BTreeSet<String>>,
     ) -> Result<Report<'c>, AllocError> {
         let mut counts = Vec::new(alloc);
         counts.resize(EXPLAINED.len(), 0)?;
         Ok(Report {
-            style: asked.style,
-            output: asked.output,
-            ignored: asked.ignored,
+            style: request.style,
+            output: request.output,
+            ignored: request.ignored,
             baseline,
             hidden: Hidden::default(),
             seen: BTreeMap::new(alloc),
@@ -241,7 +241,7 @@ impl<W: Write> Lines<'_, '_, '_, '_, '_, '_, '_, W> {
     }
 
     /// The text of a finding in the format that is wanted.
-    fn shown(
+    fn formatted(
         &mut self,
         finding: &Finding<'_>,
         spot: &Spot<'_>,
@@ -318,7 +318,7 @@ impl<W: Write> Lines<'_, '_, '_, '_, '_, '_, '_, W> {
         }
         self.report.count(finding.code);
         match self.report.output {
-            Output::Findings | Output::Fixed => self.shown(finding, spot, equal),
+            Output::Findings | Output::Fixed => self.formatted(finding, spot, equal),
             Output::Diff | Output::Statistics => Ok(Vec::new(self.alloc)),
         }
     }

@@ -6,7 +6,7 @@ use config_file::{CommandError, count_of, push_parameters, push_setting};
 use std::alloc::AllocError;
 
 /// The refusal as an error of the place. Refused memory is one of the system.
-fn told(error: CommandError) -> HereError<'static> {
+fn refused(error: CommandError) -> HereError<'static> {
     match error {
         CommandError::Memory(error) => HereError::from(error),
         error => HereError::Command(error),
@@ -31,7 +31,7 @@ fn push_numbered(
     let Some(value) = numbered(host, "GIT_CONFIG_VALUE_", number)? else {
         return Err(HereError::Command(CommandError::MissingValue(number)));
     };
-    push_setting(host.alloc(), text, &key, Some(&value)).map_err(told)
+    push_setting(host.alloc(), text, &key, Some(&value)).map_err(refused)
 }
 
 /// Appends the settings of GIT_CONFIG_COUNT.
@@ -39,7 +39,7 @@ fn push_counted(host: &HostRuntime, text: &mut Vec<u8>) -> Result<(), HereError<
     let Some(count) = variable(host, "GIT_CONFIG_COUNT")? else {
         return Ok(());
     };
-    let count = count_of(&count).map_err(told)?;
+    let count = count_of(&count).map_err(refused)?;
     for number in 0..count {
         push_numbered(host, text, number)?;
     }
@@ -52,7 +52,7 @@ pub fn command_text(host: &HostRuntime) -> Result<Vec<u8>, HereError<'static>> {
     let mut text = Vec::new(host.alloc());
     push_counted(host, &mut text)?;
     if let Some(parameters) = variable(host, "GIT_CONFIG_PARAMETERS")? {
-        push_parameters(host.alloc(), &mut text, &parameters).map_err(told)?;
+        push_parameters(host.alloc(), &mut text, &parameters).map_err(refused)?;
     }
     Ok(text)
 }

@@ -87,7 +87,7 @@ impl From<AllocError> for ArgumentError {
 
 /// What the environment is asked for.
 #[derive(Clone, Copy)]
-enum Asked<'n> {
+enum Input<'n> {
     Argument(usize),
     Variable(&'n str),
 }
@@ -98,20 +98,20 @@ const USUAL: usize = 256;
 /// The number of bytes that is enough for the name of a folder.
 const LONGEST_FOLDER: usize = 4096;
 
-fn fill(host: &HostRuntime, asked: Asked<'_>, buffer: &mut [u8]) -> Result<usize, FillError> {
-    match asked {
-        Asked::Argument(index) => host.arg(index, buffer),
-        Asked::Variable(name) => host.var(name, buffer),
+fn fill(host: &HostRuntime, input: Input<'_>, buffer: &mut [u8]) -> Result<usize, FillError> {
+    match input {
+        Input::Argument(index) => host.arg(index, buffer),
+        Input::Variable(name) => host.var(name, buffer),
     }
 }
 
 /// The bytes of what is asked for, or `None` if there is no such thing.
-fn bytes_of(host: &HostRuntime, asked: Asked<'_>) -> Result<Option<Vec<u8>>, AllocError> {
+fn bytes_of(host: &HostRuntime, input: Input<'_>) -> Result<Option<Vec<u8>>, AllocError> {
     let mut size = USUAL;
     for _ in 0..usize::BITS {
         let mut bytes = Vec::new(host.alloc());
         bytes.resize(size, 0)?;
-        match fill(host, asked, &mut bytes) {
+        match fill(host, input, &mut bytes) {
             Ok(length) => {
                 bytes.truncate(length);
                 return Ok(Some(bytes));
@@ -125,7 +125,7 @@ fn bytes_of(host: &HostRuntime, asked: Asked<'_>) -> Result<Option<Vec<u8>>, All
 
 /// The value of an environment variable, or `None` if it is not set.
 pub fn variable(host: &HostRuntime, name: &str) -> Result<Option<Vec<u8>>, AllocError> {
-    bytes_of(host, Asked::Variable(name))
+    bytes_of(host, Input::Variable(name))
 }
 
 /// The value of an environment variable, which is kept, or `None` if it is not set.
@@ -143,7 +143,7 @@ pub(crate) fn kept_variable<'t>(
 pub fn arguments(host: &HostRuntime) -> Result<Vec<String>, ArgumentError> {
     let mut all = Vec::new(host.alloc());
     for index in 0..usize::MAX {
-        let Some(argument) = bytes_of(host, Asked::Argument(index))? else {
+        let Some(argument) = bytes_of(host, Input::Argument(index))? else {
             break;
         };
         if str::from_utf8(&argument).is_err() {

@@ -177,7 +177,7 @@ impl<'a> Options<'a> {
 }
 
 /// A row that is found, and whether its option is undone.
-type Found = (&'static Row, bool);
+type NamedRow = (&'static Row, bool);
 
 /// Whether `--no-` before its name undoes the option of this row.
 fn can_be_undone(row: &Row) -> bool {
@@ -197,7 +197,7 @@ fn row_of(tables: Tables, name: &str) -> Option<&'static Row> {
 }
 
 /// The option of this very name, which may begin with `no-`.
-fn exact(tables: Tables, name: &str) -> Option<Found> {
+fn exact(tables: Tables, name: &str) -> Option<NamedRow> {
     if let Some(row) = row_of(tables, name) {
         return Some((row, false));
     }
@@ -225,9 +225,9 @@ fn begins(row: &Row, name: &str) -> (bool, bool) {
 }
 
 /// The one option whose name has this beginning.
-fn abbreviated<'a>(tables: Tables, name: &'a str) -> Result<Found, Misuse<'a>> {
-    let mut before: Option<Found> = None;
-    let mut found: Option<Found> = None;
+fn abbreviated<'a>(tables: Tables, name: &'a str) -> Result<NamedRow, Misuse<'a>> {
+    let mut before: Option<NamedRow> = None;
+    let mut found: Option<NamedRow> = None;
     for rows in tables {
         for row in *rows {
             let (is_named, is_opposite) = begins(row, name);
@@ -321,10 +321,10 @@ impl<'w, 'a> Reading<'w, 'a> {
         }
     }
 
-    /// Takes an option of this row, with this value if the same word has one. If it lacks one, that is the misuse.
-    fn take(
+    /// Reads an option of this row, with this value if the same word has one. If it lacks one, that is the misuse.
+    fn read_option(
         &mut self,
-        found: Found,
+        found: NamedRow,
         value: Option<&'a str>,
         lacking: Misuse<'a>,
     ) -> Result<(), Misuse<'a>> {
@@ -350,8 +350,8 @@ impl<'w, 'a> Reading<'w, 'a> {
         Ok(())
     }
 
-    /// Takes the option of a name, with its value if a `=` and a value follow the name.
-    fn take_named(&mut self, text: &'a str) -> Result<(), Misuse<'a>> {
+    /// Reads the option of a name, with its value if a `=` and a value follow the name.
+    fn read_named(&mut self, text: &'a str) -> Result<(), Misuse<'a>> {
         let (name, value) = match text.split_once('=') {
             Some((name, value)) => (name, Some(value)),
             None => (text, None),
@@ -364,11 +364,11 @@ impl<'w, 'a> Reading<'w, 'a> {
                 Ok(found) => found,
             },
         };
-        self.take(found, value, Misuse::NeedsValue(found.0.0))
+        self.read_option(found, value, Misuse::NeedsValue(found.0.0))
     }
 
-    /// Takes the options of letters, of which the last one may be followed by its value.
-    fn take_lettered(&mut self, letters: &'a str) -> Result<(), Misuse<'a>> {
+    /// Reads the options of letters, of which the last one may be followed by its value.
+    fn read_letters(&mut self, letters: &'a str) -> Result<(), Misuse<'a>> {
         for (at, letter) in letters.char_indices() {
             let Some(row) = lettered(self.tables, letter) else {
                 check_dashes(self.tables, letters)?;
@@ -382,22 +382,22 @@ impl<'w, 'a> Reading<'w, 'a> {
                 .get(at.saturating_add(letter.len_utf8())..)
                 .unwrap_or("");
             let value = if rest.is_empty() { None } else { Some(rest) };
-            return self.take((row, false), value, Misuse::SwitchNeedsValue(row.1));
+            return self.read_option((row, false), value, Misuse::SwitchNeedsValue(row.1));
         }
         Ok(())
     }
 
-    /// Takes the next word, which is this one.
-    fn take_word(&mut self, word: &'a str, ends: Ends) -> Result<(), Misuse<'a>> {
+    /// Reads the next word, which is this one.
+    fn read_word(&mut self, word: &'a str, ends: Ends) -> Result<(), Misuse<'a>> {
         if word == "--" || word == "--end-of-options" {
             self.goes_on = false;
             return Ok(());
         }
         if let Some(name) = word.strip_prefix("--") {
-            return self.take_named(name);
+            return self.read_named(name);
         }
         match word.strip_prefix("-") {
-            Some(letters) if !letters.is_empty() => self.take_lettered(letters),
+            Some(letters) if !letters.is_empty() => self.read_letters(letters),
             _ => {
                 self.keep_word(word);
                 self.goes_on = matches!(ends, Ends::Nowhere);
@@ -430,7 +430,7 @@ pub fn read<'a>(
         };
         if !reading.goes_on {
             reading.keep_word(word);
-        } else if let Err(misuse) = reading.take_word(word, ends) {
+        } else if let Err(misuse) = reading.read_word(word, ends) {
             return Ok(Err(misuse));
         }
     }

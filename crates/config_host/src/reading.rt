@@ -121,7 +121,7 @@ fn asks_for_urls(alloc: Global, entry: &Entry<'_>) -> Result<bool, AllocError> {
 
 /// What a walk that looks for conditions on the URLs of remotes comes to.
 #[derive(Clone, Copy)]
-enum Asked {
+enum UrlStep {
     /// One of them.
     Condition,
     /// Another entry.
@@ -133,23 +133,23 @@ enum Asked {
 }
 
 /// What the walk comes to next.
-fn asked_next<'t>(
+fn next_url_step<'t>(
     disk: &Disk<'t>,
     known: &Known<'_>,
     walk: &mut Walk<'t>,
-) -> Result<Asked, HereError<'t>> {
+) -> Result<UrlStep, HereError<'t>> {
     let taken = match next_entry(disk, known, walk) {
         Ok(Some(taken)) => taken,
-        Ok(None) => return Ok(Asked::End),
+        Ok(None) => return Ok(UrlStep::End),
         Err(HereError::Host(error)) => return Err(HereError::Host(error)),
-        Err(_) => return Ok(Asked::Stop),
+        Err(_) => return Ok(UrlStep::Stop),
     };
     if asks_for_urls(disk.host.alloc(), &taken.entry)? {
-        Ok(Asked::Condition)
+        Ok(UrlStep::Condition)
     } else if taken.stop.is_some() {
-        Ok(Asked::Stop)
+        Ok(UrlStep::Stop)
     } else {
-        Ok(Asked::Nothing)
+        Ok(UrlStep::Nothing)
     }
 }
 
@@ -162,11 +162,11 @@ fn text_asks<'t>(
     let disk = files_of(disk, source)?;
     let mut walk = Walk::new(source.place, source.text);
     for _ in 0..u64::MAX {
-        match asked_next(&disk, known, &mut walk)? {
-            Asked::Condition => return Ok(Some(true)),
-            Asked::Nothing => {}
-            Asked::End => break,
-            Asked::Stop => return Ok(None),
+        match next_url_step(&disk, known, &mut walk)? {
+            UrlStep::Condition => return Ok(Some(true)),
+            UrlStep::Nothing => {}
+            UrlStep::End => break,
+            UrlStep::Stop => return Ok(None),
         }
     }
     Ok(Some(false))
@@ -204,8 +204,8 @@ fn push_url<'t>(
     Ok(urls.push(disk.kept(&text)?)?)
 }
 
-/// Takes the next entry of a walk, and adds its URL. Returns false at the end.
-fn take_url<'t>(
+/// Reads the next entry of a walk, and adds its URL. Returns false at the end.
+fn push_next_url<'t>(
     disk: &Disk<'t>,
     known: &Known<'_>,
     walk: &mut Walk<'t>,
@@ -232,7 +232,7 @@ fn urls_of<'t>(
         let files = files_of(disk, source)?;
         let mut walk = Walk::new(source.place, source.text);
         for _ in 0..u64::MAX {
-            if !take_url(&files, known, &mut walk, &mut urls)? {
+            if !push_next_url(&files, known, &mut walk, &mut urls)? {
                 break;
             }
         }

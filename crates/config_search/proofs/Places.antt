@@ -22,9 +22,9 @@ one_linked false false at other is = absurd cc
 
 by_text : (system : System) (folder at other : List ℕ) (text : Option (List ℕ)) → Comes system folder at
     → text ≡ system TEXT (inside at (codes "commondir")) → linked_by system at text ≡ Linked other → Comes system folder other
-by_text system folder at other None comes told is = absurd cc
-by_text system folder at other (Some text) comes told is =
-    subst (λ (name : List ℕ). Comes system folder name) (one_linked _ _ _ _ is) (places.in_commondir comes (sym told))
+by_text system folder at other None comes said is = absurd cc
+by_text system folder at other (Some text) comes said is =
+    subst (λ (name : List ℕ). Comes system folder name) (one_linked _ _ _ _ is) (places.in_commondir comes (sym said))
 
 by_kind : (system : System) (folder at other : List ℕ) (known : Bool) → Comes system folder at
     → (if known then linked_by system at (system TEXT (inside at (codes "commondir"))) else Own) ≡ Linked other
@@ -41,10 +41,10 @@ linked_place system folder at other comes is =
 by_given : (system : System) (folder start at other : List ℕ) (given : Option (List ℕ)) → Comes system folder start
     → Comes system folder at → given ≡ system VARIABLE (codes "GIT_COMMON_DIR")
     → given_or start (linked_folder system at) given ≡ Linked other → Comes system folder other
-by_given system folder start at other None begins comes told is = linked_place system folder at other comes is
-by_given system folder start at other (Some text) begins comes told is =
+by_given system folder start at other None begins comes said is = linked_place system folder at other comes is
+by_given system folder start at other (Some text) begins comes said is =
     let same : given_in start text ≡ other = cc in
-    subst (λ (name : List ℕ). Comes system folder name) same (places.by_common begins (sym told))
+    subst (λ (name : List ℕ). Comes system folder name) same (places.by_common begins (sym said))
 
 -- the folder that a git directory shares
 pub common_place : (system : System) (folder start at other : List ℕ) → Comes system folder start
@@ -145,8 +145,8 @@ by_text_of system folder start text false false it begins comes = tt
 
 pub sought_place : (system : System) (folder start : List ℕ) {found : Sought} → Comes system folder start
     → Seeks system start found → AreThere system folder found
-sought_place system folder start begins (by_variable text told is) = rw is (by_text_of system folder start text _ _ _ begins
-    (leads_place system folder _ text IsGiven (places.by_variable {variable = codes "GIT_DIR"} begins refl told)))
+sought_place system folder start begins (by_variable text said is) = rw is (by_text_of system folder start text _ _ _ begins
+    (leads_place system folder _ text IsGiven (places.by_variable {variable = codes "GIT_DIR"} begins refl said)))
 sought_place system folder start begins (in_start it unset found is) =
     rw is (begins, found_place system folder start start it begins found)
 sought_place system folder start begins (in_above lowest unset none real above) =
@@ -162,8 +162,8 @@ pub device_place : (system : System) (folder : List ℕ) (facts : List Fact) (k 
     → k < length facts → (get_or facts k d).subject ≡ DEVICE → (get_or facts k d).has ≢ 0
     → Comes system folder (get_or facts k d).name.now
 device_place system folder facts k d agrees within is has =
-    let told : system (get_or facts k d).subject (get_or facts k d).name.now ≡ answer_of (get_or facts k d) = agrees k d within in
-    places.on_device (rw is at told ∙ answers (get_or facts k d) has)
+    let said : system (get_or facts k d).subject (get_or facts k d).name.now ≡ answer_of (get_or facts k d) = agrees k d within in
+    places.on_device (rw is at said ∙ answers (get_or facts k d) has)
 
 -- the folder that a git directory shares by its file
 

@@ -21,8 +21,8 @@ use Rattle.config_search.specs.Trust.{NamesFolder}
 use Rattle.config_search.specs.declared.TheConstants.{DEVICE, MOST_FACTS}
 use Rattle.config_search.specs.declared.answer.Named.{Named}
 use Rattle.config_search.specs.declared.protected.Sources.{Sources}
-use Rattle.config_search.specs.declared.seek.Found.{Found}
-use Rattle.config_search.specs.declared.seek.Found.TheVariants.{Nothing, In, Refused}
+use Rattle.config_search.specs.declared.seek.Discovery.{Discovery}
+use Rattle.config_search.specs.declared.seek.Discovery.TheVariants.{Nothing, In, Refused}
 use Rattle.config_search.specs.declared.seek.Limits.{Limits}
 use Rattle.config_search.specs.declared.format.Store.{Store}
 use Rattle.config_search.specs.declared.git_dir.Common.{Common}
@@ -84,7 +84,7 @@ abbrev pub git_dir_of : GitDir → rule.GitDir
 git_dir_of it = record { name = it.name.items; named = it.named.items; form = form_of it.form }
 
 -- what the program finds
-abbrev pub found_of : Found → search.Sought
+abbrev pub found_of : Discovery → search.Sought
 found_of Nothing = search.Nowhere
 found_of (In folder it) = search.Inside folder.name.now (git_dir_of it)
 found_of (Refused text) = search.Refused text.now

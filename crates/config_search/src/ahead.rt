@@ -4,7 +4,7 @@ ghost use Rattle.config_search.specs.Names.{inside};
 ghost use Rattle.config_search.specs.Questions.{IsNeeded};
 ghost use Rattle.config_search.specs.Shown.{IsNew};
 
-use crate::fact::{Asked, Fact, Stop, fact_in};
+use crate::fact::{Fact, Lookup, Stop, fact_in};
 use crate::name::{is_inside, parent};
 use crate::{DEVICE, KIND, VARIABLE};
 
@@ -59,11 +59,11 @@ fn next_of<'t>(facts: &[Fact<'t>]) -> Option<(u32, &'t [u8], &'t [u8])>
 }
 
 /// Asks what plainly comes next, unless a fact tells it already.
-pub(crate) fn ask_ahead(asked: &Asked<'_, '_>) -> Result<(), Stop>
-    ensures { IfErr result (IsNew asked.now.folder.now asked.now.facts.now) }
+pub(crate) fn ask_ahead(lookup: &Lookup<'_, '_>) -> Result<(), Stop>
+    ensures { IfErr result (IsNew lookup.now.folder.now lookup.now.facts.now) }
 {
-    if let Some((subject, folder, name)) = next_of(asked.facts) {
-        fact_in(asked, subject, folder, name)?;
+    if let Some((subject, folder, name)) = next_of(lookup.facts) {
+        fact_in(lookup, subject, folder, name)?;
     }
     Ok(())
 }

@@ -58,7 +58,7 @@ impl From<AllocError> for Stop {
 
 /// Facts that are looked up in the order in which they were asked for.
 #[derive(Drop)]
-pub(crate) struct Asked<'f, 't> {
+pub(crate) struct Lookup<'f, 't> {
     pub alloc: Global,
     /// The folder about which is asked.
     pub folder: &'t [u8],
@@ -66,13 +66,13 @@ pub(crate) struct Asked<'f, 't> {
     next: Cell<usize>,
 }
 
-impl<'f, 't> Asked<'f, 't> {
+impl<'f, 't> Lookup<'f, 't> {
     /// These facts.
-    pub fn new(alloc: Global, folder: &'t [u8], facts: &'f [Fact<'t>]) -> Asked<'f, 't>
+    pub fn new(alloc: Global, folder: &'t [u8], facts: &'f [Fact<'t>]) -> Lookup<'f, 't>
         ensures same_folder { result.folder.now ≡ folder.now }
         ensures same_facts { result.facts.now ≡ facts.now }
     {
-        Asked {
+        Lookup {
             alloc,
             folder,
             facts,
@@ -104,16 +104,21 @@ fn fact_among<'t>(facts: &[Fact<'t>], subject: u32, folder: &[u8], name: &[u8]) 
 }
 
 /// The fact that answers a question, if there is one: most often the next.
-fn fact_of<'t>(asked: &Asked<'_, 't>, subject: u32, folder: &[u8], name: &[u8]) -> Option<Fact<'t>>
-    ensures { MatchOption result (IsOpen asked.now.facts.now subject (inside folder.now name.now))
-        (IsFactOf asked.now.facts.now subject (inside folder.now name.now)) }
+fn fact_of<'t>(
+    lookup: &Lookup<'_, 't>,
+    subject: u32,
+    folder: &[u8],
+    name: &[u8],
+) -> Option<Fact<'t>>
+    ensures { MatchOption result (IsOpen lookup.now.facts.now subject (inside folder.now name.now))
+        (IsFactOf lookup.now.facts.now subject (inside folder.now name.now)) }
 {
-    let at = asked.next.get();
-    let facts = asked.facts;
+    let at = lookup.next.get();
+    let facts = lookup.facts;
     if at < facts.len() {
         let fact = &facts[at];
         if is_about(fact, subject, folder, name) {
-            asked.next.set(at + 1);
+            lookup.next.set(at + 1);
             return Some(*fact);
         }
     }
@@ -122,20 +127,20 @@ fn fact_of<'t>(asked: &Asked<'_, 't>, subject: u32, folder: &[u8], name: &[u8]) 
 
 /// The fact that answers a question about the file of this name in a folder, or a stop with the question.
 pub(crate) fn fact_in<'t>(
-    asked: &Asked<'_, 't>,
+    lookup: &Lookup<'_, 't>,
     subject: u32,
     folder: &[u8],
     name: &[u8],
 ) -> Result<Fact<'t>, Stop>
-    requires { IsNeeded asked.now.folder.now asked.now.facts.now subject (inside folder.now name.now) }
-    ensures { MatchResult result (IsFactOf asked.now.facts.now subject (inside folder.now name.now))
-        (IsNew asked.now.folder.now asked.now.facts.now) }
+    requires { IsNeeded lookup.now.folder.now lookup.now.facts.now subject (inside folder.now name.now) }
+    ensures { MatchResult result (IsFactOf lookup.now.facts.now subject (inside folder.now name.now))
+        (IsNew lookup.now.folder.now lookup.now.facts.now) }
 {
-    match fact_of(asked, subject, folder, name) {
+    match fact_of(lookup, subject, folder, name) {
         Some(fact) => Ok(fact),
-        None if asked.facts.len() >= MOST_FACTS => Err(Stop::TooManyFacts),
+        None if lookup.facts.len() >= MOST_FACTS => Err(Stop::TooManyFacts),
         None => {
-            let name = inside(asked.alloc, folder, name)?;
+            let name = inside(lookup.alloc, folder, name)?;
             Err(Stop::Ask(Question { subject, name }))
         }
     }
@@ -152,35 +157,35 @@ pub(crate) fn answer_of<'t>(fact: &Fact<'t>) -> Option<&'t [u8]>
 }
 
 /// The text of the answer to a question about the file of this name in a folder, or a stop with the question.
-pub(crate) fn told_in<'t>(
-    asked: &Asked<'_, 't>,
+pub(crate) fn answer_in<'t>(
+    lookup: &Lookup<'_, 't>,
     subject: u32,
     folder: &[u8],
     name: &[u8],
 ) -> Result<Option<&'t [u8]>, Stop>
-    requires { IsNeeded asked.now.folder.now asked.now.facts.now subject (inside folder.now name.now) }
+    requires { IsNeeded lookup.now.folder.now lookup.now.facts.now subject (inside folder.now name.now) }
     ensures { MatchResult result
-        (λ answer. (system : System) → AreTrueIn system asked.now.facts.now
+        (λ answer. (system : System) → AreTrueIn system lookup.now.facts.now
         → option_copied answer ≡ system subject (inside folder.now name.now))
-        (IsNew asked.now.folder.now asked.now.facts.now) }
+        (IsNew lookup.now.folder.now lookup.now.facts.now) }
 {
-    let fact = fact_in(asked, subject, folder, name)?;
+    let fact = fact_in(lookup, subject, folder, name)?;
     Ok(answer_of(&fact))
 }
 
 /// The text of the answer to a question about this name, or a stop with the question.
-pub(crate) fn told<'t>(
-    asked: &Asked<'_, 't>,
+pub(crate) fn answer_to<'t>(
+    lookup: &Lookup<'_, 't>,
     subject: u32,
     name: &[u8],
 ) -> Result<Option<&'t [u8]>, Stop>
-    requires { IsNeeded asked.now.folder.now asked.now.facts.now subject name.now }
+    requires { IsNeeded lookup.now.folder.now lookup.now.facts.now subject name.now }
     ensures { MatchResult result
-        (λ answer. (system : System) → AreTrueIn system asked.now.facts.now
+        (λ answer. (system : System) → AreTrueIn system lookup.now.facts.now
         → option_copied answer ≡ system subject name.now)
-        (IsNew asked.now.folder.now asked.now.facts.now) }
+        (IsNew lookup.now.folder.now lookup.now.facts.now) }
 {
-    told_in(asked, subject, b"", name)
+    answer_in(lookup, subject, b"", name)
 }
 
 /// Whether an answer is this word.

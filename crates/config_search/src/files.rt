@@ -9,7 +9,7 @@ ghost use Rattle.config_file.specs.declared.scope.Scope.TheVariants.{Global as o
 
 use crate::VARIABLE;
 use crate::answer::Named;
-use crate::fact::{Asked, Stop, told};
+use crate::fact::{Lookup, Stop, answer_to};
 use crate::name::joined;
 use crate::seek::is_on;
 use bstr::ByteSlice;
@@ -27,30 +27,30 @@ fn push(names: &mut Vec<Named>, scope: Scope, name: Vec<u8>) -> Result<(), Alloc
 }
 
 /// The name of the file of the system.
-fn system_name(asked: &Asked<'_, '_>) -> Result<Vec<u8>, Stop>
+fn system_name(lookup: &Lookup<'_, '_>) -> Result<Vec<u8>, Stop>
     ensures { MatchResult result
-        (λ name. (system : System) → AreTrueIn system asked.now.facts.now
+        (λ name. (system : System) → AreTrueIn system lookup.now.facts.now
         → name.items ≡ files.or_default (codes "/etc/gitconfig") (system VARIABLE (codes "GIT_CONFIG_SYSTEM")))
-        (IsNew asked.now.folder.now asked.now.facts.now) }
+        (IsNew lookup.now.folder.now lookup.now.facts.now) }
 {
-    match told(asked, VARIABLE, b"GIT_CONFIG_SYSTEM")? {
-        Some(name) => Ok(name.to_vec(asked.alloc)?),
-        None => Ok(b"/etc/gitconfig".to_vec(asked.alloc)?),
+    match answer_to(lookup, VARIABLE, b"GIT_CONFIG_SYSTEM")? {
+        Some(name) => Ok(name.to_vec(lookup.alloc)?),
+        None => Ok(b"/etc/gitconfig".to_vec(lookup.alloc)?),
     }
 }
 
 /// Adds the file of the system, unless GIT_CONFIG_NOSYSTEM says that it is not read.
-fn push_system(asked: &Asked<'_, '_>, names: &mut Vec<Named>) -> Result<(), Stop>
+fn push_system(lookup: &Lookup<'_, '_>, names: &mut Vec<Named>) -> Result<(), Stop>
     ensures { MatchResult result
-        (λ done. (system : System) → AreTrueIn system asked.now.facts.now
+        (λ done. (system : System) → AreTrueIn system lookup.now.facts.now
         → (first : List files.File) × files.IsOfSystem system first
         × (map file_of names.new.items ≡ map file_of names.old.items ++ first))
-        (IsNew asked.now.folder.now asked.now.facts.now) }
+        (IsNew lookup.now.folder.now lookup.now.facts.now) }
 {
-    if is_on(asked, b"GIT_CONFIG_NOSYSTEM")? {
+    if is_on(lookup, b"GIT_CONFIG_NOSYSTEM")? {
         return Ok(());
     }
-    let name = system_name(asked)?;
+    let name = system_name(lookup)?;
     push(names, Scope::System, name)?;
     Ok(())
 }
@@ -156,45 +156,45 @@ fn push_xdg(
 }
 
 /// Adds the files of the user that no variable names.
-fn push_own(asked: &Asked<'_, '_>, names: &mut Vec<Named>) -> Result<(), Stop>
+fn push_own(lookup: &Lookup<'_, '_>, names: &mut Vec<Named>) -> Result<(), Stop>
     ensures { MatchResult result
-        (λ done. (system : System) → AreTrueIn system asked.now.facts.now
+        (λ done. (system : System) → AreTrueIn system lookup.now.facts.now
         → map file_of names.new.items ≡ map file_of names.old.items ++ files.of_user_by system None)
-        (IsNew asked.now.folder.now asked.now.facts.now) }
+        (IsNew lookup.now.folder.now lookup.now.facts.now) }
 {
-    let own = told(asked, VARIABLE, b"XDG_CONFIG_HOME")?;
-    let home = told(asked, VARIABLE, b"HOME")?;
-    push_xdg(asked.alloc, names, home, own)?;
-    push_home(asked.alloc, names, home, b".gitconfig")?;
+    let own = answer_to(lookup, VARIABLE, b"XDG_CONFIG_HOME")?;
+    let home = answer_to(lookup, VARIABLE, b"HOME")?;
+    push_xdg(lookup.alloc, names, home, own)?;
+    push_home(lookup.alloc, names, home, b".gitconfig")?;
     Ok(())
 }
 
 /// Adds the files of the user: the one that GIT_CONFIG_GLOBAL names, or the two that are theirs.
-fn push_user(asked: &Asked<'_, '_>, names: &mut Vec<Named>) -> Result<(), Stop>
+fn push_user(lookup: &Lookup<'_, '_>, names: &mut Vec<Named>) -> Result<(), Stop>
     ensures { MatchResult result
-        (λ done. (system : System) → AreTrueIn system asked.now.facts.now
+        (λ done. (system : System) → AreTrueIn system lookup.now.facts.now
         → map file_of names.new.items ≡ map file_of names.old.items ++ files.files_of_user system)
-        (IsNew asked.now.folder.now asked.now.facts.now) }
+        (IsNew lookup.now.folder.now lookup.now.facts.now) }
 {
-    let Some(name) = told(asked, VARIABLE, b"GIT_CONFIG_GLOBAL")? else {
-        return push_own(asked, names);
+    let Some(name) = answer_to(lookup, VARIABLE, b"GIT_CONFIG_GLOBAL")? else {
+        return push_own(lookup, names);
     };
-    let name = name.to_vec(asked.alloc)?;
+    let name = name.to_vec(lookup.alloc)?;
     push(names, Scope::Global, name)?;
     Ok(())
 }
 
 /// The files that no repository can change: those of the system and of the user.
-pub(crate) fn protected_files(asked: &Asked<'_, '_>) -> Result<Vec<Named>, Stop>
+pub(crate) fn protected_files(lookup: &Lookup<'_, '_>) -> Result<Vec<Named>, Stop>
     ensures { MatchResult result
-        (λ names. (system : System) → AreTrueIn system asked.now.facts.now
+        (λ names. (system : System) → AreTrueIn system lookup.now.facts.now
         → (first : List files.File) × files.IsOfSystem system first
         × (map file_of names.items ≡ first ++ files.files_of_user system))
-        (IsNew asked.now.folder.now asked.now.facts.now) }
+        (IsNew lookup.now.folder.now lookup.now.facts.now) }
 {
-    let mut names = Vec::new(asked.alloc);
-    push_system(asked, &mut names)?;
-    push_user(asked, &mut names)?;
+    let mut names = Vec::new(lookup.alloc);
+    push_system(lookup, &mut names)?;
+    push_user(lookup, &mut names)?;
     Ok(names)
 }
 

@@ -4,7 +4,7 @@ ghost use Rattle.config_search.specs.Answers.{IsOfOneThere};
 ghost use Rattle.config_search.specs.Shown.{IsNewHalt, IsStore, AsksNothing};
 
 use crate::answer::{FaultKind, Refusal};
-use crate::fact::{Asked, told, told_in};
+use crate::fact::{Lookup, answer_in, answer_to};
 use crate::git_dir::Common;
 use crate::halt::{Halt, fault};
 use crate::name::{inside, joined};
@@ -115,20 +115,20 @@ fn store_in(alloc: Global, text: &[u8]) -> Result<Option<Store>, AllocError> {
 }
 
 /// What GIT_REFERENCE_BACKEND says of how references are stored, or `None` if it is not set.
-pub(crate) fn given_store(asked: &Asked<'_, '_>) -> Result<Option<Store>, Halt>
-    ensures { MatchResult result (λ store. IfSome store (IsStore asked.now.facts.now))
-        (IsNewHalt asked.now.folder.now asked.now.facts.now) }
+pub(crate) fn given_store(lookup: &Lookup<'_, '_>) -> Result<Option<Store>, Halt>
+    ensures { MatchResult result (λ store. IfSome store (IsStore lookup.now.facts.now))
+        (IsNewHalt lookup.now.folder.now lookup.now.facts.now) }
 {
-    let Some(given) = told(asked, VARIABLE, b"GIT_REFERENCE_BACKEND")? else {
+    let Some(given) = answer_to(lookup, VARIABLE, b"GIT_REFERENCE_BACKEND")? else {
         return Ok(None);
     };
-    let store = store_in(asked.alloc, given)?;
+    let store = store_in(lookup.alloc, given)?;
     if store.is_some() {
         return Ok(store);
     }
-    let why = joined(asked.alloc, b"unknown ref storage format: '", given, b"'")?;
+    let why = joined(lookup.alloc, b"unknown ref storage format: '", given, b"'")?;
     let name = b"GIT_REFERENCE_BACKEND";
-    Err(fault(asked.alloc, FaultKind::Value, name, 0, &why)?)
+    Err(fault(lookup.alloc, FaultKind::Value, name, 0, &why)?)
 }
 
 /// Why Git stops at a setting.
@@ -212,8 +212,8 @@ fn is_extension(alloc: Global, setting: &Setting<'_>, extension: Extension) -> R
     Err(stop(alloc, setting, "no value of this extension")?)
 }
 
-/// Takes the name of an extension, if it is the first.
-fn take_first(first: &mut Option<Vec<u8>>, alloc: Global, name: &[u8]) -> Result<(), AllocError> {
+/// Keeps the name of an extension, if it is the first.
+fn keep_first(first: &mut Option<Vec<u8>>, alloc: Global, name: &[u8]) -> Result<(), AllocError> {
     if first.is_none() {
         *first = Some(name.to_vec(alloc)?);
     }
@@ -239,7 +239,7 @@ impl Format {
         }
     }
 
-    /// Takes an extension of this name, in lower case.
+    /// Reads an extension of this name, in lower case.
     fn extend(&mut self, alloc: Global, setting: &Setting<'_>, name: &[u8]) -> Result<(), Halt>
         ensures { IfErr result AsksNothing }
     {
@@ -247,13 +247,13 @@ impl Format {
             return Ok(());
         }
         if is_extension(alloc, setting, later(name))? {
-            return Ok(take_first(&mut self.of_later, alloc, name)?);
+            return Ok(keep_first(&mut self.of_later, alloc, name)?);
         }
-        Ok(take_first(&mut self.unknown, alloc, name)?)
+        Ok(keep_first(&mut self.unknown, alloc, name)?)
     }
 
-    /// Takes what a setting says of the work tree.
-    fn take_work_tree(
+    /// Reads what a setting says of the work tree.
+    fn read_work_tree(
         &mut self,
         alloc: Global,
         setting: &Setting<'_>,
@@ -269,8 +269,8 @@ impl Format {
         Ok(())
     }
 
-    /// Takes what a setting says of the storage of references. A form that Git does not know is refused as an extension.
-    fn take_store(&mut self, alloc: Global, setting: &Setting<'_>) -> Result<(), Halt>
+    /// Reads what a setting says of the storage of references. A form that Git does not know is refused as an extension.
+    fn read_store(&mut self, alloc: Global, setting: &Setting<'_>) -> Result<(), Halt>
         ensures { IfErr result AsksNothing }
     {
         if let Some(store) = store_in(alloc, text(alloc, setting)?)? {
@@ -279,53 +279,58 @@ impl Format {
         Ok(())
     }
 
-    /// Takes what a setting says.
-    fn take(&mut self, alloc: Global, setting: &Setting<'_>, subject: Subject) -> Result<(), Halt>
+    /// Reads what a setting says.
+    fn read_setting(
+        &mut self,
+        alloc: Global,
+        setting: &Setting<'_>,
+        subject: Subject,
+    ) -> Result<(), Halt>
         ensures { IfErr result AsksNothing }
     {
         match subject {
             Subject::Version => self.version = Some(version(alloc, setting)?),
             Subject::WorktreeFiles => self.has_worktree_files = boolean(alloc, setting)?,
-            Subject::Store => self.take_store(alloc, setting)?,
-            _ => self.take_work_tree(alloc, setting, subject)?,
+            Subject::Store => self.read_store(alloc, setting)?,
+            _ => self.read_work_tree(alloc, setting, subject)?,
         }
         Ok(())
     }
 
-    /// Takes what a setting of this key says, which may be an extension.
-    fn take_named(&mut self, alloc: Global, setting: &Setting<'_>, key: &[u8]) -> Result<(), Halt>
+    /// Reads what a setting of this key says, which may be an extension.
+    fn read_named(&mut self, alloc: Global, setting: &Setting<'_>, key: &[u8]) -> Result<(), Halt>
         ensures { IfErr result AsksNothing }
     {
-        self.take(alloc, setting, subject_of(key))?;
+        self.read_setting(alloc, setting, subject_of(key))?;
         match key.strip_prefix(b"extensions.") {
             Some(name) => self.extend(alloc, setting, name),
             None => Ok(()),
         }
     }
 
-    /// Takes what the file of the repository says, or that of a work tree of its own. Git looks at no include here.
-    fn take_file(
+    /// Reads what the file of the repository says, or that of a work tree of its own. Git looks at no include here.
+    fn read_file(
         &mut self,
-        asked: &Asked<'_, '_>,
+        lookup: &Lookup<'_, '_>,
         folder: &[u8],
         name: &[u8],
         is_own: bool,
     ) -> Result<(), Halt>
-        requires { IsStore asked.now.facts.now self.old.store }
-        ensures { MatchResult result (λ done. IsStore asked.now.facts.now self.new.store)
-            (IsNewHalt asked.now.folder.now asked.now.facts.now) }
+        requires { IsStore lookup.now.facts.now self.old.store }
+        ensures { MatchResult result (λ done. IsStore lookup.now.facts.now self.new.store)
+            (IsNewHalt lookup.now.folder.now lookup.now.facts.now) }
     {
-        let Some(text) = told_in(asked, SETTINGS, folder, name)? else {
+        let Some(text) = answer_in(lookup, SETTINGS, folder, name)? else {
             return Ok(());
         };
-        let file = inside(asked.alloc, folder, name)?;
-        for setting in &settings_in(asked, &file, text)?.entries {
-            let key = setting.entry.key_text(asked.alloc)?;
+        let file = inside(lookup.alloc, folder, name)?;
+        for setting in &settings_in(lookup, &file, text)?.entries {
+            let key = setting.entry.key_text(lookup.alloc)?;
             if is_own {
-                if let Err(halt) = self.take_work_tree(asked.alloc, setting, subject_of(&key)) {
+                if let Err(halt) = self.read_work_tree(lookup.alloc, setting, subject_of(&key)) {
                     return Err(halt);
                 }
-            } else if let Err(halt) = self.take_named(asked.alloc, setting, &key) {
+            } else if let Err(halt) = self.read_named(lookup.alloc, setting, &key) {
                 return Err(halt);
             }
         }
@@ -349,27 +354,27 @@ impl Format {
 
 /// The entries of a text.
 fn settings_in<'s>(
-    asked: &Asked<'_, '_>,
+    lookup: &Lookup<'_, '_>,
     file: &'s [u8],
     text: &'s [u8],
 ) -> Result<Settings<'s>, Halt>
-    ensures { IfErr result (IsNewHalt asked.now.folder.now asked.now.facts.now) }
+    ensures { IfErr result (IsNewHalt lookup.now.folder.now lookup.now.facts.now) }
 {
-    let mut settings = Settings::new(asked.alloc);
-    match settings.add_file(asked.alloc, Scope::Local, file, text) {
+    let mut settings = Settings::new(lookup.alloc);
+    match settings.add_file(lookup.alloc, Scope::Local, file, text) {
         Ok(()) => Ok(settings),
-        Err(AddError::Line { file, error }) => Err(at_line(asked.alloc, file, error)?),
+        Err(AddError::Line { file, error }) => Err(at_line(lookup.alloc, file, error)?),
         Err(_) => Err(Halt::from(AllocError)),
     }
 }
 
 /// The format that the file of a repository states. A file that states no version states nothing.
-fn stated(asked: &Asked<'_, '_>, common: &[u8]) -> Result<Format, Halt>
-    ensures { MatchResult result (λ format. IsStore asked.now.facts.now format.store)
-        (IsNewHalt asked.now.folder.now asked.now.facts.now) }
+fn stated(lookup: &Lookup<'_, '_>, common: &[u8]) -> Result<Format, Halt>
+    ensures { MatchResult result (λ format. IsStore lookup.now.facts.now format.store)
+        (IsNewHalt lookup.now.folder.now lookup.now.facts.now) }
 {
     let mut format = Format::new();
-    format.take_file(asked, common, b"config", false)?;
+    format.read_file(lookup, common, b"config", false)?;
     match format.version {
         Some(version) if 0 <= version => Ok(format),
         _ => Ok(Format::new()),
@@ -378,16 +383,16 @@ fn stated(asked: &Asked<'_, '_>, common: &[u8]) -> Result<Format, Halt>
 
 /// The format of a git directory. What it shares with others says nothing of the top of its work tree.
 pub(crate) fn format_of(
-    asked: &Asked<'_, '_>,
+    lookup: &Lookup<'_, '_>,
     git_dir: &[u8],
     common: &Common,
 ) -> Result<Format, Halt>
-    ensures { MatchResult result (λ format. IsStore asked.now.facts.now format.store)
-        (IsNewHalt asked.now.folder.now asked.now.facts.now) }
+    ensures { MatchResult result (λ format. IsStore lookup.now.facts.now format.store)
+        (IsNewHalt lookup.now.folder.now lookup.now.facts.now) }
 {
-    let mut format = stated(asked, common.or(git_dir))?;
+    let mut format = stated(lookup, common.or(git_dir))?;
     if format.has_worktree_files {
-        format.take_file(asked, git_dir, b"config.worktree", true)?;
+        format.read_file(lookup, git_dir, b"config.worktree", true)?;
     } else if common.is_linked() {
         format.is_bare = false;
         format.work_tree = None;

@@ -3,7 +3,7 @@ ghost use Rattle.std.specs.Prelude.{◌≡◌, true, IfErr, MatchResult};
 ghost use Rattle.config_search.specs.Questions.{IsKept, IsPlace, StaysBelow};
 ghost use Rattle.config_search.specs.Shown.{IsNew, IsStore};
 
-use crate::fact::{Asked, Stop, told_in};
+use crate::fact::{Lookup, Stop, answer_in};
 use crate::format::Store;
 use crate::git_dir::{Common, linked_folder};
 use crate::name::{before_nul, inside, last_part};
@@ -77,48 +77,48 @@ fn reference_in(text: &[u8]) -> Reference<'_> {
 }
 
 /// The reference that is kept in the file of this name in a folder, to which a link may lead.
-fn text_at<'t>(asked: &Asked<'_, 't>, folder: &[u8], name: &[u8]) -> Result<Reference<'t>, Stop>
-    requires kept { IsKept asked.now.folder.now asked.now.facts.now folder.now }
+fn text_at<'t>(lookup: &Lookup<'_, 't>, folder: &[u8], name: &[u8]) -> Result<Reference<'t>, Stop>
+    requires kept { IsKept lookup.now.folder.now lookup.now.facts.now folder.now }
     requires named { StaysBelow name.now }
-    ensures { IfErr result (IsNew asked.now.folder.now asked.now.facts.now) }
+    ensures { IfErr result (IsNew lookup.now.folder.now lookup.now.facts.now) }
 {
-    match told_in(asked, TEXT, folder, name)? {
+    match answer_in(lookup, TEXT, folder, name)? {
         Some(text) => Ok(reference_in(text)),
         None => Ok(Reference::Broken),
     }
 }
 
 /// The reference that is kept where this link leads.
-fn linked_at<'t>(asked: &Asked<'_, 't>, folder: &[u8], name: &[u8]) -> Result<Reference<'t>, Stop>
-    requires kept { IsKept asked.now.folder.now asked.now.facts.now folder.now }
+fn linked_at<'t>(lookup: &Lookup<'_, 't>, folder: &[u8], name: &[u8]) -> Result<Reference<'t>, Stop>
+    requires kept { IsKept lookup.now.folder.now lookup.now.facts.now folder.now }
     requires named { StaysBelow name.now }
-    ensures { IfErr result (IsNew asked.now.folder.now asked.now.facts.now) }
+    ensures { IfErr result (IsNew lookup.now.folder.now lookup.now.facts.now) }
 {
-    match told_in(asked, LINK, folder, name)? {
+    match answer_in(lookup, LINK, folder, name)? {
         Some(target) if target.starts_with(b"refs/") && is_reference(target) => {
             Ok(Reference::Symbolic(target))
         }
-        _ => match told_in(asked, LEADS, folder, name)? {
+        _ => match answer_in(lookup, LEADS, folder, name)? {
             None | Some(b"folder") => Ok(Reference::Last),
-            _ => text_at(asked, folder, name),
+            _ => text_at(lookup, folder, name),
         },
     }
 }
 
 /// The reference that is kept in the file of this name in a folder. A folder counts as not there.
 fn reference_at<'t>(
-    asked: &Asked<'_, 't>,
+    lookup: &Lookup<'_, 't>,
     folder: &[u8],
     name: &[u8],
 ) -> Result<Reference<'t>, Stop>
-    requires kept { IsKept asked.now.folder.now asked.now.facts.now folder.now }
+    requires kept { IsKept lookup.now.folder.now lookup.now.facts.now folder.now }
     requires named { StaysBelow name.now }
-    ensures { IfErr result (IsNew asked.now.folder.now asked.now.facts.now) }
+    ensures { IfErr result (IsNew lookup.now.folder.now lookup.now.facts.now) }
 {
-    match told_in(asked, KIND, folder, name)? {
+    match answer_in(lookup, KIND, folder, name)? {
         None | Some(b"folder") => Ok(Reference::Last),
-        Some(b"link") => linked_at(asked, folder, name),
-        _ => text_at(asked, folder, name),
+        Some(b"link") => linked_at(lookup, folder, name),
+        _ => text_at(lookup, folder, name),
     }
 }
 
@@ -132,18 +132,18 @@ struct References {
 
 /// Where a git directory keeps references that are in a place of their own.
 fn references_in(
-    asked: &Asked<'_, '_>,
+    lookup: &Lookup<'_, '_>,
     git_dir: &[u8],
     linked: &Common,
     store: &Store,
     place: &[u8],
 ) -> Result<References, AllocError> {
-    let shared = inside(asked.alloc, linked.or(git_dir), place)?;
+    let shared = inside(lookup.alloc, linked.or(git_dir), place)?;
     let own = if linked.is_linked() {
-        let trees = inside(asked.alloc, &shared, b"worktrees")?;
-        inside(asked.alloc, &trees, last_part(git_dir))?
+        let trees = inside(lookup.alloc, &shared, b"worktrees")?;
+        inside(lookup.alloc, &trees, last_part(git_dir))?
     } else {
-        shared.to_vec(asked.alloc)?
+        shared.to_vec(lookup.alloc)?
     };
     Ok(References {
         is_table: store.is_table,
@@ -153,31 +153,31 @@ fn references_in(
 }
 
 /// Where a git directory keeps references.
-fn references_of(asked: &Asked<'_, '_>, git_dir: &[u8], store: &Store) -> Result<References, Stop>
-    requires place { IsPlace asked.now.folder.now asked.now.facts.now git_dir.now }
-    requires stored { IsStore asked.now.facts.now store.now }
-    ensures { MatchResult result (λ references. IsKept asked.now.folder.now asked.now.facts.now references.own.items
-        × IsKept asked.now.folder.now asked.now.facts.now references.shared.items)
-        (IsNew asked.now.folder.now asked.now.facts.now) }
+fn references_of(lookup: &Lookup<'_, '_>, git_dir: &[u8], store: &Store) -> Result<References, Stop>
+    requires place { IsPlace lookup.now.folder.now lookup.now.facts.now git_dir.now }
+    requires stored { IsStore lookup.now.facts.now store.now }
+    ensures { MatchResult result (λ references. IsKept lookup.now.folder.now lookup.now.facts.now references.own.items
+        × IsKept lookup.now.folder.now lookup.now.facts.now references.shared.items)
+        (IsNew lookup.now.folder.now lookup.now.facts.now) }
 {
-    let linked = linked_folder(asked, git_dir)?;
+    let linked = linked_folder(lookup, git_dir)?;
     if let Some(place) = &store.place {
-        return Ok(references_in(asked, git_dir, &linked, store, place)?);
+        return Ok(references_in(lookup, git_dir, &linked, store, place)?);
     }
     Ok(References {
         is_table: store.is_table,
-        own: git_dir.to_vec(asked.alloc)?,
-        shared: linked.or(git_dir).to_vec(asked.alloc)?,
+        own: git_dir.to_vec(lookup.alloc)?,
+        shared: linked.or(git_dir).to_vec(lookup.alloc)?,
     })
 }
 
 impl References {
     /// The reference of this name.
-    fn get<'t>(&self, asked: &Asked<'_, 't>, name: &[u8]) -> Result<Reference<'t>, Stop>
-        requires own { IsKept asked.now.folder.now asked.now.facts.now self.now.own.items }
-        requires shared { IsKept asked.now.folder.now asked.now.facts.now self.now.shared.items }
+    fn get<'t>(&self, lookup: &Lookup<'_, 't>, name: &[u8]) -> Result<Reference<'t>, Stop>
+        requires own { IsKept lookup.now.folder.now lookup.now.facts.now self.now.own.items }
+        requires shared { IsKept lookup.now.folder.now lookup.now.facts.now self.now.shared.items }
         requires named { StaysBelow name.now }
-        ensures { IfErr result (IsNew asked.now.folder.now asked.now.facts.now) }
+        ensures { IfErr result (IsNew lookup.now.folder.now lookup.now.facts.now) }
     {
         let folder = if name == b"HEAD".as_slice() {
             &self.own
@@ -185,9 +185,9 @@ impl References {
             &self.shared
         };
         if !self.is_table {
-            return reference_at(asked, folder, name);
+            return reference_at(lookup, folder, name);
         }
-        match target_in(asked, folder, name)? {
+        match target_in(lookup, folder, name)? {
             Some(target) => Ok(Reference::Symbolic(target)),
             None => Ok(Reference::Last),
         }
@@ -196,18 +196,18 @@ impl References {
 
 /// The branch to which HEAD of a git directory leads, or `None` if it leads to no branch.
 pub(crate) fn branch_of<'t>(
-    asked: &Asked<'_, 't>,
+    lookup: &Lookup<'_, 't>,
     git_dir: &[u8],
     store: &Store,
 ) -> Result<Option<&'t [u8]>, Stop>
-    requires place { IsPlace asked.now.folder.now asked.now.facts.now git_dir.now }
-    requires stored { IsStore asked.now.facts.now store.now }
-    ensures { IfErr result (IsNew asked.now.folder.now asked.now.facts.now) }
+    requires place { IsPlace lookup.now.folder.now lookup.now.facts.now git_dir.now }
+    requires stored { IsStore lookup.now.facts.now store.now }
+    ensures { IfErr result (IsNew lookup.now.folder.now lookup.now.facts.now) }
 {
-    let references = references_of(asked, git_dir, store)?;
+    let references = references_of(lookup, git_dir, store)?;
     let mut name: &'t [u8] = b"HEAD";
     for _ in 0..DEPTH {
-        let target = match references.get(asked, name)? {
+        let target = match references.get(lookup, name)? {
             Reference::Symbolic(target) => target,
             Reference::Last => return Ok(name.strip_prefix(b"refs/heads/")),
             Reference::Broken => return Ok(None),

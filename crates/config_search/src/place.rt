@@ -12,7 +12,7 @@ ghost use Rattle.config_search.specs.declared.TheConstants.{REAL, VARIABLE};
 
 use crate::ahead::ask_ahead;
 use crate::answer::{Answer, Fault, FaultKind, Named, Outcome, Refusal, Repository};
-use crate::fact::{Asked, Fact, Stop, told};
+use crate::fact::{Fact, Lookup, Stop, answer_to};
 use crate::files::{protected_files, push_repository};
 use crate::format::{Format, Store, format_of, given_store};
 use crate::git_dir::{Common, common_of, resolved};
@@ -20,7 +20,7 @@ use crate::halt::{Halt, fault};
 use crate::head::branch_of;
 use crate::name::{inside, opened};
 use crate::owner::refuses;
-use crate::seek::{Folder, Form, Found, GitDir, first_folder, seek};
+use crate::seek::{Discovery, Folder, Form, GitDir, first_folder, seek};
 use crate::{REAL, VARIABLE};
 use config_text::readers::TryRead;
 use gix_config_value::Boolean;
@@ -52,25 +52,25 @@ fn is_boolean(value: Option<&[u8]>) -> bool {
 }
 
 /// Stops where Git does if a variable is no boolean.
-fn check_boolean(asked: &Asked<'_, '_>, name: &[u8]) -> Result<(), Halt>
-    requires { IsNeeded asked.now.folder.now asked.now.facts.now VARIABLE name.now }
-    ensures { IfErr result (IsNewHalt asked.now.folder.now asked.now.facts.now) }
+fn check_boolean(lookup: &Lookup<'_, '_>, name: &[u8]) -> Result<(), Halt>
+    requires { IsNeeded lookup.now.folder.now lookup.now.facts.now VARIABLE name.now }
+    ensures { IfErr result (IsNewHalt lookup.now.folder.now lookup.now.facts.now) }
 {
-    if is_boolean(told(asked, VARIABLE, name)?) {
+    if is_boolean(answer_to(lookup, VARIABLE, name)?) {
         return Ok(());
     }
-    Err(of_variable(asked.alloc, name, b"no boolean")?)
+    Err(of_variable(lookup.alloc, name, b"no boolean")?)
 }
 
 /// Stops where Git does at a variable that has to be a boolean. One of them counts only for a search upwards.
-fn check_booleans(asked: &Asked<'_, '_>) -> Result<(), Halt>
-    ensures { IfErr result (IsNewHalt asked.now.folder.now asked.now.facts.now) }
+fn check_booleans(lookup: &Lookup<'_, '_>) -> Result<(), Halt>
+    ensures { IfErr result (IsNewHalt lookup.now.folder.now lookup.now.facts.now) }
 {
-    check_boolean(asked, b"GIT_CONFIG_NOSYSTEM")?;
-    if told(asked, VARIABLE, b"GIT_DIR")?.is_some() {
+    check_boolean(lookup, b"GIT_CONFIG_NOSYSTEM")?;
+    if answer_to(lookup, VARIABLE, b"GIT_DIR")?.is_some() {
         return Ok(());
     }
-    check_boolean(asked, b"GIT_DISCOVERY_ACROSS_FILESYSTEM")
+    check_boolean(lookup, b"GIT_DISCOVERY_ACROSS_FILESYSTEM")
 }
 
 /// Where Git works, and what it does there.
@@ -83,25 +83,25 @@ struct Place {
 /// The top of the work tree that GIT_WORK_TREE or `core.worktree` names, without links. That of `core.worktree` means
 /// nothing to a bare repository. Git stops at an empty GIT_WORK_TREE.
 fn named_top(
-    asked: &Asked<'_, '_>,
+    lookup: &Lookup<'_, '_>,
     site: &Site<'_>,
     format: &Format,
 ) -> Result<Option<Vec<u8>>, Halt>
-    ensures { IfErr result (IsNewHalt asked.now.folder.now asked.now.facts.now) }
+    ensures { IfErr result (IsNewHalt lookup.now.folder.now lookup.now.facts.now) }
 {
-    let top = match told(asked, VARIABLE, b"GIT_WORK_TREE")? {
+    let top = match answer_to(lookup, VARIABLE, b"GIT_WORK_TREE")? {
         Some(b"") => return Err(of_variable(
-            asked.alloc,
+            lookup.alloc,
             b"GIT_WORK_TREE",
             b"the empty string is no path",
         )?),
-        Some(top) => inside(asked.alloc, site.start.name, top)?,
+        Some(top) => inside(lookup.alloc, site.start.name, top)?,
         None => match &format.work_tree {
-            Some(top) if !format.is_bare => inside(asked.alloc, &site.git_dir.name, top)?,
+            Some(top) if !format.is_bare => inside(lookup.alloc, &site.git_dir.name, top)?,
             _ => return Ok(None),
         },
     };
-    Ok(Some(resolved(asked, &top)?))
+    Ok(Some(resolved(lookup, &top)?))
 }
 
 /// Whether a folder is below the top of a work tree. Both have no links.
@@ -114,16 +114,16 @@ fn is_below(folder: &[u8], top: &[u8]) -> bool {
 
 /// The name of a git directory in the folder in which Git starts: the same as in the folder in which it is found, if
 /// that is this one, and otherwise its path.
-fn name_here(asked: &Asked<'_, '_>, site: &Site<'_>) -> Result<Vec<u8>, Stop>
+fn name_here(lookup: &Lookup<'_, '_>, site: &Site<'_>) -> Result<Vec<u8>, Stop>
     ensures { MatchResult result
-        (λ name. (system : System) → AreTrueIn system asked.now.facts.now
+        (λ name. (system : System) → AreTrueIn system lookup.now.facts.now
         → answers.IsNamed system (git_dir_of site.now.git_dir) name.items)
-        (IsNew asked.now.folder.now asked.now.facts.now) }
+        (IsNew lookup.now.folder.now lookup.now.facts.now) }
 {
     if site.folder.name == site.start.name {
-        return Ok(site.git_dir.named.to_vec(asked.alloc)?);
+        return Ok(site.git_dir.named.to_vec(lookup.alloc)?);
     }
-    Ok(resolved(asked, &site.git_dir.name)?)
+    Ok(resolved(lookup, &site.git_dir.name)?)
 }
 
 /// A folder in which Git works: its name and its path, and the name of the git directory there.
@@ -149,153 +149,161 @@ impl WorkFolder {
 
 /// The folder in which Git works where a work tree is named: its top if Git starts below it, and otherwise where it
 /// starts.
-fn named_folder(asked: &Asked<'_, '_>, site: &Site<'_>, top: &[u8]) -> Result<WorkFolder, Stop>
+fn named_folder(lookup: &Lookup<'_, '_>, site: &Site<'_>, top: &[u8]) -> Result<WorkFolder, Stop>
     ensures { MatchResult result
-        (λ place. (system : System) → AreTrueIn system asked.now.facts.now
+        (λ place. (system : System) → AreTrueIn system lookup.now.facts.now
         → answers.IsNamed system (git_dir_of site.now.git_dir) place.named_dir.items)
-        (IsNew asked.now.folder.now asked.now.facts.now) }
+        (IsNew lookup.now.folder.now lookup.now.facts.now) }
 {
     let start = site.start;
-    let real = told(asked, REAL, opened(start.name))?.unwrap_or(start.path);
+    let real = answer_to(lookup, REAL, opened(start.name))?.unwrap_or(start.path);
     if !is_below(real, top) {
-        let named_dir = name_here(asked, site)?;
-        return Ok(WorkFolder::new(asked.alloc, start, named_dir)?);
+        let named_dir = name_here(lookup, site)?;
+        return Ok(WorkFolder::new(lookup.alloc, start, named_dir)?);
     }
     let place = Folder {
         name: top,
         path: top,
     };
-    let named_dir = resolved(asked, &site.git_dir.name)?;
-    Ok(WorkFolder::new(asked.alloc, place, named_dir)?)
+    let named_dir = resolved(lookup, &site.git_dir.name)?;
+    Ok(WorkFolder::new(lookup.alloc, place, named_dir)?)
 }
 
 /// The folder in which Git works where no work tree is named: that in which `.git` is found, and otherwise where it
 /// starts.
-fn plain_folder(asked: &Asked<'_, '_>, site: &Site<'_>, is_bare: bool) -> Result<WorkFolder, Stop>
+fn plain_folder(lookup: &Lookup<'_, '_>, site: &Site<'_>, is_bare: bool) -> Result<WorkFolder, Stop>
     ensures { MatchResult result
-        (λ place. (system : System) → AreTrueIn system asked.now.facts.now
+        (λ place. (system : System) → AreTrueIn system lookup.now.facts.now
         → answers.IsNamed system (git_dir_of site.now.git_dir) place.named_dir.items)
-        (IsNew asked.now.folder.now asked.now.facts.now) }
+        (IsNew lookup.now.folder.now lookup.now.facts.now) }
 {
     if site.git_dir.form == Form::Below && !is_bare {
-        let named_dir = site.git_dir.named.to_vec(asked.alloc)?;
-        return Ok(WorkFolder::new(asked.alloc, site.folder, named_dir)?);
+        let named_dir = site.git_dir.named.to_vec(lookup.alloc)?;
+        return Ok(WorkFolder::new(lookup.alloc, site.folder, named_dir)?);
     }
-    let named_dir = name_here(asked, site)?;
-    Ok(WorkFolder::new(asked.alloc, site.start, named_dir)?)
+    let named_dir = name_here(lookup, site)?;
+    Ok(WorkFolder::new(lookup.alloc, site.start, named_dir)?)
 }
 
 /// The folder in which Git works.
-fn work_folder(asked: &Asked<'_, '_>, site: &Site<'_>, format: &Format) -> Result<WorkFolder, Halt>
+fn work_folder(
+    lookup: &Lookup<'_, '_>,
+    site: &Site<'_>,
+    format: &Format,
+) -> Result<WorkFolder, Halt>
     ensures { MatchResult result
-        (λ place. (system : System) → AreTrueIn system asked.now.facts.now
+        (λ place. (system : System) → AreTrueIn system lookup.now.facts.now
         → answers.IsNamed system (git_dir_of site.now.git_dir) place.named_dir.items)
-        (IsNewHalt asked.now.folder.now asked.now.facts.now) }
+        (IsNewHalt lookup.now.folder.now lookup.now.facts.now) }
 {
-    match named_top(asked, site, format)? {
-        Some(top) => Ok(named_folder(asked, site, &top)?),
-        None => Ok(plain_folder(asked, site, format.is_bare)?),
+    match named_top(lookup, site, format)? {
+        Some(top) => Ok(named_folder(lookup, site, &top)?),
+        None => Ok(plain_folder(lookup, site, format.is_bare)?),
     }
 }
 
 /// A name without links, or what GIT_COMMON_DIR gives in its place.
-fn given_or_resolved(asked: &Asked<'_, '_>, folder: &[u8]) -> Result<Vec<u8>, Stop>
+fn given_or_resolved(lookup: &Lookup<'_, '_>, folder: &[u8]) -> Result<Vec<u8>, Stop>
     ensures { MatchResult result
-        (λ name. (system : System) → AreTrueIn system asked.now.facts.now
+        (λ name. (system : System) → AreTrueIn system lookup.now.facts.now
         → name.items ≡ answers.shown_linked system folder.now)
-        (IsNew asked.now.folder.now asked.now.facts.now) }
+        (IsNew lookup.now.folder.now lookup.now.facts.now) }
 {
-    match told(asked, VARIABLE, b"GIT_COMMON_DIR")? {
-        Some(given) => Ok(given.to_vec(asked.alloc)?),
-        None => Ok(resolved(asked, folder)?),
+    match answer_to(lookup, VARIABLE, b"GIT_COMMON_DIR")? {
+        Some(given) => Ok(given.to_vec(lookup.alloc)?),
+        None => Ok(resolved(lookup, folder)?),
     }
 }
 
 /// The name of the folder that work trees share, as Git shows it.
-fn shown_common(asked: &Asked<'_, '_>, common: &Common, named_dir: &[u8]) -> Result<Vec<u8>, Stop>
+fn shown_common(lookup: &Lookup<'_, '_>, common: &Common, named_dir: &[u8]) -> Result<Vec<u8>, Stop>
     ensures { MatchResult result
-        (λ name. (system : System) → AreTrueIn system asked.now.facts.now
+        (λ name. (system : System) → AreTrueIn system lookup.now.facts.now
         → name.items ≡ answers.shown_common system named_dir.now (common_shown common.now))
-        (IsNew asked.now.folder.now asked.now.facts.now) }
+        (IsNew lookup.now.folder.now lookup.now.facts.now) }
 {
     match common {
-        Common::Linked(folder) => Ok(given_or_resolved(asked, folder)?),
-        _ => Ok(named_dir.to_vec(asked.alloc)?),
+        Common::Linked(folder) => Ok(given_or_resolved(lookup, folder)?),
+        _ => Ok(named_dir.to_vec(lookup.alloc)?),
     }
 }
 
 /// A name from the root without links, or the other name if the system knows none.
-fn real_or(asked: &Asked<'_, '_>, name: &[u8], other: &[u8]) -> Result<Vec<u8>, Stop>
+fn real_or(lookup: &Lookup<'_, '_>, name: &[u8], other: &[u8]) -> Result<Vec<u8>, Stop>
     ensures { MatchResult result
-        (λ real. (system : System) → AreTrueIn system asked.now.facts.now
+        (λ real. (system : System) → AreTrueIn system lookup.now.facts.now
         → real.items ≡ rule.or_itself other.now (system REAL name.now))
-        (IsNew asked.now.folder.now asked.now.facts.now) }
+        (IsNew lookup.now.folder.now lookup.now.facts.now) }
 {
-    match told(asked, REAL, name)? {
-        Some(real) => Ok(real.to_vec(asked.alloc)?),
-        None => Ok(other.to_vec(asked.alloc)?),
+    match answer_to(lookup, REAL, name)? {
+        Some(real) => Ok(real.to_vec(lookup.alloc)?),
+        None => Ok(other.to_vec(lookup.alloc)?),
     }
 }
 
 /// The branch of a git directory.
-fn branch_in(asked: &Asked<'_, '_>, git_dir: &[u8], store: &Store) -> Result<Option<Vec<u8>>, Stop>
-    requires place { IsPlace asked.now.folder.now asked.now.facts.now git_dir.now }
-    requires stored { IsStore asked.now.facts.now store.now }
-    ensures { IfErr result (IsNew asked.now.folder.now asked.now.facts.now) }
+fn branch_in(
+    lookup: &Lookup<'_, '_>,
+    git_dir: &[u8],
+    store: &Store,
+) -> Result<Option<Vec<u8>>, Stop>
+    requires place { IsPlace lookup.now.folder.now lookup.now.facts.now git_dir.now }
+    requires stored { IsStore lookup.now.facts.now store.now }
+    ensures { IfErr result (IsNew lookup.now.folder.now lookup.now.facts.now) }
 {
-    match branch_of(asked, git_dir, store)? {
-        Some(branch) => Ok(Some(branch.to_vec(asked.alloc)?)),
+    match branch_of(lookup, git_dir, store)? {
+        Some(branch) => Ok(Some(branch.to_vec(lookup.alloc)?)),
         None => Ok(None),
     }
 }
 
 /// The repository of this git directory, in this folder.
 fn repository_in(
-    asked: &Asked<'_, '_>,
+    lookup: &Lookup<'_, '_>,
     site: &Site<'_>,
     place: &WorkFolder,
     format: &Format,
 ) -> Result<Repository, Stop>
-    requires place { IsPlace asked.now.folder.now asked.now.facts.now site.now.git_dir.name.items }
-    requires stored { IsStore asked.now.facts.now format.now.store }
+    requires place { IsPlace lookup.now.folder.now lookup.now.facts.now site.now.git_dir.name.items }
+    requires stored { IsStore lookup.now.facts.now format.now.store }
     ensures { MatchResult result
-        (λ repository. (system : System) → AreTrueIn system asked.now.facts.now
+        (λ repository. (system : System) → AreTrueIn system lookup.now.facts.now
         → common_shown site.now.common ≡ rule.common_of system site.now.folder.name.now site.now.git_dir.name.items
         → answers.IsNamed system (git_dir_of site.now.git_dir) place.now.named_dir.items
         → answers.IsOf system site.now.folder.name.now (git_dir_of site.now.git_dir) repository)
-        (IsNew asked.now.folder.now asked.now.facts.now) }
+        (IsNew lookup.now.folder.now lookup.now.facts.now) }
 {
-    let path = inside(asked.alloc, &place.path, &place.named_dir)?;
-    let real = real_or(asked, &site.git_dir.name, &path)?;
-    let branch = branch_in(asked, &site.git_dir.name, &format.store)?;
-    let common_dir = shown_common(asked, &site.common, &place.named_dir)?;
+    let path = inside(lookup.alloc, &place.path, &place.named_dir)?;
+    let real = real_or(lookup, &site.git_dir.name, &path)?;
+    let branch = branch_in(lookup, &site.git_dir.name, &format.store)?;
+    let common_dir = shown_common(lookup, &site.common, &place.named_dir)?;
     Ok(Repository {
         git_dir: path,
         real_git_dir: real,
         branch,
-        named_dir: place.named_dir.to_vec(asked.alloc)?,
+        named_dir: place.named_dir.to_vec(lookup.alloc)?,
         common_dir,
         has_worktree_files: format.has_worktree_files,
     })
 }
 
 /// Where Git works with this git directory, if it may have this format.
-fn located(asked: &Asked<'_, '_>, site: &Site<'_>, format: &Format) -> Result<Place, Halt>
-    requires place { IsPlace asked.now.folder.now asked.now.facts.now site.now.git_dir.name.items }
-    requires stored { IsStore asked.now.facts.now format.now.store }
+fn place_by_format(lookup: &Lookup<'_, '_>, site: &Site<'_>, format: &Format) -> Result<Place, Halt>
+    requires place { IsPlace lookup.now.folder.now lookup.now.facts.now site.now.git_dir.name.items }
+    requires stored { IsStore lookup.now.facts.now format.now.store }
     ensures { MatchResult result
-        (λ place. (system : System) → AreTrueIn system asked.now.facts.now
+        (λ place. (system : System) → AreTrueIn system lookup.now.facts.now
         → common_shown site.now.common ≡ rule.common_of system site.now.folder.name.now site.now.git_dir.name.items
         → IsTrusted system site.now.start.name.now site.now.folder.name.now (git_dir_of site.now.git_dir)
         → answers.Tells system site.now.start.name.now
         (search.Inside site.now.folder.name.now (git_dir_of site.now.git_dir)) place.outcome)
-        (IsNewHalt asked.now.folder.now asked.now.facts.now) }
+        (IsNewHalt lookup.now.folder.now lookup.now.facts.now) }
 {
-    if let Some(refusal) = format.refusal(asked.alloc)? {
-        return Ok(Place::new(asked.alloc, site.folder, Outcome::Refuses(refusal))?);
+    if let Some(refusal) = format.refusal(lookup.alloc)? {
+        return Ok(Place::new(lookup.alloc, site.folder, Outcome::Refuses(refusal))?);
     }
-    let place = work_folder(asked, site, format)?;
-    let repository = repository_in(asked, site, &place, format)?;
+    let place = work_folder(lookup, site, format)?;
+    let repository = repository_in(lookup, site, &place, format)?;
     Ok(Place {
         folder: place.name,
         outcome: Outcome::Uses(repository),
@@ -316,12 +324,12 @@ impl Place {
 
 /// What Git does in this folder, if it does not stop.
 fn or_stops(
-    asked: &Asked<'_, '_>,
+    lookup: &Lookup<'_, '_>,
     folder: Folder<'_>,
     place: Result<Place, Halt>,
 ) -> Result<Place, Stop>
-    ensures asks { IfErr place (IsNewHalt asked.now.folder.now asked.now.facts.now)
-        → IfErr result (IsNew asked.now.folder.now asked.now.facts.now) }
+    ensures asks { IfErr place (IsNewHalt lookup.now.folder.now lookup.now.facts.now)
+        → IfErr result (IsNew lookup.now.folder.now lookup.now.facts.now) }
     ensures tells { (system : System) (start : List ℕ) (sought : search.Sought)
         → IfOk place (λ p. answers.Tells system start sought p.outcome)
         → IfOk result (λ p. answers.Tells system start sought p.outcome) }
@@ -329,48 +337,48 @@ fn or_stops(
     match place {
         Ok(place) => Ok(place),
         Err(Halt::Stopped(stop)) => Err(stop),
-        Err(Halt::Fault(fault)) => Ok(Place::new(asked.alloc, folder, Outcome::Stops(fault))?),
+        Err(Halt::Fault(fault)) => Ok(Place::new(lookup.alloc, folder, Outcome::Stops(fault))?),
     }
 }
 
 /// Where Git works with this git directory, in which references are stored as it is given.
-fn used(asked: &Asked<'_, '_>, site: &Site<'_>, given: Option<Store>) -> Result<Place, Halt>
-    requires place { IsPlace asked.now.folder.now asked.now.facts.now site.now.git_dir.name.items }
-    requires stored { IfSome given (IsStore asked.now.facts.now) }
+fn used(lookup: &Lookup<'_, '_>, site: &Site<'_>, given: Option<Store>) -> Result<Place, Halt>
+    requires place { IsPlace lookup.now.folder.now lookup.now.facts.now site.now.git_dir.name.items }
+    requires stored { IfSome given (IsStore lookup.now.facts.now) }
     ensures { MatchResult result
-        (λ place. (system : System) → AreTrueIn system asked.now.facts.now
+        (λ place. (system : System) → AreTrueIn system lookup.now.facts.now
         → common_shown site.now.common ≡ rule.common_of system site.now.folder.name.now site.now.git_dir.name.items
         → IsTrusted system site.now.start.name.now site.now.folder.name.now (git_dir_of site.now.git_dir)
         → answers.Tells system site.now.start.name.now
         (search.Inside site.now.folder.name.now (git_dir_of site.now.git_dir)) place.outcome)
-        (IsNewHalt asked.now.folder.now asked.now.facts.now) }
+        (IsNewHalt lookup.now.folder.now lookup.now.facts.now) }
 {
-    let mut format = format_of(asked, &site.git_dir.name, &site.common)?;
+    let mut format = format_of(lookup, &site.git_dir.name, &site.common)?;
     format.store = given.unwrap_or(format.store);
-    Ok(located(asked, site, &format)?)
+    Ok(place_by_format(lookup, site, &format)?)
 }
 
 /// The git directory that is found in this folder, with the folder that it shares with others. Git goes to the folder
 /// first, in which a relative GIT_COMMON_DIR then begins.
 fn site_of<'t>(
-    asked: &Asked<'_, 't>,
+    lookup: &Lookup<'_, 't>,
     start: Folder<'t>,
     folder: Folder<'t>,
     git_dir: GitDir,
 ) -> Result<Site<'t>, Halt>
-    requires place { IsPlace asked.now.folder.now asked.now.facts.now folder.name.now }
-    requires git_dir_place { IsPlace asked.now.folder.now asked.now.facts.now git_dir.name.items }
+    requires place { IsPlace lookup.now.folder.now lookup.now.facts.now folder.name.now }
+    requires git_dir_place { IsPlace lookup.now.folder.now lookup.now.facts.now git_dir.name.items }
     ensures { MatchResult result
         (λ site. (site.start ≡ start.entry) × (site.folder ≡ folder.entry) × (site.git_dir ≡ git_dir)
-        × ((system : System) → AreTrueIn system asked.now.facts.now
+        × ((system : System) → AreTrueIn system lookup.now.facts.now
         → common_shown site.common ≡ rule.common_of system folder.entry.name.now site.git_dir.name.items))
-        (IsNewHalt asked.now.folder.now asked.now.facts.now) }
+        (IsNewHalt lookup.now.folder.now lookup.now.facts.now) }
 {
-    let common = common_of(asked, folder.name, &git_dir.name)?;
+    let common = common_of(lookup, folder.name, &git_dir.name)?;
     if matches!(common, Common::Broken) {
-        let file = inside(asked.alloc, &git_dir.name, b"commondir")?;
+        let file = inside(lookup.alloc, &git_dir.name, b"commondir")?;
         let why = b"no name of a folder";
-        return Err(fault(asked.alloc, FaultKind::Value, &file, 0, why)?);
+        return Err(fault(lookup.alloc, FaultKind::Value, &file, 0, why)?);
     }
     Ok(Site {
         start,
@@ -381,45 +389,49 @@ fn site_of<'t>(
 }
 
 /// What Git does with this git directory, if it trusts it.
-fn trusted(asked: &Asked<'_, '_>, site: &Site<'_>) -> Result<Place, Halt>
-    requires folder_place { IsPlace asked.now.folder.now asked.now.facts.now site.now.folder.name.now }
-    requires place { IsPlace asked.now.folder.now asked.now.facts.now site.now.git_dir.name.items }
+fn trusted(lookup: &Lookup<'_, '_>, site: &Site<'_>) -> Result<Place, Halt>
+    requires folder_place { IsPlace lookup.now.folder.now lookup.now.facts.now site.now.folder.name.now }
+    requires place { IsPlace lookup.now.folder.now lookup.now.facts.now site.now.git_dir.name.items }
     ensures { MatchResult result
-        (λ place. (system : System) → AreTrueIn system asked.now.facts.now
+        (λ place. (system : System) → AreTrueIn system lookup.now.facts.now
         → common_shown site.now.common ≡ rule.common_of system site.now.folder.name.now site.now.git_dir.name.items
         → answers.Tells system site.now.start.name.now
         (search.Inside site.now.folder.name.now (git_dir_of site.now.git_dir)) place.outcome)
-        (IsNewHalt asked.now.folder.now asked.now.facts.now) }
+        (IsNewHalt lookup.now.folder.now lookup.now.facts.now) }
 {
     let start = site.start;
-    if let Some(refusal) = refuses(asked, start.name, site.folder, &site.git_dir)? {
-        given_store(asked)?;
-        return Ok(Place::new(asked.alloc, start, Outcome::Refuses(refusal))?);
+    if let Some(refusal) = refuses(lookup, start.name, site.folder, &site.git_dir)? {
+        given_store(lookup)?;
+        return Ok(Place::new(lookup.alloc, start, Outcome::Refuses(refusal))?);
     }
-    let given = given_store(asked)?;
-    Ok(or_stops(asked, site.folder, used(asked, site, given))?)
+    let given = given_store(lookup)?;
+    Ok(or_stops(lookup, site.folder, used(lookup, site, given))?)
 }
 
 /// What Git does where it starts in this folder and finds this.
-fn place_of<'t>(asked: &Asked<'_, 't>, start: Folder<'t>, found: Found<'t>) -> Result<Place, Halt>
-    requires place { IsPlace asked.now.folder.now asked.now.facts.now start.name.now }
-    requires sought { (system : System) → AreTrueIn system asked.now.facts.now → search.Seeks system start.name.now (found_of found) }
+fn place_of<'t>(
+    lookup: &Lookup<'_, 't>,
+    start: Folder<'t>,
+    found: Discovery<'t>,
+) -> Result<Place, Halt>
+    requires place { IsPlace lookup.now.folder.now lookup.now.facts.now start.name.now }
+    requires sought { (system : System) → AreTrueIn system lookup.now.facts.now → search.Seeks system start.name.now (found_of found) }
     ensures { MatchResult result
-        (λ place. (system : System) → AreTrueIn system asked.now.facts.now
+        (λ place. (system : System) → AreTrueIn system lookup.now.facts.now
         → answers.Tells system start.entry.name.now (found_of found.entry) place.outcome)
-        (IsNewHalt asked.now.folder.now asked.now.facts.now) }
+        (IsNewHalt lookup.now.folder.now lookup.now.facts.now) }
 {
-    check_booleans(asked)?;
+    check_booleans(lookup)?;
     let outcome = match found {
-        Found::In(folder, git_dir) => {
-            let site = site_of(asked, start, folder, git_dir)?;
-            return trusted(asked, &site);
+        Discovery::In(folder, git_dir) => {
+            let site = site_of(lookup, start, folder, git_dir)?;
+            return trusted(lookup, &site);
         }
-        Found::Nothing => Outcome::FindsNone,
-        Found::Refused(given) => Outcome::Refuses(Refusal::GitDir(given.to_vec(asked.alloc)?)),
+        Discovery::Nothing => Outcome::FindsNone,
+        Discovery::Refused(given) => Outcome::Refuses(Refusal::GitDir(given.to_vec(lookup.alloc)?)),
     };
-    given_store(asked)?;
-    Ok(Place::new(asked.alloc, start, outcome)?)
+    given_store(lookup)?;
+    Ok(Place::new(lookup.alloc, start, outcome)?)
 }
 
 /// Adds the files of the repository that Git uses, if it uses one.
@@ -435,14 +447,14 @@ fn push_used(alloc: Global, names: &mut Vec<Named>, outcome: &Outcome) -> Result
 }
 
 /// The files that Git reads where it does this.
-fn files_of(asked: &Asked<'_, '_>, outcome: &Outcome) -> Result<Vec<Named>, Stop>
+fn files_of(lookup: &Lookup<'_, '_>, outcome: &Outcome) -> Result<Vec<Named>, Stop>
     ensures { MatchResult result
-        (λ names. (system : System) → AreTrueIn system asked.now.facts.now
+        (λ names. (system : System) → AreTrueIn system lookup.now.facts.now
         → files.AreFiles system (answers.files_of outcome.now) (map file_of names.items))
-        (IsNew asked.now.folder.now asked.now.facts.now) }
+        (IsNew lookup.now.folder.now lookup.now.facts.now) }
 {
-    let mut names = protected_files(asked)?;
-    push_used(asked.alloc, &mut names, outcome)?;
+    let mut names = protected_files(lookup)?;
+    push_used(lookup.alloc, &mut names, outcome)?;
     Ok(names)
 }
 
@@ -462,41 +474,41 @@ fn nowhere(alloc: Global, folder: &[u8]) -> Result<Place, AllocError>
 }
 
 /// What Git does where it starts in this folder.
-fn place_from<'t>(asked: &Asked<'_, 't>, start: Folder<'t>) -> Result<Place, Stop>
-    requires { IsPlace asked.now.folder.now asked.now.facts.now start.name.now }
+fn place_from<'t>(lookup: &Lookup<'_, 't>, start: Folder<'t>) -> Result<Place, Stop>
+    requires { IsPlace lookup.now.folder.now lookup.now.facts.now start.name.now }
     ensures { MatchResult result
-        (λ place. (system : System) → AreTrueIn system asked.now.facts.now
+        (λ place. (system : System) → AreTrueIn system lookup.now.facts.now
         → (sought : search.Sought) × search.OnlySeeks system start.entry.name.now sought
         × answers.Tells system start.entry.name.now sought place.outcome)
-        (IsNew asked.now.folder.now asked.now.facts.now) }
+        (IsNew lookup.now.folder.now lookup.now.facts.now) }
 {
-    let found = seek(asked, start)?;
-    Ok(or_stops(asked, start, place_of(asked, start, found))?)
+    let found = seek(lookup, start)?;
+    Ok(or_stops(lookup, start, place_of(lookup, start, found))?)
 }
 
 /// What Git does in the folder about which is asked.
-fn place_in(asked: &Asked<'_, '_>) -> Result<Place, Stop>
+fn place_in(lookup: &Lookup<'_, '_>) -> Result<Place, Stop>
     ensures { MatchResult result
-        (λ place. (system : System) → AreTrueIn system asked.now.facts.now
-        → answers.Does system (search.start_of asked.now.folder.now)
-        (search.path_of system (search.start_of asked.now.folder.now)) place.outcome)
-        (IsNew asked.now.folder.now asked.now.facts.now) }
+        (λ place. (system : System) → AreTrueIn system lookup.now.facts.now
+        → answers.Does system (search.start_of lookup.now.folder.now)
+        (search.path_of system (search.start_of lookup.now.folder.now)) place.outcome)
+        (IsNew lookup.now.folder.now lookup.now.facts.now) }
 {
-    match first_folder(asked)? {
-        Some(start) => Ok(place_from(asked, start)?),
-        None => Ok(nowhere(asked.alloc, asked.folder)?),
+    match first_folder(lookup)? {
+        Some(start) => Ok(place_from(lookup, start)?),
+        None => Ok(nowhere(lookup.alloc, lookup.folder)?),
     }
 }
 
 /// What Git reads in the folder about which is asked, or the question that no fact answers yet.
-fn answer_by(asked: &Asked<'_, '_>) -> Result<Answer, Stop>
+fn answer_by(lookup: &Lookup<'_, '_>) -> Result<Answer, Stop>
     ensures { MatchResult result
-        (λ answer. (system : System) → AreTrueIn system asked.now.facts.now
-        → answers.Answers system asked.now.folder.now answer)
-        (IsNew asked.now.folder.now asked.now.facts.now) }
+        (λ answer. (system : System) → AreTrueIn system lookup.now.facts.now
+        → answers.Answers system lookup.now.folder.now answer)
+        (IsNew lookup.now.folder.now lookup.now.facts.now) }
 {
-    let place = place_in(asked)?;
-    let files = files_of(asked, &place.outcome)?;
+    let place = place_in(lookup)?;
+    let files = files_of(lookup, &place.outcome)?;
     Ok(Answer {
         folder: place.folder,
         outcome: place.outcome,
@@ -521,7 +533,7 @@ pub fn search<'t>(alloc: Global, folder: &'t [u8], facts: &[Fact<'t>]) -> Result
         (λ answer. (system : System) → AreTrueIn system facts.now → answers.Answers system folder.now answer)
         (IsNew folder.now facts.now) }
 {
-    let asked = Asked::new(alloc, folder, facts);
-    ask_ahead(&asked)?;
-    Ok(answer_by(&asked)?)
+    let lookup = Lookup::new(alloc, folder, facts);
+    ask_ahead(&lookup)?;
+    Ok(answer_by(&lookup)?)
 }

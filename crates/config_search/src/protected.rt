@@ -11,7 +11,7 @@ ghost use Rattle.config_search.specs.Questions.{IsNeeded};
 ghost use Rattle.config_search.specs.Shown.{IsNew, IsNewHalt, AsksNothing, MayHold, AreSources, file_of};
 
 use crate::answer::{FaultKind, Named};
-use crate::fact::{Asked, Stop, answer_of, fact_in, told, told_in};
+use crate::fact::{Lookup, Stop, answer_in, answer_of, answer_to, fact_in};
 use crate::files::protected_files;
 use crate::halt::{Halt, fault};
 use crate::name::{joined, push};
@@ -36,7 +36,7 @@ pub(crate) struct Sources {
 /// The files that a text includes, as facts tell them.
 #[derive(Clone, Copy)]
 struct Included<'a, 'f, 't> {
-    asked: &'a Asked<'f, 't>,
+    lookup: &'a Lookup<'f, 't>,
     /// The folder in which names begin.
     start: &'a [u8],
     /// Whether the text is that of a file, so that what it includes may begin in a folder.
@@ -53,10 +53,10 @@ fn end_of(name: &[u8], count: usize) -> &[u8]
 impl<'t> Included<'_, '_, 't> {
     /// What the file of this name holds, or a question.
     fn content(&self, name: &[u8]) -> Result<Content<'t>, Stop>
-        ensures { MatchResult result (HoldsContent (MayHold self.now.asked.now.facts.now self.now.start.now) name.now)
-            (IsNew self.now.asked.now.folder.now self.now.asked.now.facts.now) }
+        ensures { MatchResult result (HoldsContent (MayHold self.now.lookup.now.facts.now self.now.start.now) name.now)
+            (IsNew self.now.lookup.now.folder.now self.now.lookup.now.facts.now) }
     {
-        let fact = fact_in(self.asked, INCLUDED, self.start, name)?;
+        let fact = fact_in(self.lookup, INCLUDED, self.start, name)?;
         if let Some(text) = answer_of(&fact) {
             let place = FilePlace {
                 name: end_of(fact.name, name.len()),
@@ -64,7 +64,7 @@ impl<'t> Included<'_, '_, 't> {
             };
             return Ok(Content::Text(place, text));
         }
-        match told_in(self.asked, REFUSAL, self.start, name)? {
+        match answer_in(self.lookup, REFUSAL, self.start, name)? {
             None => Ok(Content::Missing),
             Some(_) => Ok(Content::Unreadable("")),
         }
@@ -72,7 +72,7 @@ impl<'t> Included<'_, '_, 't> {
 }
 
 impl<'t> Files<'t> for Included<'_, '_, 't> {
-    ghost contents = { λ it name content. MayHold it.asked.now.facts.now it.start.now name content };
+    ghost contents = { λ it name content. MayHold it.lookup.now.facts.now it.start.now name content };
 
     /// What the file of this name holds. One of which facts do not tell that is taken for one that is not read.
     fn read(&self, _alloc: Global, name: &[u8]) -> Result<Content<'t>, AllocError> {
@@ -89,13 +89,13 @@ impl<'t> Files<'t> for Included<'_, '_, 't> {
 
 /// Why the text of a file in a folder is not read, or `None` if there is no such file.
 fn refusal_in<'t>(
-    asked: &Asked<'_, 't>,
+    lookup: &Lookup<'_, 't>,
     folder: &[u8],
     name: &[u8],
 ) -> Result<Option<&'t [u8]>, Stop>
-    ensures { IfErr result (IsNew asked.now.folder.now asked.now.facts.now) }
+    ensures { IfErr result (IsNew lookup.now.folder.now lookup.now.facts.now) }
 {
-    match told_in(asked, REFUSAL, folder, name)? {
+    match answer_in(lookup, REFUSAL, folder, name)? {
         Some(b"denied") => Ok(Some(b"Permission denied")),
         refusal => Ok(refusal),
     }
@@ -138,15 +138,15 @@ fn not_read(
     line: usize,
     name: &[u8],
 ) -> Result<Halt, Stop>
-    ensures { MatchResult result AsksNothing (IsNew included.now.asked.now.folder.now included.now.asked.now.facts.now) }
+    ensures { MatchResult result AsksNothing (IsNew included.now.lookup.now.folder.now included.now.lookup.now.facts.now) }
 {
-    let alloc = included.asked.alloc;
+    let alloc = included.lookup.alloc;
     if !included.is_file && !name.starts_with(b"/") {
         let why = b"relative config includes must come from files";
         return Ok(fault(alloc, FaultKind::Relative, file, line, why)?);
     }
-    fact_in(included.asked, INCLUDED, included.start, name)?;
-    let why = refusal_in(included.asked, included.start, name)?.unwrap_or_default();
+    fact_in(included.lookup, INCLUDED, included.start, name)?;
+    let why = refusal_in(included.lookup, included.start, name)?.unwrap_or_default();
     let front = joined(alloc, b"cannot read ", name, b": ")?;
     let reason = joined(alloc, &front, why, b"")?;
     Ok(fault(alloc, FaultKind::Unreadable, file, line, &reason)?)
@@ -159,9 +159,9 @@ fn at_last(
     settings: &Settings<'_>,
     why: IncludeFault<'_>,
 ) -> Result<Halt, Stop>
-    ensures { MatchResult result AsksNothing (IsNew included.now.asked.now.folder.now included.now.asked.now.facts.now) }
+    ensures { MatchResult result AsksNothing (IsNew included.now.lookup.now.folder.now included.now.lookup.now.facts.now) }
 {
-    let alloc = included.asked.alloc;
+    let alloc = included.lookup.alloc;
     let Some(last) = settings.entries.last() else {
         return Ok(at_include(alloc, b"", 0, why)?);
     };
@@ -182,9 +182,9 @@ fn stop_of(
     settings: &Settings<'_>,
     error: AddError<'_>,
 ) -> Result<Halt, Stop>
-    ensures { MatchResult result AsksNothing (IsNew included.now.asked.now.folder.now included.now.asked.now.facts.now) }
+    ensures { MatchResult result AsksNothing (IsNew included.now.lookup.now.folder.now included.now.lookup.now.facts.now) }
 {
-    let alloc = included.asked.alloc;
+    let alloc = included.lookup.alloc;
     match error {
         AddError::Line { file, error } => Ok(at_line(alloc, file, error)?),
         AddError::Include {
@@ -206,16 +206,16 @@ fn add_text<'s, 't: 's>(
     text: &'s [u8],
 ) -> Result<(), Halt>
     ensures { MatchResult result
-        (λ done. (system : System) → AreTrueIn system included.now.asked.now.facts.now
+        (λ done. (system : System) → AreTrueIn system included.now.lookup.now.facts.now
         → rule.AddsText system included.now.start.now known.now name.now text.now
         settings.old.entries.items settings.new.entries.items)
-        (IsNewHalt included.now.asked.now.folder.now included.now.asked.now.facts.now) }
+        (IsNewHalt included.now.lookup.now.folder.now included.now.lookup.now.facts.now) }
 {
     let place = FilePlace {
         name,
         real_dir: b"",
     };
-    let alloc = included.asked.alloc;
+    let alloc = included.lookup.alloc;
     match settings.add_with_includes(alloc, scope, included, known, place, text) {
         Ok(()) => Ok(()),
         Err(error) => Err(stop_of(included, known, settings, error)?),
@@ -224,24 +224,24 @@ fn add_text<'s, 't: 's>(
 
 /// Adds the settings of a file, and of what it includes, if it is read. One of the user may be denied to him.
 fn add_file<'s, 't: 's>(
-    asked: &Asked<'_, 't>,
+    lookup: &Lookup<'_, 't>,
     start: &[u8],
     known: &Known<'_>,
     settings: &mut Settings<'s>,
     named: &'s Named,
 ) -> Result<(), Halt>
     ensures { MatchResult result
-        (λ done. (system : System) → AreTrueIn system asked.now.facts.now
+        (λ done. (system : System) → AreTrueIn system lookup.now.facts.now
         → rule.AddsFile system start.now known.now (file_of named.now)
         settings.old.entries.items settings.new.entries.items)
-        (IsNewHalt asked.now.folder.now asked.now.facts.now) }
+        (IsNewHalt lookup.now.folder.now lookup.now.facts.now) }
 {
-    let Some(text) = told_in(asked, SETTINGS, start, &named.name)? else {
-        check_unread(asked, start, named)?;
+    let Some(text) = answer_in(lookup, SETTINGS, start, &named.name)? else {
+        check_unread(lookup, start, named)?;
         return Ok(());
     };
     let included = Included {
-        asked,
+        lookup,
         start,
         is_file: true,
     };
@@ -251,13 +251,13 @@ fn add_file<'s, 't: 's>(
 
 /// Stops where Git does at a file that is not read: one that is there, unless it is a file of the user who may not read
 /// it.
-fn check_unread(asked: &Asked<'_, '_>, start: &[u8], named: &Named) -> Result<(), Halt>
-    ensures { IfErr result (IsNewHalt asked.now.folder.now asked.now.facts.now) }
+fn check_unread(lookup: &Lookup<'_, '_>, start: &[u8], named: &Named) -> Result<(), Halt>
+    ensures { IfErr result (IsNewHalt lookup.now.folder.now lookup.now.facts.now) }
 {
-    match refusal_in(asked, start, &named.name)? {
+    match refusal_in(lookup, start, &named.name)? {
         None => Ok(()),
         Some(b"Permission denied") if named.scope == Scope::Global => Ok(()),
-        Some(why) => Err(fault(asked.alloc, FaultKind::File, &named.name, 0, why)?),
+        Some(why) => Err(fault(lookup.alloc, FaultKind::File, &named.name, 0, why)?),
     }
 }
 
@@ -279,85 +279,89 @@ fn of_command(alloc: Global, error: CommandError) -> Result<Halt, AllocError>
 const COMMAND: &[u8] = b"command line";
 
 /// The value of the variable with this name and this number.
-fn numbered<'t>(asked: &Asked<'_, 't>, name: &[u8], number: usize) -> Result<Option<&'t [u8]>, Stop>
-    requires { IsNeeded asked.now.folder.now asked.now.facts.now VARIABLE (name.now ++ decimal number) }
+fn numbered<'t>(
+    lookup: &Lookup<'_, 't>,
+    name: &[u8],
+    number: usize,
+) -> Result<Option<&'t [u8]>, Stop>
+    requires { IsNeeded lookup.now.folder.now lookup.now.facts.now VARIABLE (name.now ++ decimal number) }
     ensures { MatchResult result
-        (λ answer. (system : System) → AreTrueIn system asked.now.facts.now
+        (λ answer. (system : System) → AreTrueIn system lookup.now.facts.now
         → option_copied answer ≡ system VARIABLE (name.now ++ decimal number))
-        (IsNew asked.now.folder.now asked.now.facts.now) }
+        (IsNew lookup.now.folder.now lookup.now.facts.now) }
 {
     let mut digits = Buffer::new();
-    let name = joined(asked.alloc, name, digits.format(number).as_bytes(), b"")?;
-    Ok(told(asked, VARIABLE, &name)?)
+    let name = joined(lookup.alloc, name, digits.format(number).as_bytes(), b"")?;
+    Ok(answer_to(lookup, VARIABLE, &name)?)
 }
 
 /// Appends the setting of this number.
-fn push_numbered(asked: &Asked<'_, '_>, text: &mut Vec<u8>, number: usize) -> Result<(), Halt>
+fn push_numbered(lookup: &Lookup<'_, '_>, text: &mut Vec<u8>, number: usize) -> Result<(), Halt>
     ensures { MatchResult result
-        (λ done. (system : System) → AreTrueIn system asked.now.facts.now
+        (λ done. (system : System) → AreTrueIn system lookup.now.facts.now
         → (setting : KeyValue) × (line : List ℕ) × rule.IsNumbered system number setting
         × AddsSettings line (setting ∷ []) × (text.new.items ≡ text.old.items ++ line))
-        (IsNewHalt asked.now.folder.now asked.now.facts.now) }
+        (IsNewHalt lookup.now.folder.now lookup.now.facts.now) }
 {
-    let Some(key) = numbered(asked, b"GIT_CONFIG_KEY_", number)? else {
-        return Err(of_command(asked.alloc, CommandError::MissingKey(number))?);
+    let Some(key) = numbered(lookup, b"GIT_CONFIG_KEY_", number)? else {
+        return Err(of_command(lookup.alloc, CommandError::MissingKey(number))?);
     };
-    let Some(value) = numbered(asked, b"GIT_CONFIG_VALUE_", number)? else {
-        return Err(of_command(asked.alloc, CommandError::MissingValue(number))?);
+    let Some(value) = numbered(lookup, b"GIT_CONFIG_VALUE_", number)? else {
+        return Err(of_command(lookup.alloc, CommandError::MissingValue(number))?);
     };
-    match push_setting(asked.alloc, text, key, Some(value)) {
+    match push_setting(lookup.alloc, text, key, Some(value)) {
         Ok(()) => Ok(()),
-        Err(error) => Err(of_command(asked.alloc, error)?),
+        Err(error) => Err(of_command(lookup.alloc, error)?),
     }
 }
 
 /// The settings that GIT_CONFIG_COUNT counts, as the text of a file.
-fn counted_text(asked: &Asked<'_, '_>) -> Result<Vec<u8>, Halt>
+fn counted_text(lookup: &Lookup<'_, '_>) -> Result<Vec<u8>, Halt>
     ensures { MatchResult result
-        (λ text. (system : System) → AreTrueIn system asked.now.facts.now
+        (λ text. (system : System) → AreTrueIn system lookup.now.facts.now
         → (settings : List KeyValue) × AddsSettings text.items settings
         × rule.AreCounted system (system VARIABLE (codes "GIT_CONFIG_COUNT")) settings)
-        (IsNewHalt asked.now.folder.now asked.now.facts.now) }
+        (IsNewHalt lookup.now.folder.now lookup.now.facts.now) }
 {
-    let mut text = Vec::new(asked.alloc);
-    let Some(count) = told(asked, VARIABLE, b"GIT_CONFIG_COUNT")? else {
+    let mut text = Vec::new(lookup.alloc);
+    let Some(count) = answer_to(lookup, VARIABLE, b"GIT_CONFIG_COUNT")? else {
         return Ok(text);
     };
     let count = match count_of(count) {
         Ok(count) => count,
-        Err(error) => return Err(of_command(asked.alloc, error)?),
+        Err(error) => return Err(of_command(lookup.alloc, error)?),
     };
     for number in 0..count {
-        push_numbered(asked, &mut text, number)?;
+        push_numbered(lookup, &mut text, number)?;
     }
     Ok(text)
 }
 
 /// The settings of the command as the text of a file: first those of GIT_CONFIG_COUNT, and then those of
 /// GIT_CONFIG_PARAMETERS, in which `git -c` hands them on.
-fn command_text(asked: &Asked<'_, '_>) -> Result<Vec<u8>, Halt>
+fn command_text(lookup: &Lookup<'_, '_>) -> Result<Vec<u8>, Halt>
     ensures { MatchResult result
-        (λ text. (system : System) → AreTrueIn system asked.now.facts.now → rule.IsOfCommand system text.items)
-        (IsNewHalt asked.now.folder.now asked.now.facts.now) }
+        (λ text. (system : System) → AreTrueIn system lookup.now.facts.now → rule.IsOfCommand system text.items)
+        (IsNewHalt lookup.now.folder.now lookup.now.facts.now) }
 {
-    let mut text = counted_text(asked)?;
-    let Some(parameters) = told(asked, VARIABLE, b"GIT_CONFIG_PARAMETERS")? else {
+    let mut text = counted_text(lookup)?;
+    let Some(parameters) = answer_to(lookup, VARIABLE, b"GIT_CONFIG_PARAMETERS")? else {
         return Ok(text);
     };
-    match push_parameters(asked.alloc, &mut text, parameters) {
+    match push_parameters(lookup.alloc, &mut text, parameters) {
         Ok(()) => Ok(text),
-        Err(error) => Err(of_command(asked.alloc, error)?),
+        Err(error) => Err(of_command(lookup.alloc, error)?),
     }
 }
 
 /// Where the settings are that no repository can change.
-pub(crate) fn sources_of(asked: &Asked<'_, '_>) -> Result<Sources, Halt>
+pub(crate) fn sources_of(lookup: &Lookup<'_, '_>) -> Result<Sources, Halt>
     ensures { MatchResult result
-        (λ sources. (system : System) → AreTrueIn system asked.now.facts.now → AreSources system sources)
-        (IsNewHalt asked.now.folder.now asked.now.facts.now) }
+        (λ sources. (system : System) → AreTrueIn system lookup.now.facts.now → AreSources system sources)
+        (IsNewHalt lookup.now.folder.now lookup.now.facts.now) }
 {
-    let files = protected_files(asked)?;
-    let command = command_text(asked)?;
+    let files = protected_files(lookup)?;
+    let command = command_text(lookup)?;
     Ok(Sources { files, command })
 }
 
@@ -400,46 +404,46 @@ fn urls_in<'s>(alloc: Global, settings: &'s Settings<'_>) -> Result<Vec<&'s [u8]
 
 /// The settings of these files and of what they include.
 fn settings_of<'s, 't: 's>(
-    asked: &Asked<'_, 't>,
+    lookup: &Lookup<'_, 't>,
     start: &[u8],
     known: &Known<'_>,
     files: &'s [Named],
 ) -> Result<Settings<'s>, Halt>
     ensures { MatchResult result
-        (λ settings. (system : System) → AreTrueIn system asked.now.facts.now
+        (λ settings. (system : System) → AreTrueIn system lookup.now.facts.now
         → rule.AreIn system start.now known.now (map file_of files.now) settings.entries.items)
-        (IsNewHalt asked.now.folder.now asked.now.facts.now) }
+        (IsNewHalt lookup.now.folder.now lookup.now.facts.now) }
 {
-    let mut settings = Settings::new(asked.alloc);
+    let mut settings = Settings::new(lookup.alloc);
     for file in files {
-        add_file(asked, start, known, &mut settings, file)?;
+        add_file(lookup, start, known, &mut settings, file)?;
     }
     Ok(settings)
 }
 
 /// The settings of these sources, where the URLs of remotes are these.
 fn settings_by<'s, 't: 's>(
-    asked: &Asked<'_, 't>,
+    lookup: &Lookup<'_, 't>,
     start: &[u8],
     sources: &'s Sources,
     urls: Urls<'_>,
 ) -> Result<Settings<'s>, Halt>
     ensures { MatchResult result
-        (λ settings. (system : System) → AreTrueIn system asked.now.facts.now → AreSources system sources.now
+        (λ settings. (system : System) → AreTrueIn system lookup.now.facts.now → AreSources system sources.now
         → rule.AreProtected system start.now settings.entries.items)
-        (IsNewHalt asked.now.folder.now asked.now.facts.now) }
+        (IsNewHalt lookup.now.folder.now lookup.now.facts.now) }
 {
     let directories = Directories {
-        home: told(asked, VARIABLE, b"HOME")?,
+        home: answer_to(lookup, VARIABLE, b"HOME")?,
         install_dir: None,
     };
     let known = Known {
         directories,
         includes: Includes::AsGit(None, urls),
     };
-    let mut settings = settings_of(asked, start, &known, &sources.files)?;
+    let mut settings = settings_of(lookup, start, &known, &sources.files)?;
     let included = Included {
-        asked,
+        lookup,
         start,
         is_file: false,
     };
@@ -457,19 +461,19 @@ fn settings_by<'s, 't: 's>(
 /// The settings that no repository can change, in order. Names begin in the folder `start`. If a condition asks about
 /// the URLs of remotes, these are sought first.
 pub(crate) fn protected_settings<'s, 't: 's>(
-    asked: &Asked<'_, 't>,
+    lookup: &Lookup<'_, 't>,
     start: &[u8],
     sources: &'s Sources,
 ) -> Result<Settings<'s>, Halt>
     ensures { MatchResult result
-        (λ settings. (system : System) → AreTrueIn system asked.now.facts.now → AreSources system sources.now
+        (λ settings. (system : System) → AreTrueIn system lookup.now.facts.now → AreSources system sources.now
         → rule.AreProtected system start.now settings.entries.items)
-        (IsNewHalt asked.now.folder.now asked.now.facts.now) }
+        (IsNewHalt lookup.now.folder.now lookup.now.facts.now) }
 {
-    let settings = settings_by(asked, start, sources, Urls::Sought)?;
-    if !ask_for_urls(asked.alloc, &settings)? {
+    let settings = settings_by(lookup, start, sources, Urls::Sought)?;
+    if !ask_for_urls(lookup.alloc, &settings)? {
         return Ok(settings);
     }
-    let urls = urls_in(asked.alloc, &settings)?;
-    Ok(settings_by(asked, start, sources, Urls::Known(&urls))?)
+    let urls = urls_in(lookup.alloc, &settings)?;
+    Ok(settings_by(lookup, start, sources, Urls::Known(&urls))?)
 }

@@ -6,7 +6,7 @@ ghost use Rattle.config_search.specs.Questions.{IsKept, IsNeeded};
 ghost use Rattle.config_search.specs.Shown.{IsNew};
 ghost use Rattle.config_search.specs.declared.TheConstants.{TEXT, BLOCK};
 
-use crate::fact::{Asked, Stop, told_in};
+use crate::fact::{Lookup, Stop, answer_in};
 use crate::name::{inside, line};
 use crate::{BLOCK, TEXT};
 use std::alloc::{AllocError, Global};
@@ -122,21 +122,21 @@ fn record_of<'a>(
 
 /// The first block of a table, or less if no more than `left` bytes may be read. `None` if there is no such file.
 fn first_block<'t>(
-    asked: &Asked<'_, 't>,
+    lookup: &Lookup<'_, 't>,
     folder: &[u8],
     table: &[u8],
     left: usize,
 ) -> Result<Option<&'t [u8]>, Stop>
-    requires text_of { IsNeeded asked.now.folder.now asked.now.facts.now TEXT (inside folder.now table.now) }
-    requires block_of { IsNeeded asked.now.folder.now asked.now.facts.now BLOCK (inside folder.now table.now) }
-    ensures { IfErr result (IsNew asked.now.folder.now asked.now.facts.now) }
+    requires text_of { IsNeeded lookup.now.folder.now lookup.now.facts.now TEXT (inside folder.now table.now) }
+    requires block_of { IsNeeded lookup.now.folder.now lookup.now.facts.now BLOCK (inside folder.now table.now) }
+    ensures { IfErr result (IsNew lookup.now.folder.now lookup.now.facts.now) }
 {
-    let Some(start) = told_in(asked, TEXT, folder, table)? else {
+    let Some(start) = answer_in(lookup, TEXT, folder, table)? else {
         return Ok(None);
     };
     let block = match block_length(start) {
         Some(length) if start.len() < length && start.len() < left => {
-            told_in(asked, BLOCK, folder, table)?.unwrap_or(start)
+            answer_in(lookup, BLOCK, folder, table)?.unwrap_or(start)
         }
         _ => start,
     };
@@ -146,21 +146,21 @@ fn first_block<'t>(
 /// The record of a reference in a table, as the reference that it names, or `Some(None)` if it names none. `None` if
 /// the table has no such record. Takes what is read from what may be read.
 fn target_in_table<'t>(
-    asked: &Asked<'_, 't>,
+    lookup: &Lookup<'_, 't>,
     folder: &[u8],
     table: &[u8],
     name: &[u8],
     left: &mut usize,
 ) -> Result<Option<Option<&'t [u8]>>, Stop>
-    requires text_of { IsNeeded asked.now.folder.now asked.now.facts.now TEXT (inside folder.now table.now) }
-    requires block_of { IsNeeded asked.now.folder.now asked.now.facts.now BLOCK (inside folder.now table.now) }
-    ensures { IfErr result (IsNew asked.now.folder.now asked.now.facts.now) }
+    requires text_of { IsNeeded lookup.now.folder.now lookup.now.facts.now TEXT (inside folder.now table.now) }
+    requires block_of { IsNeeded lookup.now.folder.now lookup.now.facts.now BLOCK (inside folder.now table.now) }
+    ensures { IfErr result (IsNew lookup.now.folder.now lookup.now.facts.now) }
 {
-    let Some(block) = first_block(asked, folder, table, *left)? else {
+    let Some(block) = first_block(lookup, folder, table, *left)? else {
         return Ok(None);
     };
     *left = left.saturating_sub(block.len());
-    match record_of(asked.alloc, block, name)? {
+    match record_of(lookup.alloc, block, name)? {
         Some(record) => Ok(Some(record.target)),
         None => Ok(None),
     }
@@ -169,20 +169,20 @@ fn target_in_table<'t>(
 /// The reference that this one names in the tables of a folder, or `None` if it names none. A later table decides over
 /// those before it.
 pub(crate) fn target_in<'t>(
-    asked: &Asked<'_, 't>,
+    lookup: &Lookup<'_, 't>,
     folder: &[u8],
     name: &[u8],
 ) -> Result<Option<&'t [u8]>, Stop>
-    requires { IsKept asked.now.folder.now asked.now.facts.now folder.now }
-    ensures { IfErr result (IsNew asked.now.folder.now asked.now.facts.now) }
+    requires { IsKept lookup.now.folder.now lookup.now.facts.now folder.now }
+    ensures { IfErr result (IsNew lookup.now.folder.now lookup.now.facts.now) }
 {
-    let folder = inside(asked.alloc, folder, b"reftable")?;
-    let Some(tables) = told_in(asked, TEXT, &folder, b"tables.list")? else {
+    let folder = inside(lookup.alloc, folder, b"reftable")?;
+    let Some(tables) = answer_in(lookup, TEXT, &folder, b"tables.list")? else {
         return Ok(None);
     };
     let mut left = MOST;
     for table in line(tables).rsplit(|byte| *byte == b'\n') {
-        if let Some(target) = target_in_table(asked, &folder, table, name, &mut left)? {
+        if let Some(target) = target_in_table(lookup, &folder, table, name, &mut left)? {
             return Ok(target);
         }
     }

@@ -9,7 +9,7 @@ ghost use Rattle.config_search.specs.Search as search;
 ghost use Rattle.config_search.specs.Names as names;
 ghost use Rattle.config_search.specs.declared.TheConstants.{VARIABLE, DEVICE};
 
-use crate::fact::{Asked, Stop, is_known, is_word, told, told_in};
+use crate::fact::{Lookup, Stop, answer_in, answer_to, is_known, is_word};
 use crate::git_dir::{has_folder, is_git_dir, linked};
 use crate::name::{inside, opened, parent, push};
 use crate::{CURRENT, DEVICE, IDENTITY, KIND, REAL, VARIABLE};
@@ -47,7 +47,7 @@ pub(crate) struct GitDir {
 
 /// What Git finds.
 #[derive(Drop)]
-pub(crate) enum Found<'t> {
+pub(crate) enum Discovery<'t> {
     /// There is no git directory.
     Nothing,
     /// There is one in this folder.
@@ -71,32 +71,35 @@ fn is_true(value: Option<&[u8]>) -> bool
 }
 
 /// Whether a variable has a boolean text that is true.
-pub(crate) fn is_on(asked: &Asked<'_, '_>, name: &[u8]) -> Result<bool, Stop>
-    requires { IsNeeded asked.now.folder.now asked.now.facts.now VARIABLE name.now }
+pub(crate) fn is_on(lookup: &Lookup<'_, '_>, name: &[u8]) -> Result<bool, Stop>
+    requires { IsNeeded lookup.now.folder.now lookup.now.facts.now VARIABLE name.now }
     ensures { MatchResult result
-        (λ is. (system : System) → AreTrueIn system asked.now.facts.now
+        (λ is. (system : System) → AreTrueIn system lookup.now.facts.now
         → MatchBool is (search.IsOn system name.now) (¬ (search.IsOn system name.now)))
-        (IsNew asked.now.folder.now asked.now.facts.now) }
+        (IsNew lookup.now.folder.now lookup.now.facts.now) }
 {
-    let value = told(asked, VARIABLE, name)?;
+    let value = answer_to(lookup, VARIABLE, name)?;
     Ok(is_true(value))
 }
 
 /// The path of a folder without links, or `None` if there is no such folder.
-pub(crate) fn real_folder<'t>(asked: &Asked<'_, 't>, name: &[u8]) -> Result<Option<&'t [u8]>, Stop>
-    requires { IsPlace asked.now.folder.now asked.now.facts.now name.now }
+pub(crate) fn real_folder<'t>(
+    lookup: &Lookup<'_, 't>,
+    name: &[u8],
+) -> Result<Option<&'t [u8]>, Stop>
+    requires { IsPlace lookup.now.folder.now lookup.now.facts.now name.now }
     ensures { MatchResult result
-        (λ found. (system : System) → AreTrueIn system asked.now.facts.now
+        (λ found. (system : System) → AreTrueIn system lookup.now.facts.now
         → option_copied found ≡ rule.real_folder system name.now)
-        (IsNew asked.now.folder.now asked.now.facts.now) }
+        (IsNew lookup.now.folder.now lookup.now.facts.now) }
 {
     if name.is_empty() {
-        return Ok(told(asked, CURRENT, b"")?);
+        return Ok(answer_to(lookup, CURRENT, b"")?);
     }
-    if !has_folder(asked, b"", name)? {
+    if !has_folder(lookup, b"", name)? {
         return Ok(None);
     }
-    Ok(told(asked, REAL, name)?)
+    Ok(answer_to(lookup, REAL, name)?)
 }
 
 /// Whether there are answers to two questions, and they are the same.
@@ -110,53 +113,53 @@ pub(crate) fn is_same(first: Option<&[u8]>, second: Option<&[u8]>) -> bool
 }
 
 /// Whether this name begins at the root, and is one of the folder.
-fn is_path_of(asked: &Asked<'_, '_>, path: &[u8], folder: &[u8]) -> Result<bool, Stop>
-    requires place { IsPlace asked.now.folder.now asked.now.facts.now folder.now }
-    requires told { (system : System) → AreTrueIn system asked.now.facts.now → system VARIABLE (codes "PWD") ≡ Some path.now }
+fn is_path_of(lookup: &Lookup<'_, '_>, path: &[u8], folder: &[u8]) -> Result<bool, Stop>
+    requires place { IsPlace lookup.now.folder.now lookup.now.facts.now folder.now }
+    requires answer_to { (system : System) → AreTrueIn system lookup.now.facts.now → system VARIABLE (codes "PWD") ≡ Some path.now }
     ensures { MatchResult result
-        (λ is. (system : System) → AreTrueIn system asked.now.facts.now
+        (λ is. (system : System) → AreTrueIn system lookup.now.facts.now
         → is ≡ search.is_path_of system path.now folder.now)
-        (IsNew asked.now.folder.now asked.now.facts.now) }
+        (IsNew lookup.now.folder.now lookup.now.facts.now) }
 {
     if !path.starts_with(b"/") {
         return Ok(false);
     }
-    let here = told(asked, IDENTITY, opened(folder))?;
-    Ok(is_same(here, told(asked, IDENTITY, path)?))
+    let here = answer_to(lookup, IDENTITY, opened(folder))?;
+    Ok(is_same(here, answer_to(lookup, IDENTITY, path)?))
 }
 
 /// The path of a folder: this one from the root if it is one of the folder, and otherwise the one without links.
 fn path_by<'t>(
-    asked: &Asked<'_, 't>,
+    lookup: &Lookup<'_, 't>,
     name: &[u8],
     given: Option<&'t [u8]>,
 ) -> Result<Option<&'t [u8]>, Stop>
-    requires place { IsPlace asked.now.folder.now asked.now.facts.now name.now }
-    requires told { (system : System) → AreTrueIn system asked.now.facts.now → option_copied given ≡ system VARIABLE (codes "PWD") }
+    requires place { IsPlace lookup.now.folder.now lookup.now.facts.now name.now }
+    requires answer_to { (system : System) → AreTrueIn system lookup.now.facts.now → option_copied given ≡ system VARIABLE (codes "PWD") }
     ensures { MatchResult result
-        (λ path. (system : System) → AreTrueIn system asked.now.facts.now
+        (λ path. (system : System) → AreTrueIn system lookup.now.facts.now
         → option_copied path ≡ search.path_by system name.now (option_copied given.entry))
-        (IsNew asked.now.folder.now asked.now.facts.now) }
+        (IsNew lookup.now.folder.now lookup.now.facts.now) }
 {
     let Some(path) = given else {
-        return Ok(real_folder(asked, name)?);
+        return Ok(real_folder(lookup, name)?);
     };
-    if is_path_of(asked, path, name)? {
+    if is_path_of(lookup, path, name)? {
         return Ok(Some(path));
     }
-    Ok(real_folder(asked, name)?)
+    Ok(real_folder(lookup, name)?)
 }
 
 /// The path of a folder: the text of PWD if that is the same folder, and otherwise its path without links.
-fn named_path<'t>(asked: &Asked<'_, 't>, name: &[u8]) -> Result<Option<&'t [u8]>, Stop>
-    requires { IsPlace asked.now.folder.now asked.now.facts.now name.now }
+fn named_path<'t>(lookup: &Lookup<'_, 't>, name: &[u8]) -> Result<Option<&'t [u8]>, Stop>
+    requires { IsPlace lookup.now.folder.now lookup.now.facts.now name.now }
     ensures { MatchResult result
-        (λ path. (system : System) → AreTrueIn system asked.now.facts.now
+        (λ path. (system : System) → AreTrueIn system lookup.now.facts.now
         → option_copied path ≡ search.path_of system name.now)
-        (IsNew asked.now.folder.now asked.now.facts.now) }
+        (IsNew lookup.now.folder.now lookup.now.facts.now) }
 {
-    let path = told(asked, VARIABLE, b"PWD")?;
-    Ok(path_by(asked, name, path)?)
+    let path = answer_to(lookup, VARIABLE, b"PWD")?;
+    Ok(path_by(lookup, name, path)?)
 }
 
 /// The name of a folder in which Git starts: `.` is the current one.
@@ -167,59 +170,64 @@ fn start_of(name: &[u8]) -> &[u8]
 }
 
 /// The folder about which is asked, or `None` if there is no such folder: an empty name, or `.`, is the current one.
-pub(crate) fn first_folder<'t>(asked: &Asked<'_, 't>) -> Result<Option<Folder<'t>>, Stop>
+pub(crate) fn first_folder<'t>(lookup: &Lookup<'_, 't>) -> Result<Option<Folder<'t>>, Stop>
     ensures { MatchResult result
-        (λ folder. (system : System) → AreTrueIn system asked.now.facts.now
-        → (option_map (λ f. f.path.now) folder ≡ search.path_of system (search.start_of asked.now.folder.now))
-        × IfSome folder (λ f. f.name.now ≡ search.start_of asked.now.folder.now))
-        (IsNew asked.now.folder.now asked.now.facts.now) }
+        (λ folder. (system : System) → AreTrueIn system lookup.now.facts.now
+        → (option_map (λ f. f.path.now) folder ≡ search.path_of system (search.start_of lookup.now.folder.now))
+        × IfSome folder (λ f. f.name.now ≡ search.start_of lookup.now.folder.now))
+        (IsNew lookup.now.folder.now lookup.now.facts.now) }
 {
-    let name = start_of(asked.folder);
-    match named_path(asked, name)? {
+    let name = start_of(lookup.folder);
+    match named_path(lookup, name)? {
         Some(path) => Ok(Some(Folder { name, path })),
         None => Ok(None),
     }
 }
 
 /// The git directory of this name, or to which the file of this name links. In its folder it has the other name.
-fn linked_or(asked: &Asked<'_, '_>, name: Vec<u8>, named: &[u8], form: Form) -> Result<GitDir, Stop>
-    requires { IsPlace asked.now.folder.now asked.now.facts.now name.items }
+fn linked_or(
+    lookup: &Lookup<'_, '_>,
+    name: Vec<u8>,
+    named: &[u8],
+    form: Form,
+) -> Result<GitDir, Stop>
+    requires { IsPlace lookup.now.folder.now lookup.now.facts.now name.items }
     ensures { MatchResult result
-        (λ found. (system : System) → AreTrueIn system asked.now.facts.now
+        (λ found. (system : System) → AreTrueIn system lookup.now.facts.now
         → git_dir_of found
         ≡ rule.linked_or name.items named.now (form_of form) (rule.linked system name.items))
-        (IsNew asked.now.folder.now asked.now.facts.now) }
+        (IsNew lookup.now.folder.now lookup.now.facts.now) }
 {
-    match linked(asked, &name)? {
+    match linked(lookup, &name)? {
         Some(target) => Ok(GitDir {
-            named: target.to_vec(asked.alloc)?,
+            named: target.to_vec(lookup.alloc)?,
             name: target,
             form,
         }),
         None => Ok(GitDir {
             name,
-            named: named.to_vec(asked.alloc)?,
+            named: named.to_vec(lookup.alloc)?,
             form,
         }),
     }
 }
 
 /// The git directory of a folder that has the name `.git` there, or that a file of that name links to.
-fn find_below(asked: &Asked<'_, '_>, start: &[u8], folder: &[u8]) -> Result<Option<GitDir>, Stop>
-    requires start_place { IsPlace asked.now.folder.now asked.now.facts.now start.now }
-    requires place { IsPlace asked.now.folder.now asked.now.facts.now folder.now }
+fn find_below(lookup: &Lookup<'_, '_>, start: &[u8], folder: &[u8]) -> Result<Option<GitDir>, Stop>
+    requires start_place { IsPlace lookup.now.folder.now lookup.now.facts.now start.now }
+    requires place { IsPlace lookup.now.folder.now lookup.now.facts.now folder.now }
     ensures { MatchResult result
-        (λ found. (system : System) → AreTrueIn system asked.now.facts.now
+        (λ found. (system : System) → AreTrueIn system lookup.now.facts.now
         → option_map git_dir_of found ≡ rule.find_below system start.now folder.now)
-        (IsNew asked.now.folder.now asked.now.facts.now) }
+        (IsNew lookup.now.folder.now lookup.now.facts.now) }
 {
-    let kind = told_in(asked, KIND, folder, b".git")?;
+    let kind = answer_in(lookup, KIND, folder, b".git")?;
     if !is_known(kind) {
         return Ok(None);
     }
-    let link = inside(asked.alloc, folder, b".git")?;
-    let git_dir = linked_or(asked, link, b".git", Form::Below)?;
-    if is_git_dir(asked, start, &git_dir.name)? {
+    let link = inside(lookup.alloc, folder, b".git")?;
+    let git_dir = linked_or(lookup, link, b".git", Form::Below)?;
+    if is_git_dir(lookup, start, &git_dir.name)? {
         return Ok(Some(git_dir));
     }
     Ok(None)
@@ -227,37 +235,37 @@ fn find_below(asked: &Asked<'_, '_>, start: &[u8], folder: &[u8]) -> Result<Opti
 
 /// The git directory that a folder itself is.
 #[tactic(auto, unfolding(crate::specs::Rule::find_bare))]
-fn find_bare(asked: &Asked<'_, '_>, start: &[u8], folder: &[u8]) -> Result<Option<GitDir>, Stop>
-    requires start_place { IsPlace asked.now.folder.now asked.now.facts.now start.now }
-    requires place { IsPlace asked.now.folder.now asked.now.facts.now folder.now }
+fn find_bare(lookup: &Lookup<'_, '_>, start: &[u8], folder: &[u8]) -> Result<Option<GitDir>, Stop>
+    requires start_place { IsPlace lookup.now.folder.now lookup.now.facts.now start.now }
+    requires place { IsPlace lookup.now.folder.now lookup.now.facts.now folder.now }
     ensures { MatchResult result
-        (λ found. (system : System) → AreTrueIn system asked.now.facts.now
+        (λ found. (system : System) → AreTrueIn system lookup.now.facts.now
         → option_map git_dir_of found ≡ rule.find_bare system start.now folder.now)
-        (IsNew asked.now.folder.now asked.now.facts.now) }
+        (IsNew lookup.now.folder.now lookup.now.facts.now) }
 {
-    if !is_git_dir(asked, start, folder)? {
+    if !is_git_dir(lookup, start, folder)? {
         return Ok(None);
     }
     Ok(Some(GitDir {
-        name: opened(folder).to_vec(asked.alloc)?,
-        named: b".".to_vec(asked.alloc)?,
+        name: opened(folder).to_vec(lookup.alloc)?,
+        named: b".".to_vec(lookup.alloc)?,
         form: Form::Bare,
     }))
 }
 
 /// The git directory of a folder, if it has one or is one.
-fn find_in(asked: &Asked<'_, '_>, start: &[u8], folder: &[u8]) -> Result<Option<GitDir>, Stop>
-    requires start_place { IsPlace asked.now.folder.now asked.now.facts.now start.now }
-    requires place { IsPlace asked.now.folder.now asked.now.facts.now folder.now }
+fn find_in(lookup: &Lookup<'_, '_>, start: &[u8], folder: &[u8]) -> Result<Option<GitDir>, Stop>
+    requires start_place { IsPlace lookup.now.folder.now lookup.now.facts.now start.now }
+    requires place { IsPlace lookup.now.folder.now lookup.now.facts.now folder.now }
     ensures { MatchResult result
-        (λ found. (system : System) → AreTrueIn system asked.now.facts.now
+        (λ found. (system : System) → AreTrueIn system lookup.now.facts.now
         → option_map git_dir_of found ≡ rule.find_in system start.now folder.now)
-        (IsNew asked.now.folder.now asked.now.facts.now) }
+        (IsNew lookup.now.folder.now lookup.now.facts.now) }
 {
-    if let Some(git_dir) = find_below(asked, start, folder)? {
+    if let Some(git_dir) = find_below(lookup, start, folder)? {
         return Ok(Some(git_dir));
     }
-    Ok(find_bare(asked, start, folder)?)
+    Ok(find_bare(lookup, start, folder)?)
 }
 
 /// A name without one slash at its end, unless it is that of the root.
@@ -272,16 +280,20 @@ fn without_slash(name: &[u8]) -> &[u8]
 
 /// A folder of GIT_CEILING_DIRECTORIES without links if it is to be resolved and begins at the root, and otherwise
 /// without one slash at its end.
-fn ceiling<'t>(asked: &Asked<'_, 't>, folder: &'t [u8], is_resolved: bool) -> Result<&'t [u8], Stop>
+fn ceiling<'t>(
+    lookup: &Lookup<'_, 't>,
+    folder: &'t [u8],
+    is_resolved: bool,
+) -> Result<&'t [u8], Stop>
     ensures { MatchResult result
-        (λ at. (system : System) → AreTrueIn system asked.now.facts.now
+        (λ at. (system : System) → AreTrueIn system lookup.now.facts.now
         → at.now ≡ search.ceiling system is_resolved folder.now)
-        (IsNew asked.now.folder.now asked.now.facts.now) }
+        (IsNew lookup.now.folder.now lookup.now.facts.now) }
 {
     if !is_resolved || !folder.starts_with(b"/") {
         return Ok(without_slash(folder));
     }
-    match told(asked, REAL, folder)? {
+    match answer_to(lookup, REAL, folder)? {
         Some(real) => Ok(real),
         None => Ok(folder),
     }
@@ -296,40 +308,40 @@ fn counts(is_resolved: bool, part: &[u8]) -> bool
 
 /// The folders that this text names, between which are colons, without links. Those after an empty one are taken as
 /// they are.
-fn ceilings_in<'t>(asked: &Asked<'_, 't>, text: &'t [u8]) -> Result<Vec<&'t [u8]>, Stop>
+fn ceilings_in<'t>(lookup: &Lookup<'_, 't>, text: &'t [u8]) -> Result<Vec<&'t [u8]>, Stop>
     ensures { MatchResult result
-        (λ found. (system : System) → AreTrueIn system asked.now.facts.now
+        (λ found. (system : System) → AreTrueIn system lookup.now.facts.now
         → map (λ c. c.now) found.items ≡ search.ceilings_in system true [] text.now)
-        (IsNew asked.now.folder.now asked.now.facts.now) }
+        (IsNew lookup.now.folder.now lookup.now.facts.now) }
 {
-    let mut found = Vec::new(asked.alloc);
+    let mut found = Vec::new(lookup.alloc);
     let mut is_resolved = true;
     let mut start = 0;
     for (i, byte) in text.iter().enumerate() {
         if *byte == b':' {
             let folder = &text[start..i];
             is_resolved = counts(is_resolved, folder);
-            let at = ceiling(asked, folder, is_resolved)?;
+            let at = ceiling(lookup, folder, is_resolved)?;
             push(&mut found, at)?;
             start = i + 1;
         }
     }
     let folder = &text[start..];
-    let at = ceiling(asked, folder, counts(is_resolved, folder))?;
+    let at = ceiling(lookup, folder, counts(is_resolved, folder))?;
     push(&mut found, at)?;
     Ok(found)
 }
 
 /// The folders of GIT_CEILING_DIRECTORIES.
-fn ceilings<'t>(asked: &Asked<'_, 't>) -> Result<Vec<&'t [u8]>, Stop>
+fn ceilings<'t>(lookup: &Lookup<'_, 't>) -> Result<Vec<&'t [u8]>, Stop>
     ensures { MatchResult result
-        (λ found. (system : System) → AreTrueIn system asked.now.facts.now
+        (λ found. (system : System) → AreTrueIn system lookup.now.facts.now
         → map (λ c. c.now) found.items ≡ search.ceilings system)
-        (IsNew asked.now.folder.now asked.now.facts.now) }
+        (IsNew lookup.now.folder.now lookup.now.facts.now) }
 {
-    match told(asked, VARIABLE, b"GIT_CEILING_DIRECTORIES")? {
-        Some(text) => Ok(ceilings_in(asked, text)?),
-        None => Ok(Vec::new(asked.alloc)),
+    match answer_to(lookup, VARIABLE, b"GIT_CEILING_DIRECTORIES")? {
+        Some(text) => Ok(ceilings_in(lookup, text)?),
+        None => Ok(Vec::new(lookup.alloc)),
     }
 }
 
@@ -348,20 +360,20 @@ fn is_among(folders: &[&[u8]], folder: &[u8]) -> bool
 
 /// The device of the folder in which a search begins, unless that does not count.
 fn device_of<'t>(
-    asked: &Asked<'_, 't>,
+    lookup: &Lookup<'_, 't>,
     crosses: bool,
     folder: &[u8],
 ) -> Result<Option<&'t [u8]>, Stop>
-    requires { IsPlace asked.now.folder.now asked.now.facts.now folder.now }
+    requires { IsPlace lookup.now.folder.now lookup.now.facts.now folder.now }
     ensures { MatchResult result
-        (λ device. (system : System) → AreTrueIn system asked.now.facts.now
+        (λ device. (system : System) → AreTrueIn system lookup.now.facts.now
         → crosses ≡ false → option_copied device ≡ system DEVICE (names.opened folder.now))
-        (IsNew asked.now.folder.now asked.now.facts.now) }
+        (IsNew lookup.now.folder.now lookup.now.facts.now) }
 {
     if crosses {
         return Ok(None);
     }
-    Ok(told(asked, DEVICE, opened(folder))?)
+    Ok(answer_to(lookup, DEVICE, opened(folder))?)
 }
 
 /// Where a search upwards ends.
@@ -375,16 +387,16 @@ struct Limits<'t> {
 
 impl<'t> Limits<'t> {
     /// What the environment says of a search that begins in this folder.
-    fn new(asked: &Asked<'_, 't>, folder: &[u8]) -> Result<Limits<'t>, Stop>
-        requires { IsPlace asked.now.folder.now asked.now.facts.now folder.now }
+    fn new(lookup: &Lookup<'_, 't>, folder: &[u8]) -> Result<Limits<'t>, Stop>
+        requires { IsPlace lookup.now.folder.now lookup.now.facts.now folder.now }
         ensures { MatchResult result
-            (λ limits. (system : System) → AreTrueIn system asked.now.facts.now
+            (λ limits. (system : System) → AreTrueIn system lookup.now.facts.now
             → AreLimits system folder.now limits)
-            (IsNew asked.now.folder.now asked.now.facts.now) }
+            (IsNew lookup.now.folder.now lookup.now.facts.now) }
     {
-        let crosses = is_on(asked, b"GIT_DISCOVERY_ACROSS_FILESYSTEM")?;
-        let device = device_of(asked, crosses, folder)?;
-        let ceilings = ceilings(asked)?;
+        let crosses = is_on(lookup, b"GIT_DISCOVERY_ACROSS_FILESYSTEM")?;
+        let device = device_of(lookup, crosses, folder)?;
+        let ceilings = ceilings(lookup)?;
         Ok(Limits {
             crosses,
             device,
@@ -393,13 +405,13 @@ impl<'t> Limits<'t> {
     }
 
     /// Whether the search ends before this folder.
-    fn end_at(&self, asked: &Asked<'_, '_>, folder: &[u8]) -> Result<bool, Stop>
-        requires { IsPlace asked.now.folder.now asked.now.facts.now folder.now }
+    fn end_at(&self, lookup: &Lookup<'_, '_>, folder: &[u8]) -> Result<bool, Stop>
+        requires { IsPlace lookup.now.folder.now lookup.now.facts.now folder.now }
         ensures { MatchResult result
-            (λ ends. (system : System) (start : List ℕ) → AreTrueIn system asked.now.facts.now
+            (λ ends. (system : System) (start : List ℕ) → AreTrueIn system lookup.now.facts.now
             → AreLimits system start self.now
             → MatchBool ends (search.Ends system start folder.now) (¬ (search.Ends system start folder.now)))
-            (IsNew asked.now.folder.now asked.now.facts.now) }
+            (IsNew lookup.now.folder.now lookup.now.facts.now) }
     {
         if is_among(&self.ceilings, folder) {
             return Ok(true);
@@ -407,7 +419,7 @@ impl<'t> Limits<'t> {
         if self.crosses {
             return Ok(false);
         }
-        if told(asked, DEVICE, folder)? != self.device {
+        if answer_to(lookup, DEVICE, folder)? != self.device {
             return Ok(true);
         }
         Ok(false)
@@ -417,32 +429,32 @@ impl<'t> Limits<'t> {
 /// The git directory of the first folder above this path that has one. The search ends at a ceiling, and on another
 /// device unless GIT_DISCOVERY_ACROSS_FILESYSTEM says otherwise.
 fn find_above<'t>(
-    asked: &Asked<'_, 't>,
+    lookup: &Lookup<'_, 't>,
     start: &[u8],
     limits: &Limits<'t>,
     lowest: &'t [u8],
-) -> Result<Found<'t>, Stop>
-    requires start_place { IsPlace asked.now.folder.now asked.now.facts.now start.now }
-    requires place { IsPlace asked.now.folder.now asked.now.facts.now lowest.now }
+) -> Result<Discovery<'t>, Stop>
+    requires start_place { IsPlace lookup.now.folder.now lookup.now.facts.now start.now }
+    requires place { IsPlace lookup.now.folder.now lookup.now.facts.now lowest.now }
     ensures { MatchResult result
-        (λ found. (system : System) → AreTrueIn system asked.now.facts.now
+        (λ found. (system : System) → AreTrueIn system lookup.now.facts.now
         → AreLimits system start.now limits.now → search.Above system start.now lowest.now (found_of found))
-        (IsNew asked.now.folder.now asked.now.facts.now) }
+        (IsNew lookup.now.folder.now lookup.now.facts.now) }
 {
     let mut folder = lowest;
     'up: loop {
         let Some(above) = parent(folder) else {
-            return Ok(Found::Nothing);
+            return Ok(Discovery::Nothing);
         };
-        if limits.end_at(asked, above)? {
-            return Ok(Found::Nothing);
+        if limits.end_at(lookup, above)? {
+            return Ok(Discovery::Nothing);
         }
-        if let Some(git_dir) = find_in(asked, start, above)? {
+        if let Some(git_dir) = find_in(lookup, start, above)? {
             let place = Folder {
                 name: above,
                 path: above,
             };
-            return Ok(Found::In(place, git_dir));
+            return Ok(Discovery::In(place, git_dir));
         }
         folder = above;
     }
@@ -450,57 +462,57 @@ fn find_above<'t>(
 
 /// The git directory that GIT_DIR names, or to which the file of that name links.
 fn find_given<'t>(
-    asked: &Asked<'_, 't>,
+    lookup: &Lookup<'_, 't>,
     start: Folder<'t>,
     given: &'t [u8],
-) -> Result<Found<'t>, Stop>
-    requires place { IsPlace asked.now.folder.now asked.now.facts.now start.name.now }
-    requires told { (system : System) → AreTrueIn system asked.now.facts.now → system VARIABLE (codes "GIT_DIR") ≡ Some given.now }
+) -> Result<Discovery<'t>, Stop>
+    requires place { IsPlace lookup.now.folder.now lookup.now.facts.now start.name.now }
+    requires answer_to { (system : System) → AreTrueIn system lookup.now.facts.now → system VARIABLE (codes "GIT_DIR") ≡ Some given.now }
     ensures { MatchResult result
-        (λ found. (system : System) → AreTrueIn system asked.now.facts.now
+        (λ found. (system : System) → AreTrueIn system lookup.now.facts.now
         → found_of found ≡ search.given_in system start.entry.name.now given.now)
-        (IsNew asked.now.folder.now asked.now.facts.now) }
+        (IsNew lookup.now.folder.now lookup.now.facts.now) }
 {
     // an empty text would become the name of the folder
     if given.is_empty() {
-        return Ok(Found::Refused(given));
+        return Ok(Discovery::Refused(given));
     }
-    let whole = inside(asked.alloc, start.name, given)?;
-    let git_dir = linked_or(asked, whole, given, Form::Given)?;
-    if is_git_dir(asked, start.name, &git_dir.name)? {
-        return Ok(Found::In(start, git_dir));
+    let whole = inside(lookup.alloc, start.name, given)?;
+    let git_dir = linked_or(lookup, whole, given, Form::Given)?;
+    if is_git_dir(lookup, start.name, &git_dir.name)? {
+        return Ok(Discovery::In(start, git_dir));
     }
-    Ok(Found::Refused(given))
+    Ok(Discovery::Refused(given))
 }
 
 /// The git directory of a folder: that of the folder itself, or of the first one above it.
-fn find_upwards<'t>(asked: &Asked<'_, 't>, start: Folder<'t>) -> Result<Found<'t>, Stop>
-    requires { IsPlace asked.now.folder.now asked.now.facts.now start.name.now }
+fn find_upwards<'t>(lookup: &Lookup<'_, 't>, start: Folder<'t>) -> Result<Discovery<'t>, Stop>
+    requires { IsPlace lookup.now.folder.now lookup.now.facts.now start.name.now }
     ensures { MatchResult result
-        (λ found. (system : System) → AreTrueIn system asked.now.facts.now
+        (λ found. (system : System) → AreTrueIn system lookup.now.facts.now
         → system VARIABLE (codes "GIT_DIR") ≡ None → search.Seeks system start.entry.name.now (found_of found))
-        (IsNew asked.now.folder.now asked.now.facts.now) }
+        (IsNew lookup.now.folder.now lookup.now.facts.now) }
 {
-    if let Some(git_dir) = find_in(asked, start.name, start.name)? {
-        return Ok(Found::In(start, git_dir));
+    if let Some(git_dir) = find_in(lookup, start.name, start.name)? {
+        return Ok(Discovery::In(start, git_dir));
     }
-    let limits = Limits::new(asked, start.name)?;
-    match real_folder(asked, start.name)? {
-        Some(lowest) => Ok(find_above(asked, start.name, &limits, lowest)?),
-        None => Ok(Found::Nothing),
+    let limits = Limits::new(lookup, start.name)?;
+    match real_folder(lookup, start.name)? {
+        Some(lowest) => Ok(find_above(lookup, start.name, &limits, lowest)?),
+        None => Ok(Discovery::Nothing),
     }
 }
 
 /// The git directory of a folder: GIT_DIR, or the first one upwards.
-pub(crate) fn seek<'t>(asked: &Asked<'_, 't>, start: Folder<'t>) -> Result<Found<'t>, Stop>
-    requires { IsPlace asked.now.folder.now asked.now.facts.now start.name.now }
+pub(crate) fn seek<'t>(lookup: &Lookup<'_, 't>, start: Folder<'t>) -> Result<Discovery<'t>, Stop>
+    requires { IsPlace lookup.now.folder.now lookup.now.facts.now start.name.now }
     ensures { MatchResult result
-        (λ found. (system : System) → AreTrueIn system asked.now.facts.now
+        (λ found. (system : System) → AreTrueIn system lookup.now.facts.now
         → search.Seeks system start.entry.name.now (found_of found))
-        (IsNew asked.now.folder.now asked.now.facts.now) }
+        (IsNew lookup.now.folder.now lookup.now.facts.now) }
 {
-    match told(asked, VARIABLE, b"GIT_DIR")? {
-        Some(given) => Ok(find_given(asked, start, given)?),
-        None => Ok(find_upwards(asked, start)?),
+    match answer_to(lookup, VARIABLE, b"GIT_DIR")? {
+        Some(given) => Ok(find_given(lookup, start, given)?),
+        None => Ok(find_upwards(lookup, start)?),
     }
 }

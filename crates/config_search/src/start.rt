@@ -6,7 +6,7 @@ ghost use Rattle.config_search.specs.Questions.{IsPlace};
 ghost use Rattle.config_search.specs.Shown.{IsNew};
 ghost use Rattle.config_search.specs.Rule as rule;
 
-use crate::fact::{Asked, Stop, is_word, told_in};
+use crate::fact::{Lookup, Stop, answer_in, is_word};
 use crate::{KIND, LINK, TEXT};
 
 /// Whether Git takes this for a blank around a reference.
@@ -88,18 +88,18 @@ fn is_reference_link(target: Option<&[u8]>) -> bool
 
 /// Whether HEAD of a folder is Git's.
 #[tactic(auto, unfolding(crate::specs::Rule::has_head))]
-pub(crate) fn has_head(asked: &Asked<'_, '_>, folder: &[u8]) -> Result<bool, Stop>
-    requires { IsPlace asked.now.folder.now asked.now.facts.now folder.now }
+pub(crate) fn has_head(lookup: &Lookup<'_, '_>, folder: &[u8]) -> Result<bool, Stop>
+    requires { IsPlace lookup.now.folder.now lookup.now.facts.now folder.now }
     ensures { MatchResult result
-        (λ has. (system : System) → AreTrueIn system asked.now.facts.now → has ≡ rule.has_head system folder.now)
-        (IsNew asked.now.folder.now asked.now.facts.now) }
+        (λ has. (system : System) → AreTrueIn system lookup.now.facts.now → has ≡ rule.has_head system folder.now)
+        (IsNew lookup.now.folder.now lookup.now.facts.now) }
 {
-    let kind = told_in(asked, KIND, folder, b"HEAD")?;
+    let kind = answer_in(lookup, KIND, folder, b"HEAD")?;
     if is_word(kind, b"link") {
-        return Ok(is_reference_link(told_in(asked, LINK, folder, b"HEAD")?));
+        return Ok(is_reference_link(answer_in(lookup, LINK, folder, b"HEAD")?));
     }
     if is_word(kind, b"file") {
-        return Ok(is_head(told_in(asked, TEXT, folder, b"HEAD")?));
+        return Ok(is_head(answer_in(lookup, TEXT, folder, b"HEAD")?));
     }
     Ok(false)
 }

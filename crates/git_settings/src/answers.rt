@@ -115,14 +115,14 @@ fn is_passed_over(shown: Shown, setting: &Setting<'_>) -> bool {
 impl<'t> Reading<'_, 't> {
     /// Appends the settings that decide for a URL: of a section the one of each name, in the order of names.
     pub fn answer_url(&mut self, url: &str) -> Result<Ending, HostError> {
-        let Some(wanted) = self.found.for_url.take() else {
+        let Some(wanted) = self.collector.for_url.take() else {
             tell(
                 self.rt,
                 &[b"fatal: no URL that Git compares: ", url.as_bytes()],
             );
             return Ok(Ending::Refused);
         };
-        let mut found = self.taken();
+        let mut found = self.kept_settings();
         found.sort_by(order_of_names)?;
         let mut group = Settings::new(self.rt.alloc());
         let mut ending = Ending::Absent;
@@ -155,7 +155,7 @@ impl<'t> Reading<'_, 't> {
 
     /// Appends a setting that decides for a URL, or tells that it has no value of its type.
     fn answer_for_url(&mut self, setting: &Setting<'_>, key: &[u8]) -> Result<Ending, HostError> {
-        let outcome = self.found.put(setting, key)?;
+        let outcome = self.collector.put(setting, key)?;
         if matches!(outcome, Outcome::Refused) {
             self.tell_setting(self.request.shown, setting, key);
             if !is_passed_over(self.request.shown, setting) {
@@ -168,7 +168,7 @@ impl<'t> Reading<'_, 't> {
     /// The last color that was found, or `None` if one of them is wrong, which is told.
     fn last_color(&mut self) -> Result<Option<Option<Color>>, HostError> {
         let mut color = None;
-        let found = self.taken();
+        let found = self.kept_settings();
         for setting in &found {
             match Color::try_read(setting.text()) {
                 Ok(read) if setting.value.is_some() => color = Some(read),
@@ -202,7 +202,7 @@ impl<'t> Reading<'_, 't> {
             }
         }
         if let (Some(color), Shown::Escape(Some(depth))) = (color, self.request.shown) {
-            self.found
+            self.collector
                 .writer
                 .output
                 .extend_from_slice(color.reduced(depth).escape().as_str().as_bytes())?;
@@ -214,7 +214,7 @@ impl<'t> Reading<'_, 't> {
     /// which is told.
     fn decided_use(&mut self, key: &str) -> Result<Option<When>, HostError> {
         let (mut own, mut of_diff, mut of_all) = (None, None, None);
-        let found = self.taken();
+        let found = self.kept_settings();
         for setting in &found {
             let listed = setting.entry.key_text(self.rt.alloc())?;
             let Some(means) = When::read(setting.text()) else {
@@ -276,11 +276,14 @@ impl<'t> Reading<'_, 't> {
             When::Auto => has_terminal,
         };
         if said.is_some() {
-            self.found.writer.output.extend_from_slice(if is_colored {
-                b"true\n"
-            } else {
-                b"false\n".as_slice()
-            })?;
+            self.collector
+                .writer
+                .output
+                .extend_from_slice(if is_colored {
+                    b"true\n"
+                } else {
+                    b"false\n".as_slice()
+                })?;
         } else if !is_colored {
             return Ok(Ending::Absent);
         }

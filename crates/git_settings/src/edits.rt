@@ -7,7 +7,7 @@ use crate::output::{Ending, tell, tell_error};
 use crate::posix::NoPattern;
 use crate::request::{Change, Chosen, Edit, Subject, Texts};
 use crate::shown::{Outcome, Wrong, tell_wrong};
-use crate::sources::{file_of, located, tell_stop};
+use crate::sources::{file_of, location_here, tell_stop};
 use crate::wanted::{Patterns, Unclear, choice_of, fits_alone, tell_key};
 use bstr::ByteSlice;
 use bumpalo::Bump;
@@ -407,7 +407,7 @@ fn change_here<'t>(
     value: &[u8],
 ) -> Result<Ending, HereError<'t>> {
     let disk = Disk::new(rt, texts);
-    let place = located(rt, &disk, scope)?;
+    let place = location_here(rt, &disk, scope)?;
     let disk = disk.within(place.folder)?;
     if scope.is_none() && place.repository.is_none() {
         tell(rt, &[b"fatal: not in a git directory"]);

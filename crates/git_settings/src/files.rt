@@ -22,7 +22,7 @@ const ROOM: usize = 65536;
 
 /// What gets the settings that are asked for, and what is to be written of them.
 #[derive(Drop)]
-pub struct Found<'r, 't> {
+pub struct Collector<'r, 't> {
     /// How values are shown, by the system.
     pub values: Values<'t, System<'t>>,
     /// Whether settings are listed at once.
@@ -39,7 +39,7 @@ pub struct Found<'r, 't> {
     pub writer: Writer<'t>,
 }
 
-impl<'t> Found<'_, 't> {
+impl<'t> Collector<'_, 't> {
     /// Keeps a setting, if it is of the URL that is asked for.
     fn keep(&mut self, setting: Setting<'t>) -> io::Result<()> {
         let Some(wanted) = &self.for_url else {
@@ -78,7 +78,7 @@ impl<'t> Found<'_, 't> {
     }
 }
 
-impl<'t> Receiver<'t> for Found<'_, 't> {
+impl<'t> Receiver<'t> for Collector<'_, 't> {
     ghost receives = { λ _ _ _. ⊤ };
 
     /// Lists a setting, or keeps it, once. As in Git, a list leaves out what is none of its type.
@@ -107,8 +107,8 @@ pub struct Reading<'r, 't> {
     pub rt: &'t HostRuntime,
     /// What is asked.
     pub request: &'r Request<'r>,
-    /// What is found.
-    pub found: Found<'r, 't>,
+    /// What is collected.
+    pub collector: Collector<'r, 't>,
 }
 
 /// Reads the texts that are opened, up to where Git stops, which is told. Returns `None` if it is not known what a
@@ -117,7 +117,7 @@ fn read_all<'t>(
     rt: &HostRuntime,
     opened: &Opened<'t>,
     choice: &mut Choice<'_, '_>,
-    found: &mut Found<'_, 't>,
+    collector: &mut Collector<'_, 't>,
 ) -> Result<Option<Ending>, HostError> {
     for source in &opened.sources {
         let files = opened.included(source)?;
@@ -131,7 +131,7 @@ fn read_all<'t>(
             &files,
             &opened.surroundings.known(),
             text,
-            found,
+            collector,
         ) {
             Ok(()) => {}
             Err(Stopped::System(error)) => return Err(HostError::from(error)),
@@ -152,14 +152,14 @@ fn read_opened<'t>(
     texts: Texts<'_>,
     opened: &mut Opened<'t>,
     choice: &mut Choice<'_, '_>,
-    found: &mut Found<'_, 't>,
+    collector: &mut Collector<'_, 't>,
 ) -> Result<Ending, HereError<'t>> {
-    if let Some(ending) = read_all(rt, opened, choice, found)? {
+    if let Some(ending) = read_all(rt, opened, choice, collector)? {
         return Ok(ending);
     }
     opened.learn(texts)?;
-    found.passed = 0;
-    let ending = read_all(rt, opened, choice, found)?;
+    collector.passed = 0;
+    let ending = read_all(rt, opened, choice, collector)?;
     Ok(ending.unwrap_or(Ending::Refused))
 }
 
@@ -169,7 +169,7 @@ impl<'t> Reading<'_, 't> {
         let wrong = Wrong {
             key,
             value: setting.value.as_deref(),
-            place: Some(self.found.writer.unfiled.place(setting)),
+            place: Some(self.collector.writer.unfiled.place(setting)),
         };
         tell_wrong(self.rt, shown, &wrong, b"");
     }
@@ -186,16 +186,18 @@ impl<'t> Reading<'_, 't> {
     }
 
     /// The settings that were kept, which are taken out.
-    pub fn taken(&mut self) -> Vec<Setting<'t>> {
-        mem::replace(&mut self.found.settings, Vec::new(self.rt.alloc()))
+    pub fn kept_settings(&mut self) -> Vec<Setting<'t>> {
+        mem::replace(&mut self.collector.settings, Vec::new(self.rt.alloc()))
     }
 
     /// Appends the values of the key, or of the keys of a pattern, or the default under it as it was asked for. If one
     /// is refused, there is no output.
     fn answer_key(&mut self, key: &str) -> Result<Ending, HostError> {
-        let settings = self.taken();
+        let settings = self.kept_settings();
         let default = self.request.default.map(str::as_bytes);
-        let answer = self.found.answer_or(&settings, key.as_bytes(), default)?;
+        let answer = self
+            .collector
+            .answer_or(&settings, key.as_bytes(), default)?;
         match answer {
             Answer::Written | Answer::Absent => {}
             Answer::NoDefault => self.tell_default(key, self.request.default.unwrap_or("")),
@@ -219,19 +221,19 @@ impl<'t> Reading<'_, 't> {
     }
 }
 
-/// What is found before the texts that are opened are read.
-fn nothing_found<'r, 't>(
+/// What collects the settings, before the texts that are opened are read.
+fn new_collector<'r, 't>(
     rt: &'t HostRuntime,
     request: &Request<'r>,
     opened: &Opened<'t>,
-) -> Result<Found<'r, 't>, AllocError> {
+) -> Result<Collector<'r, 't>, AllocError> {
     let alloc = rt.alloc();
     let shown = if request.shows_values {
         request.shown
     } else {
         Shown::Text
     };
-    Ok(Found {
+    Ok(Collector {
         values: Values {
             host: System(rt),
             homes: homes_of(&opened.disk, shown)?,
@@ -262,13 +264,17 @@ fn answer_in<'r, 't>(
     let Some(mut opened) = open_texts(rt, texts, request, commands)? else {
         return Ok(Ending::Refused);
     };
-    let mut found = nothing_found(rt, request, &opened)?;
-    let mut ending = read_opened(rt, request.texts, &mut opened, &mut choice, &mut found)?;
-    let mut reading = Reading { rt, request, found };
+    let mut collector = new_collector(rt, request, &opened)?;
+    let mut ending = read_opened(rt, request.texts, &mut opened, &mut choice, &mut collector)?;
+    let mut reading = Reading {
+        rt,
+        request,
+        collector,
+    };
     if matches!(ending, Ending::Done) {
         ending = reading.answer()?;
     }
-    reading.found.write()?;
+    reading.collector.write()?;
     Ok(ending)
 }
 

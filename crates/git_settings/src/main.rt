@@ -2,7 +2,6 @@
 #![tactic(auto)]
 
 mod answers;
-mod asked;
 mod dates;
 mod edits;
 mod files;
@@ -13,12 +12,13 @@ mod posix;
 mod request;
 mod shown;
 mod sources;
+mod task;
 mod wanted;
 
-use crate::asked::{Asked, asked_of};
 use crate::options::{Word, word_of};
 use crate::output::{Ending, tell, tell_error, tell_fatal};
 use crate::shown::depth_of;
+use crate::task::{Task, task_of};
 use config_host::HostError;
 use config_host::environment::{arguments as arguments_of, variable, words_of};
 use config_host::options::{Ends, Misuse, Options, help, read};
@@ -53,9 +53,9 @@ fn run_word<'a>(
         },
         _ => None,
     };
-    match asked_of(word, options, named, depth_of(rt, options)?) {
-        Ok(Asked::Read(request)) => files::run(rt, &request, commands),
-        Ok(Asked::Change(edit)) => edits::run(rt, &edit),
+    match task_of(word, options, named, depth_of(rt, options)?) {
+        Ok(Task::Read(request)) => files::run(rt, &request, commands),
+        Ok(Task::Change(edit)) => edits::run(rt, &edit),
         Err(misuse) => Ok(misuse.tell(rt)),
     }
 }

@@ -305,7 +305,7 @@ fn tell_refusal(rt: &HostRuntime, refusal: Option<&Refusal>) -> Result<(), Alloc
 }
 
 /// Where Git works. If no scope is asked for, or that of a repository, it tells why Git uses none although one is there.
-pub fn located<'t>(
+pub fn location_here<'t>(
     rt: &HostRuntime,
     disk: &Disk<'t>,
     scope: Option<Scope>,
@@ -318,7 +318,7 @@ pub fn located<'t>(
 }
 
 /// The scope that entries of the file of a scope have. In Git a work tree is not told from the repository here.
-fn shown_scope(scope: Scope) -> Scope {
+fn listed_scope(scope: Scope) -> Scope {
     match scope {
         Scope::Worktree => Scope::Local,
         scope => scope,
@@ -334,12 +334,12 @@ fn open_here<'t>(
     commands: &[u8],
 ) -> Result<Option<Opened<'t>>, HereError<'t>> {
     let disk = Disk::new(rt, texts);
-    let place = located(rt, &disk, scope)?;
+    let place = location_here(rt, &disk, scope)?;
     let mut opened = closed(rt, disk.within(place.folder)?, request)?;
     opened.surroundings.set_repository(&disk, place.repository)?;
     match scope {
         Some(scope) => match file_of(rt, &opened.disk, &place, scope)? {
-            Some(name) => open(rt, request, &mut opened, shown_scope(scope), name)?,
+            Some(name) => open(rt, request, &mut opened, listed_scope(scope), name)?,
             None => return Ok(None),
         },
         None => open_all(&mut opened, &place.files, commands)?,

@@ -7,4 +7,4 @@ has_folder-requires c = λ system agrees. of_part (codes "objects") refl (c.requ
 
 pub has_folder-requires-in-Some-2 : goal.has_folder-requires-in-Some-2
 has_folder-requires-in-Some-2 c = λ system agrees. of_place refl (by_variable (c.requires.start_place system agrees)
-    refl (sym (rw c.in-Some-2.is at c.requires.told system agrees)))
+    refl (sym (rw c.in-Some-2.is at c.requires.answer_to system agrees)))

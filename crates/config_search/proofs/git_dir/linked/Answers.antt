@@ -16,7 +16,7 @@ leads : (system : System) (name folder : List ℕ) (kind text found : Option (Li
     → may_link kind ≡ true → folder ≡ folder_of name → text ≡ system TEXT name → found ≡ target folder text
     → resolved_target system found ≡ linked system name
 unfolding linked
-leads system name folder kind text found is may at told gives = rw (sym is, may, gives, at, told) refl
+leads system name folder kind text found is may at answer_to gives = rw (sym is, may, gives, at, answer_to) refl
 
 pub returns-then-not-may_link : goal.returns-then-not-may_link
 returns-then-not-may_link c = λ system agrees. none system c.args.name.now _
@@ -35,8 +35,8 @@ returns-in-None c = λ system agrees. leads system c.args.name.now _ _ _ None
     (c.in_ok-kind.ensures system agrees) (sym c.may_link.ensures ∙ c.if-not-may_link.false)
     c.folder_of.ensures (c.in_ok-text.ensures system agrees) (rw c.in-None.is at c.in_ok-target.ensures)
 
-pub told-requires : goal.told-requires
-told-requires c = λ system agrees. of_place refl (c.requires system agrees)
+pub answer_to-requires : goal.answer_to-requires
+answer_to-requires c = λ system agrees. of_place refl (c.requires system agrees)
 
-pub told-requires-2 : goal.told-requires-2
-told-requires-2 c = λ system agrees. of_place refl (c.requires system agrees)
+pub answer_to-requires-2 : goal.answer_to-requires-2
+answer_to-requires-2 c = λ system agrees. of_place refl (c.requires system agrees)

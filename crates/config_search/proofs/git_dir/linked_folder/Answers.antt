@@ -17,7 +17,7 @@ named : (system : System) (folder : List ℕ) (kind text : Option (List ℕ))
     → text ≡ system TEXT (inside folder (codes "commondir"))
     → linked_by system folder text ≡ linked_folder system folder
 unfolding linked_folder
-named system folder kind text is known told = rw (sym is, known, told) refl
+named system folder kind text is known answer_to = rw (sym is, known, answer_to) refl
 
 pub returns-then-not-is_known : goal.returns-then-not-is_known
 returns-then-not-is_known c = λ system agrees. own system c.args.git_dir.now _
@@ -28,8 +28,8 @@ returns c = λ system agrees. c.in_ok-linked_by.ensures system agrees ∙ named 
     (c.in_ok-kind.ensures system agrees) (sym c.is_known.ensures ∙ c.if-not-is_known.false)
     (c.in_ok-text.ensures system agrees)
 
-pub told_in-requires : goal.told_in-requires
-told_in-requires c = λ system agrees. of_part (codes "commondir") refl (c.requires system agrees)
+pub answer_in-requires : goal.answer_in-requires
+answer_in-requires c = λ system agrees. of_part (codes "commondir") refl (c.requires system agrees)
 
-pub told_in-requires-2 : goal.told_in-requires-2
-told_in-requires-2 c = λ system agrees. of_part (codes "commondir") refl (c.requires system agrees)
+pub answer_in-requires-2 : goal.answer_in-requires-2
+answer_in-requires-2 c = λ system agrees. of_part (codes "commondir") refl (c.requires system agrees)

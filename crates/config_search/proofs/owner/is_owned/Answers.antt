@@ -10,9 +10,9 @@ by_sudo owner user sudo other root = rw (other, root) refl
 
 pub returns : goal.returns
 returns c = λ system agrees.
-    rw (sym (c.in_ok-owner.ensures system agrees), sym (c.in_ok-user.ensures system agrees), sym (c.in_ok-told.ensures system agrees))
+    rw (sym (c.in_ok-owner.ensures system agrees), sym (c.in_ok-user.ensures system agrees), sym (c.in_ok-answer_to.ensures system agrees))
     (c.is_same-2.ensures ∙ by_sudo (option_copied c.in_ok-owner.owner) (option_copied c.in_ok-user.user)
-    (option_copied c.in_ok-told.field-0) (sym c.is_same.ensures ∙ c.if-is_same.false) (sym c.is_word.ensures ∙ c.if-not-is_word.false))
+    (option_copied c.in_ok-answer_to.field-0) (sym c.is_same.ensures ∙ c.if-is_same.false) (sym c.is_word.ensures ∙ c.if-not-is_word.false))
 
-pub told-requires : goal.told-requires
-told-requires c = λ system agrees. of_place refl (c.requires system agrees)
+pub answer_to-requires : goal.answer_to-requires
+answer_to-requires c = λ system agrees. of_place refl (c.requires system agrees)

@@ -26,25 +26,25 @@ of_site about facts site start folder found (Err h) begins at is shared does = d
 pub returns-in-In : goal.returns-in-In
 returns-in-In c =
     let known = c.in_ok-site-in-In.ensures in
-    of_site c.args.asked.now.folder.now c.args.asked.now.facts.now c.in_ok-site-in-In.site c.args.start.name.now c.in-In.folder.name.now _
+    of_site c.args.lookup.now.folder.now c.args.lookup.now.facts.now c.in_ok-site-in-In.site c.args.start.name.now c.in-In.folder.name.now _
     c.trusted.result (rw known.0 refl) (rw known.1 refl) (rw (c.in-In.is, known.1, known.2) refl) known.3 c.trusted.ensures
 
 pub site_of-requires-clause-place : goal.site_of-requires-clause-place
 site_of-requires-clause-place c = λ system agrees.
-    let there = sought_place system c.args.asked.now.folder.now _ (c.requires.place system agrees)
+    let there = sought_place system c.args.lookup.now.folder.now _ (c.requires.place system agrees)
     (c.requires.sought system agrees) in (rw c.in-In.is at there).0
 
 pub site_of-requires-clause-git_dir_place : goal.site_of-requires-clause-git_dir_place
 site_of-requires-clause-git_dir_place c = λ system agrees.
-    let there = sought_place system c.args.asked.now.folder.now _ (c.requires.place system agrees)
+    let there = sought_place system c.args.lookup.now.folder.now _ (c.requires.place system agrees)
     (c.requires.sought system agrees) in (rw c.in-In.is at there).1
 
 pub trusted-requires-clause-folder_place : goal.trusted-requires-clause-folder_place
 trusted-requires-clause-folder_place c = λ system agrees.
-    let there = sought_place system c.args.asked.now.folder.now _ (c.requires.place system agrees)
+    let there = sought_place system c.args.lookup.now.folder.now _ (c.requires.place system agrees)
     (c.requires.sought system agrees) in rw c.in_ok-site-in-In.ensures.1 (rw c.in-In.is at there).0
 
 pub trusted-requires-clause-place : goal.trusted-requires-clause-place
 trusted-requires-clause-place c = λ system agrees.
-    let there = sought_place system c.args.asked.now.folder.now _ (c.requires.place system agrees)
+    let there = sought_place system c.args.lookup.now.folder.now _ (c.requires.place system agrees)
     (c.requires.sought system agrees) in rw c.in_ok-site-in-In.ensures.2 (rw c.in-In.is at there).1

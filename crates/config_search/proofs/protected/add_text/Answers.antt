@@ -15,7 +15,7 @@ returns-in-Ok c = λ system agrees.
           entries,
           error,
           file,
-          walks_as (in_system c.args.included.now.asked.now.facts.now system _ agrees)
+          walks_as (in_system c.args.included.now.lookup.now.facts.now system _ agrees)
               true (λ e. e) walks,
         ),
       ),

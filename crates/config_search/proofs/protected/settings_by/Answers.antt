@@ -5,7 +5,7 @@ use Rattle.config_search.proofs.protected.settings_by.Goals as goal
 pub returns : goal.returns
 returns c = λ system agrees sources. record {
   known = _;
-  is_known = (tt, c.in_ok-told.ensures system agrees, refl);
+  is_known = (tt, c.in_ok-answer_to.ensures system agrees, refl);
   files = map file_of c.args.sources.now.files.items;
   are_files = sources.0;
   of_files = c.in_ok-settings.settings.entries.items;

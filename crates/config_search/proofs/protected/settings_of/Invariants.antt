@@ -5,5 +5,5 @@ use Rattle.config_search.specs.Shown.{file_of}
 use Rattle.config_search.proofs.protected.settings_of.Given as goal
 
 abbrev pub invariant-loop-file : goal.invariant-loop-file
-invariant-loop-file l = (system : System) → AreTrueIn system l.fn.asked.facts.now
+invariant-loop-file l = (system : System) → AreTrueIn system l.fn.lookup.facts.now
     → AreIn system l.fn.start l.fn.known (map file_of (take l.file-index l.fn.files)) l.settings.entries.items

@@ -4,8 +4,8 @@ use Rattle.config_search.specs.Questions.{of_table, of_tables}
 use Rattle.config_search.proofs.Parts.{in_itself, in_left, in_lines}
 use Rattle.config_search.proofs.reftable.target_in.Goals as goal
 
-pub told_in-requires : goal.told_in-requires
-told_in-requires c = λ system agrees. rw (c.deref.ensures.value, c.in_ok-folder.ensures) (of_tables (c.requires system agrees))
+pub answer_in-requires : goal.answer_in-requires
+answer_in-requires c = λ system agrees. rw (c.deref.ensures.value, c.in_ok-folder.ensures) (of_tables (c.requires system agrees))
 
 pub loop-table-init : goal.loop-table-init
 loop-table-init c = λ more. in_itself _

@@ -6,9 +6,9 @@ use Rattle.config_search.specs.Shown.{AreLimits}
 use Rattle.config_search.proofs.seek.find_above.Given as goal
 
 abbrev pub invariant-up : goal.invariant-up
-invariant-up l = ((system : System) → AreTrueIn system l.asked.facts.now → AreLimits system l.start l.limits
+invariant-up l = ((system : System) → AreTrueIn system l.lookup.facts.now → AreLimits system l.start l.limits
     → (found : Sought) → Above system l.start l.folder found → Above system l.start l.lowest found)
-    × IsPlace l.asked.folder.now l.asked.facts.now l.folder
+    × IsPlace l.lookup.folder.now l.lookup.facts.now l.folder
 
 abbrev pub decreases-up : goal.decreases-up
 decreases-up l = length l.folder

@@ -46,13 +46,13 @@ returns c = λ system agrees.
     (sym c.is_known.ensures ∙ c.if-not-is_known.false) c.in_ok-link.ensures (c.in_ok-git_dir.ensures system agrees)
     (sym is ∙ c.if-branch.false)
 
-pub told_in-requires : goal.told_in-requires
-told_in-requires c = λ system agrees. of_place refl (in_dot_git (c.requires.place system agrees))
+pub answer_in-requires : goal.answer_in-requires
+answer_in-requires c = λ system agrees. of_place refl (in_dot_git (c.requires.place system agrees))
 
 pub linked_or-requires : goal.linked_or-requires
 linked_or-requires c = λ system agrees. rw c.in_ok-link.ensures (in_dot_git (c.requires.place system agrees))
 
 pub is_git_dir-requires-clause-place : goal.is_git_dir-requires-clause-place
 is_git_dir-requires-clause-place c = λ system agrees. rw c.deref.ensures.value
-    (subst (λ (it : GitDir). Comes system c.args.asked.now.folder.now it.name) (sym (c.in_ok-git_dir.ensures system agrees))
+    (subst (λ (it : GitDir). Comes system c.args.lookup.now.folder.now it.name) (sym (c.in_ok-git_dir.ensures system agrees))
     (leads_place system _ _ _ IsBelow (rw c.in_ok-link.ensures (in_dot_git (c.requires.place system agrees)))))

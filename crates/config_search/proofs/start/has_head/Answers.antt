@@ -18,7 +18,7 @@ no_link system folder kind is not = rw (sym is, not) refl
 pub returns-then-is_word-2 : goal.returns-then-is_word-2
 returns-then-is_word-2 c = λ system agrees.
     let known = c.in_ok-kind.ensures system agrees in
-    c.is_head.ensures ∙ ap is_head (c.in_ok-told_in-2.ensures system agrees)
+    c.is_head.ensures ∙ ap is_head (c.in_ok-answer_in-2.ensures system agrees)
     ∙ sym (cond-true _ _ false (sym c.is_word-2.ensures ∙ c.if-is_word-2.true))
     ∙ sym (no_link system c.args.folder.now _ known (sym c.is_word.ensures ∙ c.if-is_word.false))
 
@@ -28,11 +28,11 @@ returns c = λ system agrees.
     sym (cond-false _ _ false (sym c.is_word-2.ensures ∙ c.if-is_word-2.false))
     ∙ sym (no_link system c.args.folder.now _ known (sym c.is_word.ensures ∙ c.if-is_word.false))
 
-pub told_in-requires : goal.told_in-requires
-told_in-requires c = λ system agrees. of_part (codes "HEAD") refl (c.requires system agrees)
+pub answer_in-requires : goal.answer_in-requires
+answer_in-requires c = λ system agrees. of_part (codes "HEAD") refl (c.requires system agrees)
 
-pub told_in-requires-then-is_word : goal.told_in-requires-then-is_word
-told_in-requires-then-is_word c = λ system agrees. of_part (codes "HEAD") refl (c.requires system agrees)
+pub answer_in-requires-then-is_word : goal.answer_in-requires-then-is_word
+answer_in-requires-then-is_word c = λ system agrees. of_part (codes "HEAD") refl (c.requires system agrees)
 
-pub told_in-requires-then-is_word-2 : goal.told_in-requires-then-is_word-2
-told_in-requires-then-is_word-2 c = λ system agrees. of_part (codes "HEAD") refl (c.requires system agrees)
+pub answer_in-requires-then-is_word-2 : goal.answer_in-requires-then-is_word-2
+answer_in-requires-then-is_word-2 c = λ system agrees. of_part (codes "HEAD") refl (c.requires system agrees)

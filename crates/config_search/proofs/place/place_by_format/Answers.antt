@@ -1,6 +1,6 @@
 use Rattle.config_search.specs.Search.{Inside}
 use Rattle.config_search.specs.Shown.{git_dir_of}
-use Rattle.config_search.proofs.place.located.Goals as goal
+use Rattle.config_search.proofs.place.place_by_format.Goals as goal
 
 pub returns-in-Some : goal.returns-in-Some
 returns-in-Some c = λ system agrees shares trusted. rw c.in_ok-new.ensures

@@ -10,7 +10,7 @@ use gix_config_value::color::Depth;
 
 /// What a command line asks for.
 #[derive(Clone, Copy)]
-pub enum Asked<'a> {
+pub enum Task<'a> {
     /// Values or entries are printed.
     Read(Request<'a>),
     /// A file is changed.
@@ -443,12 +443,12 @@ fn check_depth(
 
 /// What a word, or a command line without one, asks with these options. GIT_CONFIG may have named a file, and escape
 /// sequences are those for this depth.
-pub fn asked_of<'a>(
+pub fn task_of<'a>(
     word: &Word,
     options: &Options<'a>,
     named: Option<&'a str>,
     depth: Option<Depth>,
-) -> Result<Asked<'a>, Misuse<'a>> {
+) -> Result<Task<'a>, Misuse<'a>> {
     let mut shown = shown_of(options, depth)?;
     let plain = if word.name.is_empty() {
         older(options)?
@@ -470,7 +470,7 @@ pub fn asked_of<'a>(
     check_depth(&plain, options, shown)?;
     let texts = texts_of(options, named)?;
     match change_of(&plain) {
-        Some(change) => Ok(Asked::Change(edit_of(&plain, change, options, texts, shown)?)),
-        None => Ok(Asked::Read(request_of(&plain, options, texts, shown))),
+        Some(change) => Ok(Task::Change(edit_of(&plain, change, options, texts, shown)?)),
+        None => Ok(Task::Read(request_of(&plain, options, texts, shown))),
     }
 }
