@@ -1,15 +1,15 @@
 //! The value of an entry.
 ghost use Rattle.std.specs.Prelude.{◌≡◌, ◌≢◌, ℕ, List, [], ◌∷◌, ◌≤◌, length, IfOk, IfSome, OnOk, MatchOption};
-ghost use Rattle.std.specs.Prelude.{MatchResult, false};
+ghost use Rattle.std.specs.Prelude.{MatchResult, false, reverse};
 ghost use Rattle.std.specs.Cow.{IsBorrowedSlice, cow_slice_items};
-ghost use Rattle.std.specs.List.{Contains};
+ghost use Rattle.std.specs.List.{Contains, list_all, prefix_len};
 ghost use Rattle.std.specs.Option.{IsSome};
-ghost use Rattle.config_file.specs.Bytes.{backslash, double_quote};
+ghost use Rattle.config_file.specs.Bytes.{backslash, double_quote, is_blank};
 ghost use Rattle.config_file.specs.Value as spec;
 ghost use Rattle.config_file.specs.Value.{TakesValue, ValueStops, IsNoEscape, SpellsValue, kept, Ending};
 ghost use Rattle.config_file.specs.Value.{line_feeds};
 ghost use Rattle.config_file.specs.Reading.Scans.{PassedValue, OnOneLine, EndsScan, Escapes, goes_on};
-ghost use Rattle.config_file.specs.Reading.Scans.{is_held_back, unescape};
+ghost use Rattle.config_file.specs.Reading.Scans.{is_held_back, is_unmarked, unescape};
 
 use crate::bytes::{
     Class, after_byte, before, is_blank, is_comment_sign, is_text_byte, line_feeds, run, split,
@@ -114,6 +114,32 @@ impl<'a> Value<'a> {
     }
 }
 
+/// Whether a text has no quote and no backslash.
+fn is_unmarked(text: &[u8]) -> bool
+    ensures { result ≡ list_all is_unmarked text.now }
+{
+    text.iter().all(|byte| *byte != b'"' && *byte != b'\\')
+}
+
+/// Does the same as [`is_unmarked`].
+// Most texts are plain to the end.
+fn is_unmarked_run(text: &[u8]) -> bool
+    ensures { result ≡ list_all is_unmarked text.now }
+{
+    is_unmarked(run(text, Class::Plain).1)
+}
+
+/// How many blanks a text ends with.
+fn last_blanks(text: &[u8]) -> usize
+    ensures count { result ≡ prefix_len is_blank (reverse text.now) }
+    ensures within { result ≤ length text.now }
+{
+    text.iter()
+        .rev()
+        .take_while(|byte| is_blank(**byte))
+        .count()
+}
+
 /// The text of a value as a slice of its bytes, or `None` if quotes or backslashes may change it.
 fn plain_text(raw: &[u8]) -> Option<&[u8]>
     ensures spelled { (spelled : List ℕ) (ending : Ending) → SpellsValue raw.now spelled ending
@@ -121,20 +147,10 @@ fn plain_text(raw: &[u8]) -> Option<&[u8]>
     ensures plain { ¬ (Contains raw.now double_quote) → ¬ (Contains raw.now backslash) → IsSome result }
 {
     let (_, start) = run(raw, Class::Blank);
-    let mut at = start;
-    let mut length = 0usize;
-    'bytes: while let Some((byte, rest)) = split(at) {
-        at = rest;
-        if is_blank(byte) {
-            continue;
-        }
-        if byte == b'"' || byte == b'\\' {
-            return None;
-        }
-        at = run(rest, Class::Word).1;
-        length = start.len() - at.len();
+    if !is_unmarked_run(start) {
+        return None;
     }
-    Some(&start[..length])
+    Some(&start[..start.len() - last_blanks(start)])
 }
 
 /// Whether this byte is a blank outside quotes, which counts only if a byte of the value follows it.

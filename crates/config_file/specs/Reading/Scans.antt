@@ -50,6 +50,10 @@ is_word_byte b = (not (is_blank b) && not (b == double_quote)) && not (b == back
 abbrev pub is_plain_byte : ℕ → Bool
 is_plain_byte b = (goes_on false b && not (b == double_quote)) && not (b == backslash)
 
+-- no quote and no backslash
+abbrev pub is_unmarked : ℕ → Bool
+is_unmarked b = not (b == double_quote) && not (b == backslash)
+
 -- the test of a class of bytes
 abbrev pub passes : Class → ℕ → Bool
 passes Name = is_name_byte
@@ -99,15 +103,3 @@ is_held_back false b = is_blank b
 abbrev pub append_some : List ℕ → Option ℕ → List ℕ
 append_some value None = value
 append_some value (Some b) = value ++ b ∷ []
-
--- After the first blanks of a value, the scan has passed its text so far, of this length, and then a gap of
--- blanks.
-pub record PassedPlain (raw start at : List ℕ) (count : ℕ) : Type 0 where
-  pub front : List ℕ
-  pub gap : List ℕ
-  pub joined : start ≡ (front ++ gap) ++ at
-  pub counted : count ≡ length front
-  pub begins : StopsRun is_blank start
-  pub blanks : list_all is_blank gap ≡ true
-  pub spells : (spelled : List ℕ) (ending : Ending) → SpellsValue raw spelled ending
-      → (o : Ending) × (held : List ℕ) × (front ≢ [] → held ≡ gap) × Spells itself false front held at spelled o
