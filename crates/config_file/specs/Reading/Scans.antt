@@ -1,15 +1,13 @@
 -- What the scans of the reader have passed, and where they go on.
-use Rattle.std.specs.Prelude.{◌≡◌, ◌≢◌, ℕ, Bool, true, false, not, List, [], ◌∷◌, ◌++◌, Option, Some, None, ⊤}
-use Rattle.std.specs.Prelude.{◌&&◌, ◌==◌, if◌then◌else◌, is_some, take, drop, length}
+use Rattle.std.specs.Prelude.{◌≡◌, ℕ, Bool, true, false, not, List, [], ◌∷◌, ◌++◌, Option, Some, None, ⊤}
+use Rattle.std.specs.Prelude.{◌&&◌, ◌==◌, if◌then◌else◌, is_some, take, drop}
 use Rattle.std.specs.Int.{w64, trailing_zeros}
-use Rattle.std.specs.List.{list_all}
 use Rattle.config_file.specs.declared.bytes.Class.{Class}
 use Rattle.config_file.specs.declared.bytes.Class.TheVariants.{Name, Key, Blank, Space, Comment, Unescaped}
 use Rattle.config_file.specs.declared.bytes.Class.TheVariants.{Word, Plain}
 use Rattle.config_file.specs.Bytes.{line_feed, carriage_return, double_quote, backslash, is_name_byte}
 use Rattle.config_file.specs.Bytes.{is_key_byte, is_blank, is_space, is_comment_byte, is_comment_sign}
 use Rattle.config_file.specs.Bytes.{is_text_byte}
-use Rattle.config_file.specs.Runs.{StopsRun}
 use Rattle.config_file.specs.Subsection.{SpellsSubsection, IsSubsection}
 use Rattle.config_file.specs.Value.{Ending, Spells, SpellsValue, itself, escape, line_feeds}
 
@@ -85,6 +83,11 @@ pub data Escapes : List ℕ → List ℕ → Type 0 where
   line_after_return : {e f : ℕ} {text rest : List ℕ}
       → text ≡ e ∷ f ∷ rest → e ≡ carriage_return → f ≡ line_feed
       → Escapes text rest
+
+-- whether the text begins with a byte that a backslash before it escapes
+abbrev pub begins_with_letter : List ℕ → Bool
+begins_with_letter [] = false
+begins_with_letter (e ∷ rest) = is_some (escape e)
 
 -- the byte that a backslash before this text spells, unless it continues the line, and what follows
 abbrev pub unescape : List ℕ → Option ℕ × List ℕ

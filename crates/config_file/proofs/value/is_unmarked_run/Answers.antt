@@ -1,4 +1,3 @@
-use Rattle.std.proofs.Common.{rules}
 use Rattle.config_file.proofs.Plain.{unmarked_behind}
 use Rattle.config_file.proofs.value.is_unmarked_run.Goals as goal
 

@@ -1,4 +1,4 @@
-use Rattle.std.proofs.Common.{rules, sym, ◌∙◌}
+use Rattle.std.proofs.Common.{sym, ◌∙◌}
 use Rattle.config_file.proofs.Plain.{between_blanks, unmarked_start}
 use Rattle.config_file.proofs.value.plain_text.Goals as goal
 
