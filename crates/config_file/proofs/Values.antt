@@ -3,8 +3,9 @@ use Rattle.std.proofs.Common.{◌≡◌, ◌≢◌, ℕ, ◌+◌, Bool, true, fa
 use Rattle.std.proofs.Common.{None, is_some, refl, sym, ap, ◌∙◌, append_assoc, append-nil, arith, inl, inr}
 use Rattle.std.proofs.Common.{◌⊎◌, ◌==◌}
 use Rattle.std.proofs.lemmas.List.{append_cancel_right}
+use Rattle.std.proofs.lemmas.Option.{none-some}
 use Rattle.std.specs.List.{list_all}
-use Rattle.std.proofs.lemmas.Bool.{cases_Bool, and_parts}
+use Rattle.std.proofs.lemmas.Bool.{cases_Bool, and_parts, true≢false}
 use Rattle.std.proofs.lemmas.Bool.Decides.{nat_tests}
 use Rattle.config_file.specs.declared.errors.FileFault.TheVariants.{BadLine, Nul}
 use Rattle.config_file.specs.Bytes.{is_plain, is_blank, is_comment_sign, is_comment_byte, EndsText}
@@ -15,7 +16,7 @@ use Rattle.config_file.specs.Value.{continued_after_return, blank, plain, IsPart
 use Rattle.config_file.specs.Value.{line_feeds, escape, TakesValue, closed, open_end, ValueStops, nul}
 use Rattle.config_file.specs.Value.{unclosed, unclosed_open_end, no_escape}
 use Rattle.config_file.specs.Reading.Scans.{PassedValue, OnOneLine, EndsScan, Escapes, letter, line}
-use Rattle.config_file.specs.Reading.Scans.{line_after_return, goes_on, is_plain_byte}
+use Rattle.config_file.specs.Reading.Scans.{line_after_return, begins_with_letter, goes_on, is_plain_byte}
 use Rattle.config_file.proofs.LineEnds.{line_feeds_append, line_feeds_none, all_more}
 
 pub passed_none : (text : List ℕ) → PassedValue text false text
@@ -105,6 +106,21 @@ pub one_line_run : {text at rest : List ℕ} (bytes : List ℕ) → OnOneLine te
     → list_all is_plain_byte bytes ≡ true → OnOneLine text rest
 one_line_run bytes passed e all =
     one_line_more bytes passed e (all_more is_plain_byte is_comment_byte plain_along bytes all)
+
+backslash_along : (b : ℕ) → b ≡ 92 → b ≢ 10
+backslash_along b is e = grind (arith, nat_tests)
+
+letter_along : (b c : ℕ) → escape b ≡ Some c → b ≢ 10
+letter_along b c found is = none-some c (rw is at found)
+
+-- an escape that begins with a letter is on one line
+pub one_line_escape : {text rest after : List ℕ} {b : ℕ} (at : List ℕ) → OnOneLine text at → at ≡ b ∷ rest → b ≡ 92
+    → Escapes rest after → not (begins_with_letter rest) ≡ false → OnOneLine text after
+one_line_escape {b = b} at passed e is (letter {e = l} {c = c} s found) begins =
+    one_line_byte l (one_line_byte b passed e (backslash_along b is)) s (letter_along l c found)
+one_line_escape at passed e is (line s end) begins = absurd (true≢false (rw (s, end) at begins))
+one_line_escape at passed e is (line_after_return s return end) begins =
+    absurd (true≢false (rw (s, return) at begins))
 
 -- the bytes that `before` returns are on that line
 pub one_line_part : {text at : List ℕ} (raw : List ℕ) → OnOneLine text at → text ≡ raw ++ at

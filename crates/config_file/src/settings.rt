@@ -302,6 +302,7 @@ impl error::Error for GetError<'_, '_> {}
 
 impl<'t> Setting<'t> {
     /// The setting of an entry of a file, with the scope `Command`. It fails only if memory is refused.
+    #[inline(always)]
     pub fn of_entry(alloc: Global, file: &'t [u8], entry: Entry<'t>) -> Result<Self, AllocError>
         ensures entry { IfOk result (IsSettingOf (file.now, entry_of entry.entry)) }
         ensures scope { IfOk result (λ setting. setting.scope ≡ Command) }
@@ -310,6 +311,7 @@ impl<'t> Setting<'t> {
     }
 
     /// The setting of an entry of a file of this scope.
+    #[inline(always)]
     fn with_scope(
         alloc: Global,
         scope: Scope,

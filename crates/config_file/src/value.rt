@@ -1,15 +1,15 @@
 //! The value of an entry.
 ghost use Rattle.std.specs.Prelude.{◌≡◌, ◌≢◌, ℕ, List, [], ◌∷◌, ◌≤◌, length, IfOk, IfSome, OnOk, MatchOption};
-ghost use Rattle.std.specs.Prelude.{MatchResult, false};
+ghost use Rattle.std.specs.Prelude.{MatchResult, false, reverse};
 ghost use Rattle.std.specs.Cow.{IsBorrowedSlice, cow_slice_items};
-ghost use Rattle.std.specs.List.{Contains};
+ghost use Rattle.std.specs.List.{Contains, list_all, prefix_len};
 ghost use Rattle.std.specs.Option.{IsSome};
-ghost use Rattle.config_file.specs.Bytes.{backslash, double_quote};
+ghost use Rattle.config_file.specs.Bytes.{backslash, double_quote, is_blank};
 ghost use Rattle.config_file.specs.Value as spec;
 ghost use Rattle.config_file.specs.Value.{TakesValue, ValueStops, IsNoEscape, SpellsValue, kept, Ending};
 ghost use Rattle.config_file.specs.Value.{line_feeds};
-ghost use Rattle.config_file.specs.Reading.Scans.{PassedValue, OnOneLine, EndsScan, Escapes, goes_on};
-ghost use Rattle.config_file.specs.Reading.Scans.{is_held_back, unescape};
+ghost use Rattle.config_file.specs.Reading.Scans.{PassedValue, OnOneLine, EndsScan, Escapes, begins_with_letter, goes_on};
+ghost use Rattle.config_file.specs.Reading.Scans.{is_held_back, is_unmarked, unescape};
 
 use crate::bytes::{
     Class, after_byte, before, is_blank, is_comment_sign, is_text_byte, line_feeds, run, split,
@@ -64,6 +64,7 @@ impl<'a> Value<'a> {
     /// let text = entry.value.expect(&rt, "a value").text(alloc)?;
     /// assert!(rt; text.as_slice() == b"c  d".as_slice());
     /// ```
+    #[inline(always)]
     pub fn text(&self, alloc: Global) -> Result<CowSlice<'a, u8>, AllocError>
         ensures spelled { (spelled : List ℕ) (ending : Ending) → SpellsValue self.now.raw.now spelled ending
             → IfOk result (λ text. cow_slice_items text ≡ spelled) }
@@ -114,27 +115,46 @@ impl<'a> Value<'a> {
     }
 }
 
+/// Whether a text has no quote and no backslash.
+fn is_unmarked(text: &[u8]) -> bool
+    ensures { result ≡ list_all is_unmarked text.now }
+{
+    text.iter().all(|byte| *byte != b'"' && *byte != b'\\')
+}
+
+/// Does the same as [`is_unmarked`].
+// Most texts are plain to the end.
+#[inline(always)]
+fn is_unmarked_run(text: &[u8]) -> bool
+    ensures { result ≡ list_all is_unmarked text.now }
+{
+    is_unmarked(run(text, Class::Plain).1)
+}
+
+/// How many blanks a text ends with.
+#[inline(always)]
+fn last_blanks(text: &[u8]) -> usize
+    ensures count { result ≡ prefix_len is_blank (reverse text.now) }
+    ensures within { result ≤ length text.now }
+{
+    text.iter()
+        .rev()
+        .take_while(|byte| is_blank(**byte))
+        .count()
+}
+
 /// The text of a value as a slice of its bytes, or `None` if quotes or backslashes may change it.
+#[inline(always)]
 fn plain_text(raw: &[u8]) -> Option<&[u8]>
     ensures spelled { (spelled : List ℕ) (ending : Ending) → SpellsValue raw.now spelled ending
         → IfSome result (λ text. text.now ≡ spelled) }
     ensures plain { ¬ (Contains raw.now double_quote) → ¬ (Contains raw.now backslash) → IsSome result }
 {
     let (_, start) = run(raw, Class::Blank);
-    let mut at = start;
-    let mut length = 0usize;
-    'bytes: while let Some((byte, rest)) = split(at) {
-        at = rest;
-        if is_blank(byte) {
-            continue;
-        }
-        if byte == b'"' || byte == b'\\' {
-            return None;
-        }
-        at = run(rest, Class::Word).1;
-        length = start.len() - at.len();
+    if !is_unmarked_run(start) {
+        return None;
     }
-    Some(&start[..length])
+    Some(&start[..start.len() - last_blanks(start)])
 }
 
 /// Whether this byte is a blank outside quotes, which counts only if a byte of the value follows it.
@@ -189,6 +209,16 @@ fn after_escape(text: &[u8]) -> Option<&[u8]>
     if letter == b'\r' { Some(after) } else { None }
 }
 
+/// Whether the text begins with a letter that a backslash before it escapes.
+fn begins_with_letter(text: &[u8]) -> bool
+    ensures { result ≡ begins_with_letter text.now }
+{
+    match split(text) {
+        Some((letter, _)) => escape(letter).is_some(),
+        None => false,
+    }
+}
+
 /// Whether a value goes on after this byte, which is no quote and no backslash.
 fn goes_on(quoted: bool, byte: u8) -> bool
     ensures { result ≡ goes_on quoted byte }
@@ -197,50 +227,54 @@ fn goes_on(quoted: bool, byte: u8) -> bool
 }
 
 /// Reads a value after its `=`, up to the end of its line or to a comment.
+#[inline(always)]
 pub(crate) fn read_value(text: &[u8]) -> Result<Taken<'_>, Stop>
     ensures { MatchResult result (λ taken. TakesValue text.now taken.value.raw.now taken.lines taken.rest.now)
         (λ stop. ValueStops text.now stop.lines stop.fault) }
 {
     let mut at = text;
     let mut quoted = false;
-    let mut escaped = false;
+    let mut continued = false;
     'pieces: while let Some((byte, rest)) = split(at) {
         if byte == b'"' {
             quoted = !quoted;
             at = rest;
         } else if byte == b'\\' {
-            escaped = true;
             match after_escape(rest) {
-                Some(after) => at = after,
+                Some(after) => {
+                    continued |= !begins_with_letter(rest);
+                    at = after;
+                }
                 None => return end_after_backslash(text, at, rest, quoted),
             }
         } else if goes_on(quoted, byte) {
             at = run(rest, Class::Plain).1;
         } else {
-            return end(text, at, quoted, escaped);
+            return end(text, at, quoted, continued);
         }
     }
-    end(text, at, quoted, escaped)
+    end(text, at, quoted, continued)
 }
 
-/// How many line ends these bytes of a value have. Without a backslash they have none, and are not counted.
-fn line_ends(raw: &[u8], escaped: bool) -> usize
-    requires one_line { escaped ≡ false → line_feeds raw.now ≡ 0 }
+/// How many line ends these bytes of a value have. If it is not continued they have none, and are not counted.
+fn line_ends(raw: &[u8], continued: bool) -> usize
+    requires one_line { continued ≡ false → line_feeds raw.now ≡ 0 }
     ensures { result ≡ line_feeds raw.now }
 {
-    if escaped { line_feeds(raw) } else { 0 }
+    if continued { line_feeds(raw) } else { 0 }
 }
 
 /// Ends a value before LF, a comment, a NUL or the end of the text. In quotes or before a NUL it is refused.
-fn end<'a>(text: &'a [u8], at: &'a [u8], quoted: bool, escaped: bool) -> Result<Taken<'a>, Stop>
+#[inline(always)]
+fn end<'a>(text: &'a [u8], at: &'a [u8], quoted: bool, continued: bool) -> Result<Taken<'a>, Stop>
     requires passed { PassedValue text.now quoted at.now }
-    requires one_line { escaped ≡ false → OnOneLine text.now at.now }
+    requires one_line { continued ≡ false → OnOneLine text.now at.now }
     requires ends { EndsScan quoted at.now }
     ensures { MatchResult result (λ taken. TakesValue text.now taken.value.raw.now taken.lines taken.rest.now)
         (λ stop. ValueStops text.now stop.lines stop.fault) }
 {
     let raw = before(text, at);
-    let lines = line_ends(raw, escaped);
+    let lines = line_ends(raw, continued);
     if quoted {
         return Err(Stop {
             lines,

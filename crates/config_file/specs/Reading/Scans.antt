@@ -1,15 +1,13 @@
 -- What the scans of the reader have passed, and where they go on.
-use Rattle.std.specs.Prelude.{◌≡◌, ◌≢◌, ℕ, Bool, true, false, not, List, [], ◌∷◌, ◌++◌, Option, Some, None, ⊤}
-use Rattle.std.specs.Prelude.{◌&&◌, ◌==◌, if◌then◌else◌, is_some, take, drop, length}
+use Rattle.std.specs.Prelude.{◌≡◌, ℕ, Bool, true, false, not, List, [], ◌∷◌, ◌++◌, Option, Some, None, ⊤}
+use Rattle.std.specs.Prelude.{◌&&◌, ◌==◌, if◌then◌else◌, is_some, take, drop}
 use Rattle.std.specs.Int.{w64, trailing_zeros}
-use Rattle.std.specs.List.{list_all}
 use Rattle.config_file.specs.declared.bytes.Class.{Class}
 use Rattle.config_file.specs.declared.bytes.Class.TheVariants.{Name, Key, Blank, Space, Comment, Unescaped}
 use Rattle.config_file.specs.declared.bytes.Class.TheVariants.{Word, Plain}
 use Rattle.config_file.specs.Bytes.{line_feed, carriage_return, double_quote, backslash, is_name_byte}
 use Rattle.config_file.specs.Bytes.{is_key_byte, is_blank, is_space, is_comment_byte, is_comment_sign}
 use Rattle.config_file.specs.Bytes.{is_text_byte}
-use Rattle.config_file.specs.Runs.{StopsRun}
 use Rattle.config_file.specs.Subsection.{SpellsSubsection, IsSubsection}
 use Rattle.config_file.specs.Value.{Ending, Spells, SpellsValue, itself, escape, line_feeds}
 
@@ -50,6 +48,10 @@ is_word_byte b = (not (is_blank b) && not (b == double_quote)) && not (b == back
 abbrev pub is_plain_byte : ℕ → Bool
 is_plain_byte b = (goes_on false b && not (b == double_quote)) && not (b == backslash)
 
+-- no quote and no backslash
+abbrev pub is_unmarked : ℕ → Bool
+is_unmarked b = not (b == double_quote) && not (b == backslash)
+
 -- the test of a class of bytes
 abbrev pub passes : Class → ℕ → Bool
 passes Name = is_name_byte
@@ -82,6 +84,11 @@ pub data Escapes : List ℕ → List ℕ → Type 0 where
       → text ≡ e ∷ f ∷ rest → e ≡ carriage_return → f ≡ line_feed
       → Escapes text rest
 
+-- whether the text begins with a byte that a backslash before it escapes
+abbrev pub begins_with_letter : List ℕ → Bool
+begins_with_letter [] = false
+begins_with_letter (e ∷ rest) = is_some (escape e)
+
 -- the byte that a backslash before this text spells, unless it continues the line, and what follows
 abbrev pub unescape : List ℕ → Option ℕ × List ℕ
 unescape [] = (None, [])
@@ -99,15 +106,3 @@ is_held_back false b = is_blank b
 abbrev pub append_some : List ℕ → Option ℕ → List ℕ
 append_some value None = value
 append_some value (Some b) = value ++ b ∷ []
-
--- After the first blanks of a value, the scan has passed its text so far, of this length, and then a gap of
--- blanks.
-pub record PassedPlain (raw start at : List ℕ) (count : ℕ) : Type 0 where
-  pub front : List ℕ
-  pub gap : List ℕ
-  pub joined : start ≡ (front ++ gap) ++ at
-  pub counted : count ≡ length front
-  pub begins : StopsRun is_blank start
-  pub blanks : list_all is_blank gap ≡ true
-  pub spells : (spelled : List ℕ) (ending : Ending) → SpellsValue raw spelled ending
-      → (o : Ending) × (held : List ℕ) × (front ≢ [] → held ≡ gap) × Spells itself false front held at spelled o

@@ -1,6 +1,7 @@
-use Rattle.std.proofs.Common.{rules}
+use Rattle.std.proofs.Common.{rules, not}
+use Rattle.std.proofs.lemmas.Bool.{or_parts}
 use Rattle.config_file.proofs.Values.{passed_none, passed_quote, passed_escape, passed_byte, passed_run}
-use Rattle.config_file.proofs.Values.{one_line_none, one_line_byte, one_line_run, goes_on_along, quote_along}
+use Rattle.config_file.proofs.Values.{one_line_none, one_line_byte, one_line_escape, one_line_run, goes_on_along, quote_along}
 use Rattle.config_file.proofs.value.read_value.Goals as goal
 
 pub pieces-init : goal.pieces-init
@@ -16,7 +17,10 @@ pub pieces-preserved-in-Some-after_escape : goal.pieces-preserved-in-Some-after_
 pieces-preserved-in-Some-after_escape c = (
   passed_escape _ c.pieces.invariant.0 c.in-Some.ensures c.if-byte-eq92.true
       c.in-Some-after_escape.ensures,
-  search rules,
+  λ none.
+      let (before, letter) = or_parts c.pieces.continued (not c.begins_with_letter.result) none in
+      one_line_escape _ (c.pieces.invariant.1 before) c.in-Some.ensures c.if-byte-eq92.true
+      c.in-Some-after_escape.ensures (rw c.begins_with_letter.ensures at letter),
 )
 
 pub pieces-preserved : goal.pieces-preserved
