@@ -3,7 +3,7 @@ ghost use Rattle.std.specs.Prelude.{◌≡◌, ◌++◌, [], None, Some, codes};
 ghost use Rattle.config_text.specs.Orders.{IsCopied};
 ghost use Rattle.config_search.specs.Rule.{IsBare, IsBelow, IsGiven, find_in};
 ghost use Rattle.config_search.specs.Search.{Inside, Nowhere, Refused, Seeks};
-ghost use Rattle.config_search.specs.Layouts.{current, file, folder, found, git_dir, git_dir_with, knows, answer_to, variable};
+ghost use Rattle.config_search.specs.Layouts.{current, file, folder, found, git_dir, git_dir_with, knows, told, variable};
 ghost use Rattle.config_search.specs.declared.TheConstants.{DEVICE};
 
 use crate::answer::FaultKind;
@@ -37,6 +37,6 @@ pub fn layouts()
         (Inside (codes "/a") (found (codes "/a/.git") (codes ".git") IsBelow)) }
     ensures at_ceiling { Seeks (knows (variable (codes "GIT_CEILING_DIRECTORIES") (codes "x:/a") ++ current (codes "/a/b")
         ++ git_dir (codes "/a/.git"))) [] Nowhere }
-    ensures at_device { Seeks (knows (answer_to DEVICE (codes ".") (codes "1") ++ answer_to DEVICE (codes "/a") (codes "12") ++ current (codes "/a/b")
+    ensures at_device { Seeks (knows (told DEVICE (codes ".") (codes "1") ++ told DEVICE (codes "/a") (codes "12") ++ current (codes "/a/b")
         ++ git_dir (codes "/a/.git"))) [] Nowhere }
 {}

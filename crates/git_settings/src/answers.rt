@@ -4,11 +4,11 @@ use crate::files::Reading;
 use crate::output::{Ending, tell};
 use crate::shown::{Outcome, Shown, Wrong, tell_wrong};
 use crate::wanted::section_and_name;
+use config_file::entry::push_lower;
 use config_file::{Key, Setting, Settings};
 use config_host::HostError;
 use config_host::environment::variable;
 use config_host::terminal::When;
-use config_host::text::Text;
 use config_url::{Url, last_for_url};
 use gix_config_value::canonical::{Kind, TryRead};
 use gix_config_value::{Boolean, Color};
@@ -34,72 +34,74 @@ fn is_of_other(group: &Settings<'_>, setting: &Setting<'_>) -> bool {
     }
 }
 
-/// Adds a setting to a group.
-fn add<'t>(group: &mut Settings<'t>, setting: Setting<'t>) -> Result<(), AllocError> {
-    Ok(group.entries.push(setting)?)
-}
-
-/// Appends the key of a section and a name as Git lists it, in lower case.
-fn put_plain_key(key: &mut Text, section: &str, name: &[u8]) {
-    for byte in section.as_bytes() {
-        key.put_byte(byte.to_ascii_lowercase());
-    }
-    key.put_byte(b'.');
-    for byte in name {
-        key.put_byte(byte.to_ascii_lowercase());
-    }
+/// Puts the key of a section and a name, as Git lists it, in place of a text.
+fn put_key(text: &mut Vec<u8>, section: &str, name: &[u8]) -> Result<(), AllocError> {
+    text.clear();
+    push_lower(text, section.as_bytes())?;
+    text.push(b'.')?;
+    push_lower(text, name)
 }
 
 /// The URL for which settings are asked for, of a section or of a key.
 #[derive(Drop)]
-pub struct ForUrl<'r> {
+pub struct ForUrl<'r, 't> {
     section: &'r str,
     url: Url,
+    /// The key of the settings that are looked at.
+    key: Vec<u8>,
+    /// Those settings, which have one name.
+    group: Settings<'t>,
 }
 
-impl<'r> ForUrl<'r> {
+impl<'r, 't> ForUrl<'r, 't> {
     /// What is asked about this URL, or `None` if Git compares none like it. The text is a section, or a key.
-    pub fn new(alloc: Global, text: &'r str, url: &str) -> Result<Option<ForUrl<'r>>, AllocError> {
+    pub fn new(
+        alloc: Global,
+        text: &'r str,
+        url: &str,
+    ) -> Result<Option<ForUrl<'r, 't>>, AllocError> {
         let (section, _) = section_and_name(text);
-        match Url::parse(alloc, url.as_bytes())? {
-            Some(url) => Ok(Some(ForUrl { section, url })),
-            None => Ok(None),
-        }
+        let Some(url) = Url::parse(alloc, url.as_bytes())? else {
+            return Ok(None);
+        };
+        Ok(Some(ForUrl {
+            section,
+            url,
+            key: Vec::new(alloc),
+            group: Settings::new(alloc),
+        }))
     }
 
-    /// The setting of these of one name that decides for the URL, with the key under which it is told.
-    fn decided<'s, 't>(
-        &self,
-        alloc: Global,
-        group: &'s Settings<'t>,
-    ) -> Result<Option<(&'s Setting<'t>, Vec<u8>)>, AllocError> {
-        let Some(first) = group.entries.first() else {
+    /// Adds a setting to the group.
+    fn add(&mut self, setting: Setting<'t>) -> Result<(), AllocError> {
+        Ok(self.group.entries.push(setting)?)
+    }
+
+    /// The setting of the group that decides for the URL, with the key under which it is told, if one does.
+    fn decided(&mut self, alloc: Global) -> Result<Option<(&Setting<'t>, &[u8])>, AllocError> {
+        let Some(first) = self.group.entries.first() else {
             return Ok(None);
         };
-        let mut text = Text::new(alloc);
-        put_plain_key(&mut text, self.section, first.entry.key);
-        let text = text.end()?;
-        let Ok(key) = Key::parse(&text) else {
+        put_key(&mut self.key, self.section, first.entry.key)?;
+        let Ok(key) = Key::parse(&self.key) else {
             return Ok(None);
         };
-        match last_for_url(alloc, group, &key, &self.url)? {
-            Some(setting) => Ok(Some((setting, text))),
+        match last_for_url(alloc, &self.group, &key, &self.url)? {
+            Some(setting) => Ok(Some((setting, &self.key))),
             None => Ok(None),
         }
     }
 
     /// The setting, if it is of the URL.
-    pub fn of_url<'t>(
-        &self,
+    pub fn of_url(
+        &mut self,
         alloc: Global,
         setting: Setting<'t>,
     ) -> Result<Option<Setting<'t>>, AllocError> {
-        let mut alone = Settings::new(alloc);
-        add(&mut alone, setting)?;
-        if self.decided(alloc, &alone)?.is_none() {
-            return Ok(None);
-        }
-        Ok(alone.entries.pop())
+        self.add(setting)?;
+        let is_of_url = self.decided(alloc)?.is_some();
+        let setting = self.group.entries.pop();
+        Ok(if is_of_url { setting } else { None })
     }
 }
 
@@ -115,40 +117,37 @@ fn is_passed_over(shown: Shown, setting: &Setting<'_>) -> bool {
 impl<'t> Reading<'_, 't> {
     /// Appends the settings that decide for a URL: of a section the one of each name, in the order of names.
     pub fn answer_url(&mut self, url: &str) -> Result<Ending, HostError> {
-        let Some(wanted) = self.collector.for_url.take() else {
+        let Some(mut wanted) = self.collector.for_url.take() else {
             tell(
                 self.rt,
                 &[b"fatal: no URL that Git compares: ", url.as_bytes()],
             );
             return Ok(Ending::Refused);
         };
-        let mut found = self.kept_settings();
-        found.sort_by(order_of_names)?;
-        let mut group = Settings::new(self.rt.alloc());
+        let mut kept = self.kept_settings();
+        kept.sort_by(order_of_names)?;
         let mut ending = Ending::Absent;
-        for setting in found {
-            if is_of_other(&group, &setting) {
-                ending = self.answer_group(ending, &wanted, &group)?;
-                group = Settings::new(self.rt.alloc());
+        for setting in kept {
+            if is_of_other(&wanted.group, &setting) {
+                ending = self.answer_group(ending, &mut wanted)?;
+                wanted.group.entries.clear();
             }
             if matches!(ending, Ending::Refused) {
                 return Ok(ending);
             }
-            add(&mut group, setting)?;
+            wanted.add(setting)?;
         }
-        self.answer_group(ending, &wanted, &group)
+        self.answer_group(ending, &mut wanted)
     }
 
-    /// Appends the one of these settings of a name that decides for a URL, if one does. Returns how the run
-    /// ends.
+    /// Appends the one of the settings of a name that decides for a URL, if one does. Returns how the run ends.
     fn answer_group(
         &mut self,
         ending: Ending,
-        wanted: &ForUrl<'_>,
-        group: &Settings<'t>,
+        wanted: &mut ForUrl<'_, 't>,
     ) -> Result<Ending, HostError> {
-        match wanted.decided(self.rt.alloc(), group)? {
-            Some((setting, key)) => self.answer_for_url(setting, &key),
+        match wanted.decided(self.rt.alloc())? {
+            Some((setting, key)) => self.answer_for_url(setting, key),
             None => Ok(ending),
         }
     }

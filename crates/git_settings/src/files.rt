@@ -28,7 +28,7 @@ pub struct Collector<'r, 't> {
     /// Whether settings are listed at once.
     lists: bool,
     /// The URL of which they have to be, if one is asked for.
-    pub for_url: Option<ForUrl<'r>>,
+    pub for_url: Option<ForUrl<'r, 't>>,
     /// The settings that are kept, if they are not listed.
     settings: Vec<Setting<'t>>,
     /// How many settings were received.
@@ -42,7 +42,7 @@ pub struct Collector<'r, 't> {
 impl<'t> Collector<'_, 't> {
     /// Keeps a setting, if it is of the URL that is asked for.
     fn keep(&mut self, setting: Setting<'t>) -> io::Result<()> {
-        let Some(wanted) = &self.for_url else {
+        let Some(wanted) = &mut self.for_url else {
             return Ok(self.settings.push(setting)?);
         };
         match wanted.of_url(self.values.host.0.alloc(), setting)? {
