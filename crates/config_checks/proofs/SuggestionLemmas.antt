@@ -156,13 +156,6 @@ of_key rows t key cut unknown None other = foreign key cut other
 of_key rows t key cut unknown (Some k) suggests =
     record { key = key; cut = cut; unknown = unknown; suggests = suggests }
 
-pub of_text : {E : Type 0} (rows : List Row) (t : List ℕ) (key : Key) → IsCut t key → IsUnknown rows t
-    → (r : Result (Option UnknownKey) E)
-    → IfOk r (λ r. MatchOption r (IsForeign rows key) (λ k. Suggests rows key (nearest_of k)))
-    → IfOk r (λ r. MatchOption r (IsPassed rows t) (IsUnknownKey rows t))
-of_text rows t key cut unknown (Err e) is = tt
-of_text rows t key cut unknown (Ok r) is = of_key rows t key cut unknown r is
-
 -- ---- there is at most one number of edits
 
 one_subsection : (S : Type 0) (a b : Option (List ℕ)) (m n : ℕ) → SubsectionEdits S a b m

@@ -527,21 +527,27 @@ pub(crate) fn unknown_in<'k>(
     }
 }
 
-/// Returns what is said of a text that no row covers, as a key. Returns `None` for a text without a dot.
+/// Returns what is said of a text that no row covers, as a key. Returns `None` for a text without a dot. `last` is
+/// what is known of the last section, and from now on of that of the key.
 pub(crate) fn unknown_key<'k>(
     alloc: Global,
     runs: &[Run<'_, 'k>],
     text: &'k [u8],
+    last: &mut Option<SectionFacts>,
 ) -> Result<Option<UnknownKey<'k>>, AllocError>
-    requires { IsUnknown (rows_of runs.now) text.now }
-    ensures { IfOk result (λ r. MatchOption r (IsPassed (rows_of runs.now) text.now)
+    requires unknown { IsUnknown (rows_of runs.now) text.now }
+    requires last { IfSome last.old (IsSection runs.now) }
+    ensures said { IfOk result (λ r. MatchOption r (IsPassed (rows_of runs.now) text.now)
         (IsUnknownKey (rows_of runs.now) text.now)) }
+    ensures last { IfSome last.new (IsSection runs.now) }
 {
     let Some(key) = Key::split(text) else {
         return Ok(None);
     };
-    let section = section_of(alloc, runs, key.section())?;
-    unknown_in(alloc, runs, &[], &section, &key)
+    let section = recalled_section(alloc, runs, key.section(), last.take())?;
+    let unknown = unknown_in(alloc, runs, &[], &section, &key)?;
+    *last = Some(section);
+    Ok(unknown)
 }
 
 /// Appends a part of a key and a dot.
