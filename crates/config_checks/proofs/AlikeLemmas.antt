@@ -1,17 +1,19 @@
 -- Names that are not like each other.
-use Rattle.std.proofs.Common.{◌≡◌, ◌+◌, ◌<◌, ◌≤◌, ℕ, List, [], ◌∷◌, ◌++◌, length, take, get_or, Bool, true}
+use Rattle.std.proofs.Common.{◌≡◌, ◌+◌, ◌<◌, ℕ, List, [], ◌∷◌, ◌++◌, length, take, get_or, Bool, true}
 use Rattle.std.proofs.Common.{false, inl, inr}
-use Rattle.std.proofs.Common.{set, sym, ap, subst, refl, ◌∙◌, ◌⊎◌, ◌-◌, arith, ◌==◌}
-use Rattle.std.proofs.lemmas.Bool.{cases_Bool, eqb-true, eqb-false, eq-eqb, false≢true}
+use Rattle.std.proofs.Common.{set, sym, ap, refl, ◌∙◌, ◌⊎◌, ◌-◌, arith, ◌==◌}
+use Rattle.std.proofs.lemmas.Str.Ascii.{lowercase_is, uppercase_is}
+use Rattle.std.proofs.lemmas.Bool.{cases_Bool, cases_lt, eqb-true, eqb-false, eq-eqb, false≢true}
 use Rattle.std.proofs.lemmas.Int.{clamps}
-use Rattle.std.proofs.lemmas.List.{get_or-set_other, get_or-map, length-map, length-append}
+use Rattle.std.proofs.lemmas.List.{get_or-set_other, get_or-map, length-map, length-append, length-set}
 use Rattle.std.proofs.lemmas.List.{get_or-append_right, take_more}
 use Rattle.std.proofs.lemmas.Grind.{get_or-set_at}
 use Rattle.std.proofs.lemmas.List.Elements.{All-push}
 use Rattle.std.proofs.lemmas.List.Folds.{list_any_none}
-use Rattle.std.specs.Char.{to_ascii_lowercase}
+use Rattle.std.specs.Char.{to_ascii_lowercase, to_ascii_uppercase}
 use Rattle.std.specs.List.{All}
-use Rattle.config_checks.specs.Nearest.{LacksRun, LeavesOut, HasOtherEnd, lower}
+use Rattle.config_text.specs.SameWord.{SameWord}
+use Rattle.config_checks.specs.Nearest.{LeavesOut, lower}
 use Rattle.config_checks.specs.Nearest.LeavesOut.{skipped, kept}
 use Rattle.config_checks.specs.Suggestions.{AreAlike}
 use Rattle.config_checks.specs.Reading.Steps.{has_byte, is_same_byte, IsMarkedByte}
@@ -25,27 +27,78 @@ byte_kept marks number n below is = elim (cases_Bool (n == number)) [
   | inr differ ↦ get_or-set_other marks number n true false (eqb-false n number differ) ∙ is
 ]
 
+-- two bytes that are the same, ignoring ASCII case, differ in the case at most
+of_case : (x b : ℕ) → to_ascii_lowercase x ≡ to_ascii_lowercase b
+    → (x ≡ to_ascii_lowercase b) ⊎ (x ≡ to_ascii_uppercase b)
+of_case x b same =
+    let low = lowercase_is x in
+    let lower = lowercase_is b in
+    let upper = uppercase_is b in
+    elim (cases_lt x 65) [
+      | inl below ↦ inl (sym (low.1 below) ∙ same)
+      | inr above ↦ elim (cases_lt 90 x) [
+        | inl beyond ↦ inl (sym (low.2 beyond) ∙ same)
+        | inr letter ↦
+            let moved = low.0 (above, letter) in
+            elim (cases_lt b 97) [
+              | inl small ↦ elim (cases_lt b 65) [
+                | inl tiny ↦ absurd (omega (arith, moved, same, lower.1 tiny, tiny, above))
+                | inr big ↦ elim (cases_lt 90 b) [
+                  | inl beyond ↦ absurd (omega (arith, moved, same, lower.2 beyond, small, above))
+                  | inr within ↦ inr (omega (arith, moved, same, lower.0 (big, within), upper.1 small))
+                ]
+              ]
+              | inr big ↦ elim (cases_lt 122 b) [
+                | inl beyond ↦
+                    let stays = lower.2 (omega (arith, beyond)) in
+                    absurd (omega (arith, moved, same, stays, letter, beyond))
+                | inr within ↦
+                    let stays = lower.2 (omega (arith, big)) in
+                    inr (omega (arith, moved, same, stays, upper.0 (big, within)))
+              ]
+            ]
+      ]
+    ]
+
 -- the bytes so far are marked, and one more
 pub bytes_more : (name : List ℕ) (i : ℕ) (marks : List Bool) → i < length name
-    → to_ascii_lowercase (get_or name i 0) < length marks → All (IsMarkedByte marks) (take i name)
-    → All (IsMarkedByte (set marks (to_ascii_lowercase (get_or name i 0)) true)) (take (i + 1) name)
-bytes_more name i marks below inside so_far =
-    let byte = to_ascii_lowercase (get_or name i 0) in
+    → to_ascii_lowercase (get_or name i 0) < length marks
+    → to_ascii_uppercase (get_or name i 0) < length marks
+    → All (IsMarkedByte marks) (take i name)
+    → All (IsMarkedByte (set (set marks (to_ascii_lowercase (get_or name i 0)) true)
+    (to_ascii_uppercase (get_or name i 0)) true)) (take (i + 1) name)
+bytes_more name i marks below inside also so_far =
+    let byte = get_or name i 0 in
+    let low = to_ascii_lowercase byte in
+    let up = to_ascii_uppercase byte in
+    let more = set marks low true in
+    let both = set more up true in
+    let within : up < length more = rw (length-set marks low true) also in
+    let one : IsMarkedByte both byte = λ x same. elim (of_case x byte same) [
+      | inl is ↦ ap (λ n. get_or both n false) is
+          ∙ byte_kept more up low within (get_or-set_at marks low low true false refl inside)
+      | inr is ↦ ap (λ n. get_or both n false) is ∙ get_or-set_at more up up true false refl within
+    ] in
     rw (take_more name i 0 below)
-    (All-push (IsMarkedByte (set marks byte true)) (take i name) (get_or name i 0)
-    (λ k d within. byte_kept marks byte _ inside (so_far k d within))
-    (get_or-set_at marks byte byte true false refl inside))
+    (All-push (IsMarkedByte both) (take i name) byte
+    (λ k d before x same.
+    byte_kept more up x within (byte_kept marks low x inside (so_far k d before x same))) one)
+
+-- a byte that is not marked is not one that is marked
+pub unmarked_differs : (marks : List Bool) (x byte : ℕ) → IsMarkedByte marks byte
+    → get_or marks x false ≡ false → is_same_byte x byte ≡ false
+unmarked_differs marks x byte marked not = elim (cases_Bool (is_same_byte x byte)) [
+  | inl same ↦
+      let equal = eqb-true (to_ascii_lowercase x) (to_ascii_lowercase byte) same in
+      absurd (false≢true (sym not ∙ marked x equal))
+  | inr differ ↦ differ
+]
 
 -- a name lacks each byte that is not marked
 pub unmarked_lacks : (marks : List Bool) (name : List ℕ) (x : ℕ) → All (IsMarkedByte marks) name
-    → get_or marks (to_ascii_lowercase x) false ≡ false → has_byte name x ≡ false
+    → get_or marks x false ≡ false → has_byte name x ≡ false
 unmarked_lacks marks name x marked not = list_any_none (is_same_byte x) name (λ k d inside.
-    elim (cases_Bool (is_same_byte x (get_or name k d))) [
-      | inl same ↦
-          let equal = eqb-true (to_ascii_lowercase x) (to_ascii_lowercase (get_or name k d)) same in
-          absurd (false≢true (sym not ∙ ap (λ n. get_or marks n false) equal ∙ marked k d inside))
-      | inr differ ↦ differ
-    ])
+    unmarked_differs marks x (get_or name k d) (marked k d inside) not)
 
 -- ---- texts that are alike share their first or their last byte
 
@@ -106,3 +159,13 @@ alike_share a b alike =
             ∙ get_or-map to_ascii_lowercase b (length b - 1) 0 0 (omega (arith, clamps, more))))
       ],
     )
+
+-- the first bytes of two words that are the same are the same, ignoring ASCII case
+pub same_share : (a b : List ℕ) → SameWord a b → 0 < length a
+    → is_same_byte (get_or a 0 0) (get_or b 0 0) ≡ true
+same_share [] b same some = absurd (omega (arith, some))
+same_share (x ∷ xs) [] same some = absurd (cc)
+same_share (x ∷ xs) (y ∷ ys) same some =
+    let both : to_ascii_lowercase x ∷ lower xs ≡ to_ascii_lowercase y ∷ lower ys = same in
+    let firsts : to_ascii_lowercase x ≡ to_ascii_lowercase y = cc in
+    eq-eqb _ _ firsts

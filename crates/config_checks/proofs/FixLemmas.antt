@@ -1,7 +1,9 @@
 -- What mends a finding.
 use Rattle.std.proofs.Common.{◌≡◌, ◌≢◌, ◌≤◌, ◌<◌, ◌↔◌, ℕ, List, reverse, Bool, true, IsTrue, Option, None}
-use Rattle.std.proofs.Common.{Some, option_map}
+use Rattle.std.proofs.Common.{Some, option_map, inl, inr, length, ◌-◌}
 use Rattle.std.proofs.Common.{refl, sym, ap, subst, ◌∙◌, if◌then◌else◌, Bor, arith}
+use Rattle.std.proofs.lemmas.Int.{clamps}
+use Rattle.std.proofs.lemmas.List.{get_or-reverse, length-reverse, reverse-reverse}
 use Rattle.std.proofs.lemmas.Str.{IsUtf8-from_is_utf8, is_utf8-from_IsUtf8}
 use Rattle.std.specs.Str.{IsUtf8, is_utf8}
 use Rattle.serde_json.specs.Data.{Data, null}
@@ -22,10 +24,12 @@ use Rattle.config_checks.specs.Fixes.{IsClean, IsOnlyMeant, IsOnlyKey, MendsValu
 use Rattle.config_checks.specs.Fixes.{IsSafeName, IsSafeValue, spelled, asked, mistyped, IsTypingError}
 use Rattle.config_checks.specs.Nearest.{FewEdits, most_edits}
 use Rattle.config_file.specs.Key.{Key, IsCut}
+use Rattle.config_file.specs.KeyView.{key_of}
 use Rattle.config_file.proofs.OneKey.{cut_same}
 use Rattle.config_checks.specs.Reasons.{HasFinding, IsMeant, WordEdits}
 use Rattle.config_checks.specs.Report.{key_meant}
-use Rattle.config_checks.specs.Rows.{Decides}
+use Rattle.config_checks.specs.Keys.{Covers}
+use Rattle.config_checks.specs.Rows.{Decides, IsUnknown}
 use Rattle.config_checks.specs.Settings.{value_of}
 use Rattle.config_checks.specs.Suggestions.{IsUnknownKey}
 use Rattle.config_checks.proofs.NearestLemmas.{nearest_once, no_far}
@@ -88,6 +92,23 @@ module _ (list : WordList) (t word : List ℕ) (words : List (Bor (List ℕ)))
   only_none far other also = absurd (no_far (WordEdits t) words other (rw is also) far)
 
 -- ---- the only key that is suggested
+
+-- no row covers the key, if the rows are looked through from the last to the first
+pub unknown_reversed : (rows : List Row) (t : List ℕ) → IsUnknown rows t → IsUnknown (reverse rows) t
+unknown_reversed rows t (inl none) = inl none
+unknown_reversed rows t (inr (key, cut, none)) = inr (
+  key,
+  cut,
+  λ k d inside.
+      let long = length-reverse rows in
+      let within : k < length rows = omega (arith, inside, long) in
+      subst (λ row. ¬ (Covers (key_of row.key) key)) (sym (get_or-reverse rows k d within))
+      (none (length rows - 1 - k) d (omega (arith, clamps, within))),
+)
+
+pub unknown_forwards : (rows : List Row) (t : List ℕ) → IsUnknown (reverse rows) t → IsUnknown rows t
+unknown_forwards rows t unknown =
+    subst (λ rows. IsUnknown rows t) (reverse-reverse rows) (unknown_reversed (reverse rows) t unknown)
 
 pub only_key : (rows : List Row) (key suggested : List ℕ) (unknown : UnknownKey) (other : List ℕ) (b : Bool)
     → IsUnknownKey rows key unknown → Some other ≡ key_meant unknown → (IsTrue b ↔ (other ≡ suggested))

@@ -1,6 +1,6 @@
 -- The edits between the keys of rows and a key.
 use Rattle.std.proofs.Common.{◌≡◌, ◌<◌, ◌≤◌, ℕ, zero, suc, Result, Ok, Err, IfOk, List, [], ◌∷◌, Option, None}
-use Rattle.std.proofs.Common.{Some, MatchOption}
+use Rattle.std.proofs.Common.{Some, MatchOption, inl, inr}
 use Rattle.std.proofs.Common.{◌∙◌, refl, sym, ap, subst, arith, length, get_or, Bool, IsTrue, ◌↔◌, codes}
 use Rattle.std.proofs.lemmas.List.{length-map}
 use Rattle.std.specs.Char.{to_ascii_lowercase}
@@ -156,13 +156,6 @@ of_key rows t key cut unknown None other = foreign key cut other
 of_key rows t key cut unknown (Some k) suggests =
     record { key = key; cut = cut; unknown = unknown; suggests = suggests }
 
-pub of_text : {E : Type 0} (rows : List Row) (t : List ℕ) (key : Key) → IsCut t key → IsUnknown rows t
-    → (r : Result (Option UnknownKey) E)
-    → IfOk r (λ r. MatchOption r (IsForeign rows key) (λ k. Suggests rows key (nearest_of k)))
-    → IfOk r (λ r. MatchOption r (IsPassed rows t) (IsUnknownKey rows t))
-of_text rows t key cut unknown (Err e) is = tt
-of_text rows t key cut unknown (Ok r) is = of_key rows t key cut unknown r is
-
 -- ---- there is at most one number of edits
 
 one_subsection : (S : Type 0) (a b : Option (List ℕ)) (m n : ℕ) → SubsectionEdits S a b m
@@ -205,8 +198,11 @@ module _ (long : ℕ) (A : Type 0) (a b : List ℕ) where
     | alike other beyond is three ↦ absurd (unlike is)
   ]
 
--- a name that is unlike that of the row is not near it
-pub of_unlike : (row key : Key) → IsUnlike row.name key.name → IsFew (NameEdits row key) None
-of_unlike row key is = none_near 5 ((key.subsection ≡ None)
-    × AreAlike row.name key.name) row.name key.name is.no_word
-    (λ n edits. absurd (is.far n edits)) (λ also. is.unlike also.1)
+-- a key whose name is unlike that of the row is not near it, unless the row covers any name
+pub of_unlike : (row key : Key) → ¬ (row.name ≡ codes "*") → IsUnlike row.name key.name
+    → IsFew (EditsAfter row key) None
+of_unlike row key named is n (in_name covers not edits) =
+    none_near 5 ((key.subsection ≡ None) × AreAlike row.name key.name) row.name key.name is.no_word
+    (λ m near. absurd (is.far m near)) (λ also. is.unlike also.1) n edits
+of_unlike row key named is n (in_subsection not (inl any) edits) = absurd (named any)
+of_unlike row key named is n (in_subsection not (inr same) edits) = absurd (is.other same)

@@ -4,7 +4,7 @@ ghost use Rattle.std.specs.List.{All, filter};
 ghost use Rattle.config_text.specs.SameWord.{SameWord};
 ghost use Rattle.config_checks.specs.Nearest.{FewEdits};
 ghost use Rattle.config_checks.specs.Suggestions.{AreAlike, IsOtherWord};
-ghost use Rattle.config_checks.specs.Reading.Steps.{has_byte, IsMarkedByte, IsName, IsOtherFor, IsUnlike};
+ghost use Rattle.config_checks.specs.Reading.Steps.{has_byte, is_same_byte, IsMarkedByte, IsName, IsOtherFor, IsUnlike};
 
 use crate::edits::{LONG, most_edits};
 use crate::key::is_same_word;
@@ -51,19 +51,20 @@ pub(crate) fn is_other_word(row: &[u8], text: &[u8]) -> bool
 /// What is known of the name of a key before it is compared with those of many rows.
 #[derive(Drop)]
 pub(crate) struct NameFacts {
-    /// Which bytes it has, ignoring ASCII case. Those of capital letters are not looked at.
+    /// Which bytes it has, each letter in both cases.
     bytes: [bool; 256],
     /// The word of rows for which people write it.
     word: Option<&'static [u8]>,
 }
 
-/// Marks each byte of a name, in lower case.
+/// Marks each byte of a name, in both cases.
 fn marked_bytes(name: &[u8]) -> [bool; 256]
     ensures { All (IsMarkedByte result) name.now }
 {
     let mut bytes = [false; 256];
     for byte in name {
         bytes[usize::from(byte.to_ascii_lowercase())] = true;
+        bytes[usize::from(byte.to_ascii_uppercase())] = true;
     }
     bytes
 }
@@ -78,25 +79,42 @@ pub(crate) fn name_facts(name: &[u8]) -> NameFacts
     }
 }
 
-/// Whether both texts begin, or both end, with the same byte, ignoring ASCII case.
-fn share_an_end(a: &[u8], b: &[u8]) -> bool
-    ensures { AreAlike a.now b.now → IsTrue result }
+/// Whether a byte is the same as this one of the name of a key, ignoring ASCII case, by what is known of that
+/// name.
+// Most bytes of rows are not in the name.
+#[inline(always)]
+fn is_same_byte(bytes: &[bool; 256], row: u8, name: u8) -> bool
+    requires { IsMarkedByte bytes.now name }
+    ensures { result ≡ is_same_byte row name }
 {
-    if a.is_empty() || b.is_empty() {
-        return false;
+    bytes[usize::from(row)] && row.eq_ignore_ascii_case(&name)
+}
+
+/// Whether the name of a row and the name of a key begin, or end, with the same byte, ignoring ASCII case, or one
+/// of them is empty.
+#[inline(always)]
+fn share_an_end(bytes: &[bool; 256], row: &[u8], name: &[u8]) -> bool
+    requires { All (IsMarkedByte bytes.now) name.now }
+    ensures alike { AreAlike row.now name.now → IsTrue result }
+    ensures same { SameWord row.now name.now → IsTrue result }
+{
+    if row.is_empty() || name.is_empty() {
+        return true;
     }
-    a[0].eq_ignore_ascii_case(&b[0]) || a[a.len() - 1].eq_ignore_ascii_case(&b[b.len() - 1])
+    is_same_byte(bytes, row[0], name[0])
+        || is_same_byte(bytes, row[row.len() - 1], name[name.len() - 1])
 }
 
 /// Whether a name of a row has more bytes than so many that the name of a key lacks, by what is known of the latter.
 // It ends at the first byte that is one too many.
+#[inline(always)]
 fn has_more(bytes: &[bool; 256], row: &[u8], name: &[u8], most: usize) -> bool
     requires { All (IsMarkedByte bytes.now) name.now }
     ensures { IsTrue result → most < length (filter (λ byte. not (has_byte name.now byte)) row.now) }
 {
     let mut left = most;
     for byte in row {
-        if !bytes[usize::from(byte.to_ascii_lowercase())] {
+        if !bytes[usize::from(*byte)] {
             if left == 0 {
                 return true;
             }
@@ -108,6 +126,7 @@ fn has_more(bytes: &[bool; 256], row: &[u8], name: &[u8], most: usize) -> bool
 
 /// Whether more edits lead from the name of a row to the name of a key than near texts may have, as their lengths or their
 /// bytes tell.
+#[inline(always)]
 fn is_beyond(bytes: &[bool; 256], row: &[u8], name: &[u8]) -> bool
     requires { All (IsMarkedByte bytes.now) name.now }
     ensures { IsTrue result → (n : ℕ) → ¬ (FewEdits 5 row.now name.now n) }
@@ -118,11 +137,14 @@ fn is_beyond(bytes: &[bool; 256], row: &[u8], name: &[u8]) -> bool
 
 impl NameFacts {
     /// Whether the name of a row is not like the name of this key. Most names are unlike it, and quickly told.
+    #[inline(always)]
     pub(crate) fn are_unlike(&self, row: &[u8], name: &[u8]) -> bool
         requires { IsName name.now self.now }
         ensures { IsTrue result → IsUnlike row.now name.now }
     {
-        self.word.is_none() && !share_an_end(row, name) && is_beyond(&self.bytes, row, name)
+        self.word.is_none()
+            && !share_an_end(&self.bytes, row, name)
+            && is_beyond(&self.bytes, row, name)
     }
 
     /// Whether people write the name of this key for the name of a row.

@@ -52,6 +52,7 @@ fn is_swap(from: &[u8], to: &[u8]) -> bool
 }
 
 /// The most edits between near texts: two if both have at least `long` bytes, otherwise one.
+#[inline(always)]
 pub(crate) fn most_edits(long: usize, from: &[u8], to: &[u8]) -> usize
     ensures { result ≡ most_edits long from.now to.now }
 {

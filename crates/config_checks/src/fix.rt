@@ -1,5 +1,5 @@
 //! Which change of an entry mends its finding, and which changes are safe.
-ghost use Rattle.std.specs.Prelude.{◌≡◌, ◌↔◌, ℕ, List, IsTrue, IfOk, MatchOption, None, Some};
+ghost use Rattle.std.specs.Prelude.{◌≡◌, ◌↔◌, ℕ, List, IsTrue, IfOk, IfSome, MatchOption, None, Some};
 ghost use Rattle.std.specs.Prelude.{option_copied, reverse, ◌∷◌, [], ◌++◌, codes};
 ghost use Rattle.config_text.specs.SameWord.{SameWord};
 ghost use Rattle.config_file.specs.KeyView.{key_of};
@@ -9,6 +9,7 @@ ghost use Rattle.config_checks.specs.Findings.{finding_of};
 ghost use Rattle.config_checks.specs.Fixes.{IsClean, IsOnlyMeant, IsOnlyKey};
 ghost use Rattle.config_checks.specs.Fixes.{MendsValue, IsRenamed, MendsKey, Mends, IsSafe, IsSafeName, IsSafeValue, HasSafety, IsTypingError, lacks_digit};
 ghost use Rattle.config_checks.specs.Json.{safety_name};
+ghost use Rattle.config_checks.specs.Reading.Steps.{IsSection};
 ghost use Rattle.config_checks.specs.Reasons.{HasFinding};
 ghost use Rattle.config_checks.specs.Rows.{rows_of, IsUnknown};
 
@@ -22,7 +23,7 @@ use crate::options::Options;
 use crate::reason::{find, nearest_word};
 use crate::row::{Row, Run};
 use crate::setting::Setting;
-use crate::suggestion::unknown_key;
+use crate::suggestion::{SectionFacts, unknown_key};
 use config_file::key::Key;
 use std::alloc::{AllocError, Global};
 
@@ -255,18 +256,22 @@ fn is_clean(
     }
 }
 
-/// Whether these rows suggest no other key than this one for a key that no row covers.
+/// Whether these rows suggest no other key than this one for a key that no row covers. `last` is what is known of
+/// the last section.
 fn is_only_unknown(
     alloc: Global,
     runs: &[Run<'_, '_>],
     key: &[u8],
     suggested: &[u8],
+    last: &mut Option<SectionFacts>,
 ) -> Result<bool, AllocError>
-    requires { IsUnknown (rows_of runs.now) key.now }
-    ensures { IfOk result (λ only. IsTrue only
+    requires unknown { IsUnknown (rows_of runs.now) key.now }
+    requires last { IfSome last.old (IsSection runs.now) }
+    ensures only { IfOk result (λ only. IsTrue only
         ↔ IsOnlyKey (rows_of runs.now) key.now suggested.now) }
+    ensures last { IfSome last.new (IsSection runs.now) }
 {
-    let Some(unknown) = unknown_key(alloc, runs, key)? else {
+    let Some(unknown) = unknown_key(alloc, runs, key, last)? else {
         return Ok(true);
     };
     match key_meant(alloc, &unknown)? {
@@ -275,37 +280,45 @@ fn is_only_unknown(
     }
 }
 
-/// Whether no key but this one is suggested for a key. None is suggested for a key that a row covers.
+/// Whether the rows, from the last to the first, suggest no key but this one for a key. None is suggested for a key
+/// that a row covers. `last` is what is known of the last section.
 fn is_only_key(
     alloc: Global,
-    runs: &[Run<'_, '_>],
+    judge: &Judge<'_, '_>,
     key: &[u8],
     suggested: &[u8],
+    last: &mut Option<SectionFacts>,
 ) -> Result<bool, AllocError>
-    ensures { IfOk result (λ only. IsTrue only
-        ↔ IsOnlyKey (rows_of runs.now) key.now suggested.now) }
+    requires { IfSome last.old (IsSection judge.now.backwards.items) }
+    ensures only { IfOk result (λ only. IsTrue only
+        ↔ IsOnlyKey (rows_of judge.now.backwards.items) key.now suggested.now) }
+    ensures last { IfSome last.new (IsSection judge.now.backwards.items) }
 {
-    match row_for(runs, key) {
+    match row_for(&judge.runs, key) {
         Some(_) => Ok(true),
-        None => is_only_unknown(alloc, runs, key, suggested),
+        None => is_only_unknown(alloc, &judge.backwards, key, suggested, last),
     }
 }
 
-/// Whether nothing is found for a setting with this key, and no other key is suggested.
+/// Whether nothing is found for a setting with this key, and no other key is suggested. `last` is what is known of
+/// the last section.
 fn mends_key(
     alloc: Global,
     judge: &Judge<'_, '_>,
     options: &Options<'_>,
     setting: &Setting<'_>,
     key: &[u8],
+    last: &mut Option<SectionFacts>,
 ) -> Result<bool, AllocError>
-    ensures { IfOk result (λ mends. IsTrue mends
+    requires { IfSome last.old (IsSection judge.now.backwards.items) }
+    ensures mends { IfOk result (λ mends. IsTrue mends
         ↔ MendsKey (rows_of judge.now.runs.items) options.now setting.now key.now) }
+    ensures last { IfSome last.new (IsSection judge.now.backwards.items) }
 {
     if !is_clean(alloc, &judge.runs, options, key, value_of(setting))? {
         return Ok(false);
     }
-    is_only_key(alloc, &judge.backwards, &setting.key, key)
+    is_only_key(alloc, judge, &setting.key, key, last)
 }
 
 /// Whether a digit of the first text is not in the second one.
@@ -398,18 +411,22 @@ fn is_safe(
     }
 }
 
-/// The change of a setting that its finding suggests, if the changed setting has no finding left.
+/// The change of a setting that its finding suggests, if the changed setting has no finding left. `last` is what is
+/// known of the last section.
 fn change_for<'f>(
     alloc: Global,
     judge: &Judge<'_, '_>,
     options: &Options<'_>,
     setting: &Setting<'_>,
     finding: &Finding<'f>,
+    last: &mut Option<SectionFacts>,
 ) -> Result<Option<Fix<'f>>, AllocError>
-    ensures { IfOk result (λ r. MatchOption r
+    requires { IfSome last.old (IsSection judge.now.backwards.items) }
+    ensures change { IfOk result (λ r. MatchOption r
         ((change : Fix)
         → ¬ (Mends (rows_of judge.now.runs.items) options.now setting.now (finding_of finding.now) change))
         (Mends (rows_of judge.now.runs.items) options.now setting.now (finding_of finding.now))) }
+    ensures last { IfSome last.new (IsSection judge.now.backwards.items) }
 {
     match (finding.suggested_value, finding.suggested_key, finding.code) {
         (Some(new), _, code) => {
@@ -422,7 +439,7 @@ fn change_for<'f>(
             let Some(name) = other_name(&setting.key, key) else {
                 return Ok(None);
             };
-            if mends_key(alloc, judge, options, setting, key)? {
+            if mends_key(alloc, judge, options, setting, key, last)? {
                 return Ok(Some(Fix::Name(name)));
             }
             Ok(None)
@@ -447,6 +464,31 @@ fn safety_of(
     }
 }
 
+/// Does the same as [`mend`]. `last` is what is known of the last section.
+// Mends that follow each other are mostly in one section.
+pub(crate) fn mend_after<'f>(
+    alloc: Global,
+    judge: &Judge<'_, '_>,
+    options: &Options<'_>,
+    setting: &Setting<'_>,
+    finding: &Finding<'f>,
+    last: &mut Option<SectionFacts>,
+) -> Result<Option<(Fix<'f>, Safety)>, AllocError>
+    requires { IfSome last.old (IsSection judge.now.backwards.items) }
+    ensures change { IfOk result (λ r. MatchOption r
+        ((change : Fix)
+        → ¬ (Mends (rows_of judge.now.runs.items) options.now setting.now (finding_of finding.now) change))
+        (λ m. Mends (rows_of judge.now.runs.items) options.now setting.now (finding_of finding.now) m.0
+        × HasSafety setting.now finding.now.code m.0 m.1)) }
+    ensures last { IfSome last.new (IsSection judge.now.backwards.items) }
+{
+    let Some(change) = change_for(alloc, judge, options, setting, finding, last)? else {
+        return Ok(None);
+    };
+    let safety = safety_of(alloc, setting, finding.code, &change)?;
+    Ok(Some((change, safety)))
+}
+
 /// The change of a setting that its finding suggests, if the changed setting has no finding left, and whether a program
 /// can make it unseen: the value that is suggested, unless another word is as near, or the last part of the key that is
 /// suggested in place of an unknown one, if the other parts stay and no other key is as near. A safe change undoes one
@@ -466,9 +508,5 @@ pub fn mend<'f>(
         (λ m. Mends (rows_of judge.now.runs.items) options.now setting.now (finding_of finding.now) m.0
         × HasSafety setting.now finding.now.code m.0 m.1)) }
 {
-    let Some(change) = change_for(alloc, judge, options, setting, finding)? else {
-        return Ok(None);
-    };
-    let safety = safety_of(alloc, setting, finding.code, &change)?;
-    Ok(Some((change, safety)))
+    mend_after(alloc, judge, options, setting, finding, &mut None)
 }

@@ -1,16 +1,18 @@
 //! A text in which findings are mended.
-ghost use Rattle.std.specs.Prelude.{◌≡◌, ◌↔◌, map, if◌then◌else◌, IsTrue, IfOk, MatchOption, MatchResult};
+ghost use Rattle.std.specs.Prelude.{◌≡◌, ◌↔◌, map, if◌then◌else◌, IsTrue, IfOk, IfSome, MatchOption, MatchResult};
 ghost use Rattle.config_checks.specs.declared.fix.Safety.TheVariants.{Unsafe};
 ghost use Rattle.config_checks.specs.declared.mending.Mend.{Mend};
 ghost use Rattle.config_checks.specs.Mending.{change_of, IsWanted, IsMend, HasMends, IsMended, RefusesMending};
+ghost use Rattle.config_checks.specs.Reading.Steps.{IsSection};
 ghost use Rattle.config_checks.specs.Report.{HasSettings};
 ghost use Rattle.config_checks.specs.Rows.{rows_of};
 
 use crate::finding::Finding;
-use crate::fix::{Fix, Judge, Safety, mend};
+use crate::fix::{Fix, Judge, Safety, mend_after};
 use crate::options::Options;
 use crate::row::Row;
 use crate::setting::Setting;
+use crate::suggestion::SectionFacts;
 use config_edit::{Change, EditError, change_entries};
 use config_file::errors::FileError;
 use config_file::reader::Entries;
@@ -80,7 +82,8 @@ fn is_wanted(guesses: bool, safety: Safety) -> bool
     }
 }
 
-/// The change that mends what is proposed for one of these settings, if it is wanted.
+/// The change that mends what is proposed for one of these settings, if it is wanted. `last` is what is known of
+/// the last section.
 fn mend_of<'f>(
     alloc: Global,
     judge: &Judge<'_, '_>,
@@ -88,11 +91,14 @@ fn mend_of<'f>(
     guesses: bool,
     settings: &[Setting<'_>],
     proposal: &Proposal<'f>,
+    last: &mut Option<SectionFacts>,
 ) -> Result<Option<Mend<'f>>, AllocError>
-    ensures { IfOk result (λ r. MatchOption r
+    requires { IfSome last.old (IsSection judge.now.backwards.items) }
+    ensures change { IfOk result (λ r. MatchOption r
         ((change : Mend)
         → ¬ (IsMend (rows_of judge.now.runs.items) options.now guesses settings.now proposal.now change))
         (IsMend (rows_of judge.now.runs.items) options.now guesses settings.now proposal.now)) }
+    ensures last { IfSome last.new (IsSection judge.now.backwards.items) }
 {
     let Some(before) = proposal.finding.entry else {
         return Ok(None);
@@ -101,7 +107,8 @@ fn mend_of<'f>(
     let Some(setting) = settings.get(entry) else {
         return Ok(None);
     };
-    let Some((fix, safety)) = mend(alloc, judge, options, setting, &proposal.finding)? else {
+    let Some((fix, safety)) = mend_after(alloc, judge, options, setting, &proposal.finding, last)?
+    else {
         return Ok(None);
     };
     let safety = safety_of(proposal.is_guess, safety);
@@ -124,8 +131,11 @@ fn mends_of<'f>(
         proposals.now mends.items) }
 {
     let mut mends = Vec::new(alloc);
+    let mut last = None;
     for proposal in proposals {
-        if let Some(change) = mend_of(alloc, judge, options, guesses, settings, proposal)? {
+        if let Some(change) = mend_of(
+            alloc, judge, options, guesses, settings, proposal, &mut last,
+        )? {
             mends.push(change)?;
         }
     }

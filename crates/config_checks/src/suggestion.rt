@@ -67,7 +67,7 @@ fn are_alike_alone(row: &Key<'_>, key: &Key<'_>) -> bool
 
 /// How many edits lead from one name to the other: none if it is another word for it, or three if they are not near but
 /// alike. `None` in all other cases. `name` is what is known of the name of the key.
-// Most names are told to be unlike at once.
+#[inline(never)]
 fn name_edits(
     alloc: Global,
     name: &NameFacts,
@@ -77,9 +77,6 @@ fn name_edits(
     requires { IsName (key_of key.now).name name.now }
     ensures { IfOk result (λ r. IsFew (NameEdits (key_of row.now) (key_of key.now)) r) }
 {
-    if name.are_unlike(row.name(), key.name()) {
-        return Ok(None);
-    }
     if name.is_other_word(row.name(), key.name()) {
         return Ok(Some(0));
     }
@@ -94,7 +91,9 @@ fn name_edits(
 }
 
 /// How many edits lead from the key of a row to a key with the same section. `None` unless the two keys are
-/// near, and so differ in exactly one part.
+/// near, and so differ in exactly one part. `name` is what is known of the name of the key.
+// Most names are told to be unlike at once.
+#[inline(always)]
 fn edits_after(
     alloc: Global,
     name: &NameFacts,
@@ -104,6 +103,9 @@ fn edits_after(
     requires { IsName (key_of key.now).name name.now }
     ensures { IfOk result (λ r. IsFew (EditsAfter (key_of row.now) (key_of key.now)) r) }
 {
+    if row.name() != ANY && name.are_unlike(row.name(), key.name()) {
+        return Ok(None);
+    }
     match (covers_subsection(row, key), covers_name(row, key)) {
         (true, false) => name_edits(alloc, name, row, key),
         (false, true) => subsection_edits(alloc, row, key),
@@ -226,6 +228,7 @@ fn edits_if_covered(edits: usize, row: &Key<'_>, key: &Key<'_>) -> Option<usize>
 
 /// How many edits lead from the key of a row to a key. `None` unless the two keys are near, and so differ in
 /// exactly one part. `relation` is that of their sections, and `name` what is known of the name of the key.
+#[inline(always)]
 fn one_part_edits(
     alloc: Global,
     relation: Relation,
@@ -527,21 +530,27 @@ pub(crate) fn unknown_in<'k>(
     }
 }
 
-/// Returns what is said of a text that no row covers, as a key. Returns `None` for a text without a dot.
+/// Returns what is said of a text that no row covers, as a key. Returns `None` for a text without a dot. `last` is
+/// what is known of the last section, and from now on of that of the key.
 pub(crate) fn unknown_key<'k>(
     alloc: Global,
     runs: &[Run<'_, 'k>],
     text: &'k [u8],
+    last: &mut Option<SectionFacts>,
 ) -> Result<Option<UnknownKey<'k>>, AllocError>
-    requires { IsUnknown (rows_of runs.now) text.now }
-    ensures { IfOk result (λ r. MatchOption r (IsPassed (rows_of runs.now) text.now)
+    requires unknown { IsUnknown (rows_of runs.now) text.now }
+    requires last { IfSome last.old (IsSection runs.now) }
+    ensures said { IfOk result (λ r. MatchOption r (IsPassed (rows_of runs.now) text.now)
         (IsUnknownKey (rows_of runs.now) text.now)) }
+    ensures last { IfSome last.new (IsSection runs.now) }
 {
     let Some(key) = Key::split(text) else {
         return Ok(None);
     };
-    let section = section_of(alloc, runs, key.section())?;
-    unknown_in(alloc, runs, &[], &section, &key)
+    let section = recalled_section(alloc, runs, key.section(), last.take())?;
+    let unknown = unknown_in(alloc, runs, &[], &section, &key)?;
+    *last = Some(section);
+    Ok(unknown)
 }
 
 /// Appends a part of a key and a dot.

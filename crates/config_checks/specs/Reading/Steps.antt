@@ -145,9 +145,10 @@ IsFew AreEdits (Some n) = AreEdits n × (n ≤ 3)
 
 -- ---- what is known of the name of a key
 
--- the byte is marked, ignoring ASCII case
+-- the byte is marked, in both cases if it is a letter
 abbrev pub IsMarkedByte : List Bool → ℕ → Type 0
-IsMarkedByte marks byte = slice_index_or marks (to_ascii_lowercase byte) false ≡ true
+IsMarkedByte marks byte =
+    (x : ℕ) → to_ascii_lowercase x ≡ to_ascii_lowercase byte → slice_index_or marks x false ≡ true
 
 -- the word of rows for which people write the text, or `None` if they write it for no word
 abbrev pub IsOtherFor : List ℕ → Option (Bor (List ℕ)) → Type 0
@@ -159,11 +160,12 @@ pub record IsName (t : List ℕ) (name : NameFacts) : Type 0 where
   pub bytes : All (IsMarkedByte name.bytes) t
   pub word : IsOtherFor t name.word
 
--- the name of a row is neither near the name of a key nor like it
+-- the name of a row is neither that of a key, nor near it nor like it
 pub record IsUnlike (row t : List ℕ) : Type 0 where
   pub far : (n : ℕ) → ¬ (FewEdits 5 row t n)
   pub unlike : ¬ (AreAlike row t)
   pub no_word : ¬ (IsOtherWord row t)
+  pub other : ¬ (SameWord row t)
 
 -- ---- marks of names
 

@@ -5,16 +5,21 @@ use Rattle.config_checks.proofs.mending.mends_of.Goals.{in-Some+in_ok-push, in_d
 use Rattle.config_checks.proofs.mending.mends_of.Goals as goal
 
 pub loop-proposal-init : goal.loop-proposal-init
-loop-proposal-init c = rw c.new-mends.ensures.items none
+loop-proposal-init c = record { so_far = rw c.new-mends.ensures.items none; last = tt }
 
 pub loop-proposal-preserved : goal.loop-proposal-preserved
 loop-proposal-preserved c =
     let one = c.proposal-item.result in
     let taken = take_more c.args.proposals.now c.loop-proposal.proposal-index one c.loop-proposal-test.true (sym c.proposal-item.is) in
-    elim c.match-branch-2.branch [
-      | in-Some+in_ok-push w ↦
-          rw (taken, w.mends-is, w.in_ok-push.ensures.items)
-          (mended one w.in-Some.change c.loop-proposal.invariant (rw w.in-Some.is at c.in_ok-change.ensures))
-      | in_default w ↦ rw (taken, w.mends-is)
-          (left one c.loop-proposal.invariant (rw w.in_default.is at c.in_ok-change.ensures))
-    ]
+    let is = c.in_ok-change.ensures.change in
+    let so_far = c.loop-proposal.invariant.so_far in
+    record {
+      so_far = elim c.match-branch-2.branch [
+        | in-Some+in_ok-push w ↦
+            rw (taken, w.mends-is, w.in_ok-push.ensures.items)
+            (mended one w.in-Some.change so_far (rw w.in-Some.is at is))
+        | in_default w ↦ rw (taken, w.mends-is)
+            (left one so_far (rw w.in_default.is at is))
+      ];
+      last = c.in_ok-change.ensures.last;
+    }

@@ -1,9 +1,12 @@
-use Rattle.std.proofs.Common.{take}
+use Rattle.std.proofs.Common.{IfSome, take}
 use Rattle.config_checks.specs.Mending.{HasMends}
+use Rattle.config_checks.specs.Reading.Steps.{IsSection}
 use Rattle.config_checks.specs.Rows.{rows_of}
 use Rattle.config_checks.proofs.mending.mends_of.Given as goal
 
 abbrev pub invariant-loop-proposal : goal.invariant-loop-proposal
-invariant-loop-proposal l =
-    HasMends (rows_of l.judge.runs.items) l.options l.guesses l.settings
-    (take l.proposal-index l.proposals) l.mends.items
+invariant-loop-proposal l = record {
+  so_far : HasMends (rows_of l.judge.runs.items) l.options l.guesses l.settings
+      (take l.proposal-index l.proposals) l.mends.items;
+  last : IfSome l.last (IsSection l.judge.backwards.items);
+}

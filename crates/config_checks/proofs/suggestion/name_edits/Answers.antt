@@ -12,7 +12,7 @@ returns-then-are_alike_alone c =
     let row = key_of c.args.row.now in
     let key = key_of c.args.key.now in
     let far : IsFew (FewEdits 5 row.name key.name) None =
-    rw c.name-6.ensures at (rw c.name-5.ensures at (rw c.in_default.is at c.in_ok-edits.ensures)) in
+    rw c.name-4.ensures at (rw c.name-3.ensures at (rw c.in_default.is at c.in_ok-edits.ensures)) in
     let not : ¬ (IsOtherWord row.name key.name) = search rules in
     alike_near 5 ((key.subsection ≡ None) × AreAlike row.name key.name) row.name key.name not far
     (c.if-are_alike_alone.ensures.0 refl)
@@ -22,7 +22,7 @@ returns-else-are_alike_alone c =
     let row = key_of c.args.row.now in
     let key = key_of c.args.key.now in
     let far : IsFew (FewEdits 5 row.name key.name) None =
-    rw c.name-6.ensures at (rw c.name-5.ensures at (rw c.in_default.is at c.in_ok-edits.ensures)) in
+    rw c.name-4.ensures at (rw c.name-3.ensures at (rw c.in_default.is at c.in_ok-edits.ensures)) in
     let not : ¬ (IsOtherWord row.name key.name) = search rules in
     none_near 5 ((key.subsection ≡ None) × AreAlike row.name key.name) row.name key.name not far
     (λ is. false≢true (c.if-are_alike_alone.ensures.1 is))
