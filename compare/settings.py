@@ -6,8 +6,8 @@ Python writes it (None for a key alone), and the answers of the Gits of VERSIONS
 with its first line if it was kept. A row that no command was seen to read has one line, whose command is `-` and
 whose answers are `unread`, as are those of a Git whose command takes all values of a key that the other Git refuses.
 --ask asks the Git on PATH again, which has to be one of VERSIONS, about all rows or those with these keys, and writes
-its answers. PROGRAM is config_check: its verdict on each question, with --git VERSION, has to agree with each of the
-Gits, or to differ in exactly one class of CLASSES.
+its answers. A new line needs none before. PROGRAM is config_check: its verdict on each question, with --git VERSION,
+has to agree with each of the Gits, or to differ in exactly one class of CLASSES.
 """
 import ast
 import collections
@@ -248,13 +248,17 @@ def read():
     """The questions with the answers of each Git, in the order of the file."""
     lines = ANSWERS.read_text(encoding="utf-8").splitlines() if ANSWERS.exists() else []
     rows = [line.split("\t") for line in lines]
-    return {Question(row, key, command, ast.literal_eval(value)): given for row, key, command, value, *given in rows}
+    return {Question(row, key, command, ast.literal_eval(value)): given or ["unread"] * len(VERSIONS)
+            for row, key, command, value, *given in rows}
 
 
 def column():
     """The place of the answers of the Git on PATH."""
     said = subprocess.run(["git", "version"], stdout=subprocess.PIPE, check=True, text=True).stdout
-    return VERSIONS.index(".".join(said.split()[2].split(".")[:2]))
+    version = ".".join(said.split()[2].split(".")[:2])
+    if version not in VERSIONS:
+        sys.exit(f"the Git on PATH is {version}, and answers of {' and '.join(VERSIONS)} are kept")
+    return VERSIONS.index(version)
 
 
 def mark_unread(stored):

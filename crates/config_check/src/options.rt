@@ -307,8 +307,12 @@ pub(crate) fn git_of<'m>(rt: &HostRuntime, options: &Options<'m>) -> Result<Vers
     match options.last("git") {
         Some(text) => match Version::read(text.as_bytes()) {
             Some(version) if NEWEST.is_before(version) => {
-                let said = "the built-in rows do not know what is new in Git after 2.55";
-                tell(rt, format!(in rt.alloc(); "config_check: {said}: {text}"));
+                let (major, minor) = (NEWEST.major, NEWEST.minor);
+                let said = "the built-in rows do not know what is new in Git after";
+                tell(
+                    rt,
+                    format!(in rt.alloc(); "config_check: {said} {major}.{minor}: {text}"),
+                );
                 Ok(version)
             }
             Some(version) => Ok(version),
