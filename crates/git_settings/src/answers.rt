@@ -72,23 +72,17 @@ impl<'r, 't> ForUrl<'r, 't> {
         }))
     }
 
-    /// Adds a setting to the group.
+    /// Adds a setting to the group, and lists its key.
     fn add(&mut self, setting: Setting<'t>) -> Result<(), AllocError> {
+        put_key(&mut self.key, self.section, setting.entry.key)?;
         Ok(self.group.entries.push(setting)?)
     }
 
-    /// The setting of the group that decides for the URL, with the key under which it is told, if one does.
-    fn decided(&mut self, alloc: Global) -> Result<Option<(&Setting<'t>, &[u8])>, AllocError> {
-        let Some(first) = self.group.entries.first() else {
-            return Ok(None);
-        };
-        put_key(&mut self.key, self.section, first.entry.key)?;
-        let Ok(key) = Key::parse(&self.key) else {
-            return Ok(None);
-        };
-        match last_for_url(alloc, &self.group, &key, &self.url)? {
-            Some(setting) => Ok(Some((setting, &self.key))),
-            None => Ok(None),
+    /// The setting of the group that decides for the URL, if one does.
+    fn decided(&self, alloc: Global) -> Result<Option<&Setting<'t>>, AllocError> {
+        match Key::parse(&self.key) {
+            Ok(key) => last_for_url(alloc, &self.group, &key, &self.url),
+            Err(_) => Ok(None),
         }
     }
 
@@ -129,7 +123,7 @@ impl<'t> Reading<'_, 't> {
         let mut ending = Ending::Absent;
         for setting in kept {
             if is_of_other(&wanted.group, &setting) {
-                ending = self.answer_group(ending, &mut wanted)?;
+                ending = self.answer_group(ending, &wanted)?;
                 wanted.group.entries.clear();
             }
             if matches!(ending, Ending::Refused) {
@@ -137,17 +131,17 @@ impl<'t> Reading<'_, 't> {
             }
             wanted.add(setting)?;
         }
-        self.answer_group(ending, &mut wanted)
+        self.answer_group(ending, &wanted)
     }
 
     /// Appends the one of the settings of a name that decides for a URL, if one does. Returns how the run ends.
     fn answer_group(
         &mut self,
         ending: Ending,
-        wanted: &mut ForUrl<'_, 't>,
+        wanted: &ForUrl<'_, 't>,
     ) -> Result<Ending, HostError> {
         match wanted.decided(self.rt.alloc())? {
-            Some((setting, key)) => self.answer_for_url(setting, key),
+            Some(setting) => self.answer_for_url(setting, &wanted.key),
             None => Ok(ending),
         }
     }
