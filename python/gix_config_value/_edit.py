@@ -158,6 +158,7 @@ def edit_repository(path=".", scope="local"):
             file.set("user.name", "A")
 
     The scope is `local`, `worktree`, `global` or `system`. Raises `FileNotFoundError` if Git reads no file of the scope
-    there, since no repository is there or Git does not use it, and otherwise the errors of `edit` and `read_repository`.
+    there, as of `worktree` without its extension or outside a repository, and otherwise the errors of `edit` and
+    `read_repository`.
     """
     return edit(_repository.file_of(os.fsdecode(path), scope))

@@ -270,7 +270,7 @@ typedef struct gcv_known {
  * subsection as it is. A key without `=` has a null value, not an empty one. */
 typedef struct gcv_setting {
     const char *key; const char *value;
-    const char *file; size_t line; /* the name of its file, and the line on which its entry ends, from 1 */
+    const char *file; size_t line; /* its file's name, unquoted, and the line on which its entry ends, from 1 */
     size_t source; /* the index in `names` of gcv_read_files of what has it, or of what includes its file */
 } gcv_setting;
 
@@ -430,7 +430,7 @@ typedef GCV_ENUM(gcv_scope) {
 typedef struct gcv_found {
     gcv_subject subject; const char *name; /* after GCV_ASKS, the question with its name of `name_length` bytes */
     size_t name_length;
-    const char *folder; /* where Git works, and names begin; empty is the current folder, where this one begins too */
+    const char *folder; /* where Git works, and `files` begin; empty is the current folder, where this one begins too */
     gcv_outcome outcome;
     const char *git_dir; const char *real_git_dir; /* GCV_USES: from the root, with links and without */
     const char *branch; /* GCV_USES: the branch that is checked out, or null */
@@ -453,8 +453,8 @@ GCV_CALL((3, 4, 5)) gcv_answer(void *state, gcv_subject subject, const char *nam
 GCV_CALL((1, 2, 4, 5)) gcv_find_here(const char *folder, gcv_answer_call *call, void *state, char **texts,
                                      gcv_found *out);
 
-/* All that Git reads in a folder of this system. The sources of the settings have names, of which that of the command is
- * null, and scopes: `scopes[setting->source]` is that of a setting. `found.outcome` is GCV_REFUSES if Git uses no
+/* All that Git reads in a folder of this system. Its sources have names from the caller's folder, null for the command,
+ * and scopes: `scopes[setting->source]` is that of a setting. `found.outcome` is GCV_REFUSES if Git uses no
  * repository although one is there, and `found.reason` why; then there are no settings of it. */
 typedef struct gcv_here {
     gcv_settings settings; gcv_found found;
@@ -467,7 +467,8 @@ typedef struct gcv_here {
  * Returns the statuses of gcv_read_files, also for what the search has read, and GCV_BAD_FORMAT; `settings.file` and
  * `.line` say where. Whatever the status, gcv_free_here frees `*out`, which needs no value before. gcv_file_of_scope
  * returns the name of the file that `git config --local` or the like would change, for gcv_set_in_file, or null if Git
- * reads none of the scope here. gcv_scope_text returns the name of a scope, as `git config --show-scope` prints it. */
+ * reads none of the scope here, as of GCV_WORKTREE without its extension. gcv_scope_text returns the name of a scope, as
+ * `git config --show-scope` prints it. */
 GCV_CALL((2)) gcv_read_here(const char *folder, gcv_here *out);
 GCV_NONNULL((1)) const char *gcv_file_of_scope(const gcv_here *here, gcv_scope scope);
 GCV_NONNULL((1)) void gcv_free_here(gcv_here *here);
