@@ -1,6 +1,6 @@
 //! Changes the entries of a file that have findings with one suggestion.
 
-use crate::diff::{Span, lines_after, spans};
+use crate::diff::{Span, lines_after, spans_of};
 use config_checks::code::Code;
 use config_checks::finding::Finding;
 use config_checks::fix::{Safety, other_name};
@@ -10,21 +10,28 @@ use config_checks::row::Row;
 use config_checks::setting::Setting;
 use config_edit::EditError;
 use config_file::key::Key;
-use config_file::{FileError, Walk};
+use config_file::{Entries, Entry, FileError, Walk};
 use config_host::reading::next_entry;
+use config_host::surroundings::has_includes;
 use config_host::{Disk, HereError, LockError, Locked, Surroundings};
 use std::alloc::{AllocError, Global};
 use std::collections::BTreeSet;
 use thiserror::Error;
 
-/// A change of the entry that this many entries precede, on these lines.
+/// The lines of a change, and what they become, without their last end.
+#[derive(Drop)]
+pub(crate) struct ChangedLines {
+    pub(crate) span: Span,
+    pub(crate) text: Vec<u8>,
+}
+
+/// A change of the entry that this many entries precede.
 #[derive(Drop)]
 pub(crate) struct Mended {
     pub(crate) entry: usize,
-    pub(crate) span: Span,
     pub(crate) safety: Safety,
-    /// Its lines after the change, without their last end, if they are asked for.
-    pub(crate) lines: Option<Vec<u8>>,
+    /// Its lines, if they are asked for.
+    pub(crate) lines: Option<ChangedLines>,
 }
 
 impl Mended {
@@ -142,6 +149,53 @@ fn given_twice(
     Ok((once, twice))
 }
 
+/// Adds the key of an entry, as Git lists it, to those that are there, if it is one of the wanted ones.
+fn meet(
+    alloc: Global,
+    entry: &Entry<'_>,
+    wanted: &BTreeSet<Vec<u8>>,
+    key: &mut Vec<u8>,
+    there: &mut BTreeSet<Vec<u8>>,
+) -> Result<(), AllocError> {
+    key.clear();
+    entry.push_key(key)?;
+    if wanted.contains(&*key) {
+        there.insert(key.to_vec(alloc)?)?;
+    }
+    Ok(())
+}
+
+/// Adds those of the wanted keys that entries of this file, or of what it includes, have.
+fn meet_all<'t>(
+    alloc: Global,
+    disk: &Disk<'t>,
+    surroundings: &Surroundings<'t>,
+    file: &[u8],
+    text: &'t [u8],
+    wanted: &BTreeSet<Vec<u8>>,
+    there: &mut BTreeSet<Vec<u8>>,
+) -> Result<(), AllocError> {
+    let mut key = Vec::new(alloc);
+    if !has_includes(text) {
+        for entry in Entries::new(text) {
+            let Ok(entry) = entry else {
+                break;
+            };
+            meet(alloc, &entry, wanted, &mut key, there)?;
+        }
+        return Ok(());
+    }
+    let mut walk = Walk::new(disk.place(file)?, text);
+    for _ in 0..u64::MAX {
+        match next_entry(disk, &surroundings.known(), &mut walk) {
+            Ok(Some(taken)) => meet(alloc, &taken.entry, wanted, &mut key, there)?,
+            Err(HereError::Host(_)) => return Err(AllocError),
+            _ => break,
+        }
+    }
+    Ok(())
+}
+
 /// Calls those of these changes guesses by which an entry gets a key that this file, what it includes, or another of
 /// the changes has too: Git would take another value than before.
 pub(crate) fn heed_rivals<'t>(
@@ -156,19 +210,7 @@ pub(crate) fn heed_rivals<'t>(
     if once.is_empty() {
         return Ok(());
     }
-    let mut walk = Walk::new(disk.place(file)?, text);
-    for _ in 0..u64::MAX {
-        match next_entry(disk, &surroundings.known(), &mut walk) {
-            Ok(Some(taken)) => {
-                let key = taken.entry.key_text(alloc)?;
-                if once.contains(&key) {
-                    rivals.insert(key)?;
-                }
-            }
-            Err(HereError::Host(_)) => return Err(AllocError),
-            _ => break,
-        }
-    }
+    meet_all(alloc, disk, surroundings, file, text, &once, &mut rivals)?;
     for proposal in proposals.iter_mut() {
         if let Some(key) = given(alloc, proposal)? {
             proposal.is_guess = rivals.contains(&key);
@@ -177,21 +219,12 @@ pub(crate) fn heed_rivals<'t>(
     Ok(())
 }
 
-/// The entries of these changes, with their lines in the text before.
-fn with_lines(
-    alloc: Global,
-    text: &[u8],
-    mended: &MendedText<'_>,
-) -> Result<Vec<Mended>, AllocError> {
-    let mut entries = Vec::new(alloc);
-    for mend in &mended.mends {
-        entries.push(mend.entry)?;
-    }
+/// The entries of these changes.
+fn changes_of(alloc: Global, mended: &MendedText<'_>) -> Result<Vec<Mended>, AllocError> {
     let mut changes = Vec::new(alloc);
-    for (mend, span) in mended.mends.iter().zip(spans(alloc, text, &entries)?) {
+    for mend in &mended.mends {
         changes.push(Mended {
             entry: mend.entry,
-            span,
             safety: mend.safety,
             lines: None,
         })?;
@@ -211,7 +244,7 @@ pub(crate) fn changed_text(
 ) -> Result<Result<Changed, Unchanged>, AllocError> {
     match mend_text(alloc, rows, options, guesses, file, text, proposals) {
         Ok(mended) => Ok(Ok(Changed {
-            changes: with_lines(alloc, text, &mended)?,
+            changes: changes_of(alloc, &mended)?,
             text: mended.text,
         })),
         Err(EditError::Memory(error)) => Err(error),
@@ -220,11 +253,16 @@ pub(crate) fn changed_text(
     }
 }
 
-/// Keeps with each change what its lines become.
-pub(crate) fn keep_lines(alloc: Global, changed: &mut Changed) -> Result<(), AllocError> {
+/// Keeps with each change of this text its lines, and what they become.
+pub(crate) fn keep_lines(
+    alloc: Global,
+    text: &[u8],
+    changed: &mut Changed,
+) -> Result<(), AllocError> {
+    let spans = spans_of(alloc, text, &changed.changes)?;
     let lines = lines_after(alloc, &changed.text, &changed.changes)?;
-    for (change, lines) in changed.changes.iter_mut().zip(lines) {
-        change.lines = Some(lines);
+    for (change, (span, text)) in changed.changes.iter_mut().zip(spans.into_iter().zip(lines)) {
+        change.lines = Some(ChangedLines { span, text });
     }
     Ok(())
 }

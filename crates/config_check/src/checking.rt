@@ -8,7 +8,7 @@ use crate::changes::{
 use crate::diff::diff_of;
 use crate::failure::{Failure, failed, tell, written};
 use crate::options::{Format, Output, Request};
-use crate::report::{Lines, Report, counts_of};
+use crate::report::{Held, Lines, Report, counts_of};
 use crate::rows::{Must, Rows, built_in, knows_all, settings_for};
 use crate::sarif;
 use crate::source::Source;
@@ -26,6 +26,7 @@ use config_checks::row::Row;
 use config_checks::setting::Setting;
 use config_checks::shape::is_submodule_name;
 use config_checks::wrong::{Wrong, wrong_finding};
+use config_file::bytes::line_feeds;
 use config_file::key::Key;
 use config_file::{Condition, Content, Entries, Entry, FilePlace, Files, Include, Step, Walk};
 use config_host::surroundings::{Followed, has_includes};
@@ -108,6 +109,7 @@ fn write_wrong<'f>(
         source,
         mender: None,
         collects: false,
+        held: None,
         fixes: Vec::new(rt.alloc()),
         writer: rt.stdout(),
     };
@@ -131,6 +133,27 @@ enum Pass {
 struct Looked {
     counts: Counts,
     changed: Option<Result<Changed, Unchanged>>,
+    /// Its findings, if changes are looked for, unless they are too many or depend on those before.
+    held: Option<Vec<Held>>,
+}
+
+/// What a check of a text by some rows gives: its counts, its findings if they are held, and what is proposed for it.
+#[derive(Drop)]
+struct Checked<'t> {
+    counts: Counts,
+    held: Option<Vec<Held>>,
+    proposals: Vec<Proposal<'t>>,
+}
+
+/// Counts without these others.
+fn less(counts: Counts, others: Counts) -> Counts {
+    Counts {
+        entries: counts.entries,
+        unknown: counts.unknown.saturating_sub(others.unknown),
+        findings: counts.findings.saturating_sub(others.findings),
+        errors: counts.errors.saturating_sub(others.errors),
+        warnings: counts.warnings.saturating_sub(others.warnings),
+    }
 }
 
 /// Whether a file is one of those in which Git reads about submodules.
@@ -346,13 +369,21 @@ impl<'c, 't> Checking<'c, 't> {
             Pass::Looks { guesses: wanted } => guesses = wanted,
         }
         fixes.reverse();
-        let (counts, proposals) = self.proposed(rows, file, text, mender, collects, fixes)?;
+        let Checked {
+            counts,
+            held,
+            proposals,
+        } = self.checked(rows, file, text, mender, collects, fixes)?;
         let changed = self.changed_by(rows, guesses, file, text, proposals)?;
-        Ok(Looked { counts, changed })
+        Ok(Looked {
+            counts,
+            changed,
+            held,
+        })
     }
 
-    /// The counts of a text that is checked by these rows, and what is proposed for it, if that is kept.
-    fn proposed(
+    /// The counts of a text that is checked by these rows, its findings and what is proposed for it, if that is kept.
+    fn checked(
         &mut self,
         rows: &[Row<'_>],
         file: &'t str,
@@ -360,9 +391,14 @@ impl<'c, 't> Checking<'c, 't> {
         mender: Option<Mender<'t>>,
         collects: bool,
         fixes: Vec<Mended>,
-    ) -> Result<(Counts, Vec<Proposal<'t>>), Failure<'static>> {
+    ) -> Result<Checked<'t>, Failure<'static>> {
         let alloc = self.rt.alloc();
         let options = self.options;
+        let held = if collects && !self.report.needs_fingerprints() {
+            Some(Vec::new(alloc))
+        } else {
+            None
+        };
         let writer = written(BufWriter::new(alloc, self.rt.stdout()))?;
         let mut source = Source::new(file.as_bytes(), text);
         let mut lines = Lines {
@@ -372,6 +408,7 @@ impl<'c, 't> Checking<'c, 't> {
             source: &mut source,
             mender,
             collects,
+            held,
             fixes,
             writer,
         };
@@ -382,7 +419,11 @@ impl<'c, 't> Checking<'c, 't> {
             Some(mender) => mender.proposals,
             None => Vec::new(alloc),
         };
-        Ok((counts, proposals))
+        Ok(Checked {
+            counts,
+            held: lines.held.take(),
+            proposals,
+        })
     }
 
     /// What becomes of a text that is checked by these rows, if something is proposed for it.
@@ -489,9 +530,10 @@ impl<'c, 't> Checking<'c, 't> {
             && matches!(self.request.output, Output::Findings | Output::Fixed)
     }
 
-    /// The changes of which is told, with their lines if these are told too.
+    /// The changes of this text of which is told, with their lines if these are told too.
     fn changes_of(
         &self,
+        text: &[u8],
         changed: Option<Result<Changed, Unchanged>>,
     ) -> Result<Vec<Mended>, AllocError> {
         let alloc = self.rt.alloc();
@@ -499,7 +541,7 @@ impl<'c, 't> Checking<'c, 't> {
             Some(Ok(changed)) => {
                 let mut changed = changed;
                 if self.is_sarif() {
-                    keep_lines(alloc, &mut changed)?;
+                    keep_lines(alloc, text, &mut changed)?;
                 }
                 Ok(changed.changes)
             }
@@ -515,11 +557,15 @@ impl<'c, 't> Checking<'c, 't> {
         text: &'t [u8],
     ) -> Result<Counts, Failure<'static>> {
         let looks = Pass::Looks { guesses: true };
-        let Looked { counts, changed } = self.look_by_all(file, text, looks)?;
+        let Looked {
+            counts,
+            changed,
+            ..
+        } = self.look_by_all(file, text, looks)?;
         if counts.findings == 0 {
             return Ok(counts);
         }
-        let changes = self.changes_of(changed)?;
+        let changes = self.changes_of(text, changed)?;
         Ok(self.look_by_all(file, text, Pass::Writes(changes))?.counts)
     }
 
@@ -539,8 +585,35 @@ impl<'c, 't> Checking<'c, 't> {
         Ok(self.look_by_all(file, text, pass)?.counts)
     }
 
+    /// Writes the findings that were held of a text, but for those of the entries that are changed. Returns the counts
+    /// of the others.
+    fn write_held(
+        &mut self,
+        held: &[Held],
+        changes: &[Mended],
+        counts: Counts,
+    ) -> Result<Counts, Failure<'static>> {
+        let mut writer = written(BufWriter::new(self.rt.alloc(), self.rt.stdout()))?;
+        let mut counts = counts;
+        let mut left = changes;
+        for finding in held {
+            match left.split_first() {
+                Some((change, others)) if finding.entry == Some(change.entry as u64) => {
+                    left = others;
+                    counts = less(counts, finding.counts());
+                }
+                _ if self.report.counts_held(finding) => {
+                    written(writer.write_all(&finding.text))?;
+                }
+                _ => {}
+            }
+        }
+        written(writer.flush())?;
+        Ok(counts)
+    }
+
     /// Mends a file, and writes the findings that are left. Returns its text, which is the old one if nothing mends it or it
-    /// is not changed, with its counts.
+    /// is not changed, with its counts. Other entries keep their findings, and so are not checked again, unless lines move.
     fn mend(
         &mut self,
         file: &'t str,
@@ -549,33 +622,45 @@ impl<'c, 't> Checking<'c, 't> {
         let looks = Pass::Looks {
             guesses: self.request.guesses,
         };
-        let Looked { counts, changed } = self.look_by_all(file, text, looks)?;
+        let Looked {
+            counts,
+            changed,
+            held,
+        } = self.look_by_all(file, text, looks)?;
         if counts.findings == 0 {
             return Ok((text, counts));
         }
-        let text = self.change(file, text, changed)?;
-        Ok((text, self.judge(file, text)?))
+        let (new, changes) = self.change(file, text, changed)?;
+        let counts = match held {
+            Some(held) if line_feeds(new) == line_feeds(text) => {
+                self.write_held(&held, &changes, counts)?
+            }
+            _ => self.judge(file, new)?,
+        };
+        Ok((new, counts))
     }
 
-    /// Makes these changes in a file, and returns its text, which is the old one if there are none or it is not
-    /// changed.
+    /// Makes these changes in a file. Returns its text, which is the old one if there are none or it is not changed, and
+    /// the changes that are made.
     fn change(
         &mut self,
         file: &'t str,
         text: &'t [u8],
         changed: Option<Result<Changed, Unchanged>>,
-    ) -> Result<&'t [u8], Failure<'static>> {
+    ) -> Result<(&'t [u8], Vec<Mended>), Failure<'static>> {
+        let alloc = self.rt.alloc();
         let Some(changed) = self.some_changes(file, changed) else {
-            return Ok(text);
+            return Ok((text, Vec::new(alloc)));
         };
         match change_file(&self.disk, file.as_bytes(), text, &changed.text) {
             Ok(()) => {
                 self.fixed = self.fixed.saturating_add(changed.changes.len());
-                Ok(self.disk.kept(&changed.text)?)
+                let Changed { changes, text } = changed;
+                Ok((self.disk.kept(&text)?, changes))
             }
             Err(error) => {
-                self.refuse(format!(in self.rt.alloc(); "config_check: {file}: {error}"));
-                Ok(text)
+                self.refuse(format!(in alloc; "config_check: {file}: {error}"));
+                Ok((text, Vec::new(alloc)))
             }
         }
     }
@@ -599,7 +684,11 @@ impl<'c, 't> Checking<'c, 't> {
     /// Checks the text of a file, and shows what would be changed in it.
     fn show_changes(&mut self, file: &'t str, text: &'t [u8]) -> Result<Counts, Failure<'static>> {
         let alloc = self.rt.alloc();
-        let Looked { counts, changed } = self.look_by_all(file, text, Pass::Both)?;
+        let Looked {
+            counts,
+            changed,
+            ..
+        } = self.look_by_all(file, text, Pass::Both)?;
         if let Some(changed) = self.some_changes(file, changed) {
             let diff = diff_of(alloc, file, text, &changed.text, &changed.changes)?;
             written(self.rt.stdout().write_all(&diff))?;
@@ -831,12 +920,7 @@ impl<'c, 't> Checking<'c, 't> {
         let counts = self.outcome.counts;
         let hidden = self.report.hidden.outcome.counts;
         Outcome {
-            counts: Counts {
-                findings: counts.findings.saturating_sub(hidden.findings),
-                errors: counts.errors.saturating_sub(hidden.errors),
-                warnings: counts.warnings.saturating_sub(hidden.warnings),
-                ..counts
-            },
+            counts: less(counts, hidden),
             is_unread: self.outcome.is_unread,
         }
     }

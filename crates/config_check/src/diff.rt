@@ -26,20 +26,20 @@ struct Region {
     is_guess: bool,
 }
 
-/// The lines of these entries of a text, of which each follows the one before.
-pub(crate) fn spans(
+/// The lines of the entries that change, in a text before or after the change.
+pub(crate) fn spans_of(
     alloc: Global,
     text: &[u8],
-    entries: &[usize],
+    mended: &[Mended],
 ) -> Result<Vec<Span>, AllocError> {
     let mut all = Vec::new(alloc);
-    let mut left = entries;
+    let mut left = mended;
     let mut at: usize = 0;
     for entry in Entries::new(text) {
         let (Ok(entry), Some((next, others))) = (entry, left.split_first()) else {
             break;
         };
-        if *next == at {
+        if next.entry == at {
             all.push(Span {
                 first: first_line(&entry),
                 last: entry.line,
@@ -51,15 +51,6 @@ pub(crate) fn spans(
     Ok(all)
 }
 
-/// The lines of the entries that change, in the text after the change.
-fn spans_after(alloc: Global, new: &[u8], mended: &[Mended]) -> Result<Vec<Span>, AllocError> {
-    let mut entries = Vec::new(alloc);
-    for change in mended {
-        entries.push(change.entry)?;
-    }
-    spans(alloc, new, &entries)
-}
-
 /// The lines of the entries that change, in the text after the change, each without its last end.
 pub(crate) fn lines_after(
     alloc: Global,
@@ -68,7 +59,7 @@ pub(crate) fn lines_after(
 ) -> Result<Vec<Vec<u8>>, AllocError> {
     let lines = lines_of(alloc, new)?;
     let mut all = Vec::new(alloc);
-    for span in spans_after(alloc, new, mended)? {
+    for span in spans_of(alloc, new, mended)? {
         let mut text = Vec::new(alloc);
         let passed = span.first.saturating_sub(1);
         for line in lines.iter().skip(passed).take(count_of(span)) {
@@ -105,14 +96,21 @@ fn joined(last: &Region, next: &Region) -> Region {
 }
 
 /// The lines of the entries that change, in both texts. Entries that follow each other, and are as safe, are one region.
-fn regions(alloc: Global, new: &[u8], mended: &[Mended]) -> Result<Vec<Region>, AllocError> {
+fn regions(
+    alloc: Global,
+    old: &[u8],
+    new: &[u8],
+    mended: &[Mended],
+) -> Result<Vec<Region>, AllocError> {
     let mut all = Vec::new(alloc);
     let mut held: Option<Region> = None;
-    let news = spans_after(alloc, new, mended)?;
-    for (change, new) in mended.iter().zip(news.iter()) {
+    let spans = spans_of(alloc, old, mended)?
+        .into_iter()
+        .zip(spans_of(alloc, new, mended)?);
+    for (change, (old, new)) in mended.iter().zip(spans) {
         let next = Region {
-            old: change.span,
-            new: *new,
+            old,
+            new,
             is_guess: !change.is_safe(),
         };
         held = Some(match held {
@@ -268,7 +266,7 @@ pub(crate) fn diff_of(
     let mut out = Text::new(alloc);
     put_file(alloc, &mut out, ["--- ", "a/"], file)?;
     put_file(alloc, &mut out, ["+++ ", "b/"], file)?;
-    let all = regions(alloc, new, mended)?;
+    let all = regions(alloc, old, new, mended)?;
     let old = lines_of(alloc, old)?;
     let new = lines_of(alloc, new)?;
     let mut left = all.as_slice();

@@ -143,7 +143,7 @@ fn number(alloc: Global, text: &[u8]) -> Result<Option<Meant>, AllocError> {
 /// What people write behind a number whose unit the setting decides.
 const UNITS: &[&[u8]] = &[
     b"s", b"sec", b"secs", b"second", b"seconds", b"ms", b"b", b"byte", b"bytes", b"commit",
-    b"commits", b"%",
+    b"commits", b"job", b"jobs", b"thread", b"threads", b"%",
 ];
 
 /// The number before a unit, which is a guess, since the setting may count in another one.

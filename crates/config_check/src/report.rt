@@ -175,8 +175,18 @@ impl<'c> Report<'c> {
     }
 
     /// Whether fingerprints are asked for.
-    fn needs_fingerprints(&self) -> bool {
+    pub(crate) fn needs_fingerprints(&self) -> bool {
         self.baseline.is_some() || matches!(self.style.format, Format::Json | Format::Sarif)
+    }
+
+    /// Takes note of a finding that was held. Returns whether it is reported.
+    pub(crate) fn counts_held(&mut self, held: &Held) -> bool {
+        if held.is_ignored {
+            self.hidden.add(held.severity, true);
+        } else {
+            self.count(held.code);
+        }
+        !held.is_ignored
     }
 
     /// Counts a finding of this code that is reported.
@@ -211,6 +221,29 @@ impl<'c> Report<'c> {
     }
 }
 
+/// A finding that is written only if its entry is not changed.
+#[derive(Drop)]
+pub(crate) struct Held {
+    pub(crate) entry: Option<u64>,
+    pub(crate) code: Code,
+    pub(crate) severity: Severity,
+    pub(crate) is_ignored: bool,
+    pub(crate) text: Vec<u8>,
+}
+
+impl Held {
+    /// What it counts for.
+    pub(crate) fn counts(&self) -> Counts {
+        Counts {
+            unknown: u64::from(self.code == Code::UnknownKey),
+            ..counts_of(self.severity)
+        }
+    }
+}
+
+/// How many findings of one file are held at most.
+const MOST_HELD: usize = 10_000;
+
 /// Receives the findings of one file.
 #[derive(Drop)]
 pub(crate) struct Lines<'l, 's, 'r, 'c, 'k, 'w, 'm, W: Write> {
@@ -223,6 +256,8 @@ pub(crate) struct Lines<'l, 's, 'r, 'c, 'k, 'w, 'm, W: Write> {
     pub(crate) mender: Option<Mender<'m>>,
     /// Whether suggestions are only collected, and nothing is counted or written.
     pub(crate) collects: bool,
+    /// The findings so far, if suggestions are collected, unless there are too many.
+    pub(crate) held: Option<Vec<Held>>,
     /// What is known of the changes of the findings to come, the last first.
     pub(crate) fixes: Vec<Mended>,
     pub(crate) writer: W,
@@ -297,6 +332,30 @@ impl<W: Write> Lines<'_, '_, '_, '_, '_, '_, '_, W> {
         Ok(is_left_out)
     }
 
+    /// Holds a finding, unless too many are held.
+    fn hold(
+        &mut self,
+        finding: &Finding<'_>,
+        spot: &Spot<'_>,
+        is_ignored: bool,
+    ) -> Result<(), AllocError> {
+        let Some(mut held) = self.held.take() else {
+            return Ok(());
+        };
+        if held.len() >= MOST_HELD {
+            return Ok(());
+        }
+        held.push(Held {
+            entry: finding.entry,
+            code: finding.code,
+            severity: finding.severity,
+            is_ignored,
+            text: self.formatted(finding, spot, 0)?,
+        })?;
+        self.held = Some(held);
+        Ok(())
+    }
+
     /// What is written about a finding, with all that is told of it: nothing if it is left out, or if
     /// suggestions are collected. `mended` is its setting if its change is sure: nothing else is as near as the value that is
     /// suggested.
@@ -307,7 +366,11 @@ impl<W: Write> Lines<'_, '_, '_, '_, '_, '_, '_, W> {
         mended: Option<&Setting<'_>>,
     ) -> Result<Vec<u8>, AllocError> {
         let equal = self.equal(finding)?;
-        if self.is_left_out(finding, equal)? {
+        let is_left_out = self.is_left_out(finding, equal)?;
+        if self.collects {
+            self.hold(finding, spot, is_left_out)?;
+        }
+        if is_left_out {
             return Ok(Vec::new(self.alloc));
         }
         if let (Some(mender), Some(setting)) = (&mut self.mender, mended) {

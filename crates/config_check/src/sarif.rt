@@ -90,14 +90,14 @@ fn fix_of(alloc: Global, file: &str, fix: &Mended) -> Result<Option<Value>, Allo
     let Some(lines) = &fix.lines else {
         return Ok(None);
     };
-    let (true, Ok(text)) = (fix.is_safe(), str::from_utf8(lines)) else {
+    let (true, Ok(text)) = (fix.is_safe(), str::from_utf8(&lines.text)) else {
         return Ok(None);
     };
     let uri = uri_of(alloc, file)?;
     let fix = json!(in alloc; { "artifactChanges": [{
         "artifactLocation": { "uri": uri },
         "replacements": [{
-            "deletedRegion": { "startLine": fix.span.first, "endLine": fix.span.last },
+            "deletedRegion": { "startLine": lines.span.first, "endLine": lines.span.last },
             "insertedContent": { "text": text }
         }]
     }] })?;

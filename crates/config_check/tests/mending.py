@@ -226,6 +226,11 @@ def many(group, program, draw, git, count):
             mended = [one for one in gone if one["file"] == name]
             entries(group, name, mended, before[name], listed(git, folder, name))
             lines(group, name, mended, old[name], new[name])
+        for more in ([], ["--ignore", "bad-boolean"]):
+            write(folder, old)
+            came = program.run(["--fix", "--no-includes", *more, *names], cwd=folder)
+            again = program.run(["--no-includes", *more, *names], cwd=folder)
+            group.expect(("what is left", more), again, came._replace(errors=re.sub(rb", \d+ fixed", b"", came.errors)))
         write(folder, old)
         if has_patched(group, folder, diff):
             group.expect("patch", new, {name: (folder / name).read_bytes() for name in names})
