@@ -1,5 +1,6 @@
 #!/bin/sh
 # Installs the programs, their man pages and completions, the C library and the Python package: sh install.sh PREFIX
+# Installs the programs as `rt try` builds them in minutes:           sh install.sh --unproved PREFIX
 # Removes what it has installed, and nothing else:                    sh install.sh --uninstall PREFIX
 #
 # The programs are config_value, git-settings, which `git settings` runs, and config_check, which is git-config-check
@@ -8,12 +9,15 @@
 # crates/gix_config_value_c/build.sh says what it needs. Man pages need help2man, and Python its headers.
 # A part that lacks something is left out, and the last lines say so.
 #
+# What is installed unproved says so in its `--version`. It checks each operation as it runs, and is some twenty times
+# slower.
+#
 # DESTDIR and LIBDIR mean what they mean for build.sh. PYTHONDIR is the folder of the Python package: the folder of
 # python3 below PREFIX, or PREFIX/lib/python3/dist-packages. A file that is there and that no earlier run has installed
 # is never replaced. The list of what is installed is PREFIX/share/doc/gix_config_value/installed.
 set -eu
 umask 022
-usage="[--uninstall] PREFIX"
+usage="[--unproved] [--uninstall] PREFIX"
 begin=$(dirname -- "$0")/packaging
 # shellcheck source=packaging/begin.sh
 . "$begin/begin.sh"
@@ -35,7 +39,7 @@ uninstall() {
         esac
     done < "$dest$list"
 }
-if [ -n "$option" ]; then
+if [ "$option" = --uninstall ]; then
     if [ ! -f "$dest$list" ]; then
         echo "nothing is installed in $dest$prefix: there is no $dest$list" >&2
         exit 1
@@ -70,6 +74,27 @@ pages() {
         sed "/^\\.SH NAME/{n;s/^$program /$page /}" "$work/page" > "$share/man/man1/$page.1"
     done
 }
+# builds a program for which nothing is proved
+try() {
+    (cd "$root/crates/$1" && python3 "$root/.ci/try.py" --keep "$work/programs/$1" --steps 1 -- --version) \
+        < /dev/null > "$work/said.$1" 2>&1 || [ -x "$work/programs/$1" ] || cat "$work/said.$1" >&2
+}
+# installs a program, or a script that runs one which is not proved: put PROGRAM NAME
+put() {
+    if [ -z "$option" ]; then
+        install -m 755 "$1" "$stage$prefix/bin/$2"
+        return
+    fi
+    behind=lib/gix_config_value/unproved/$2
+    install -D -m 755 "$1" "$stage$prefix/$behind"
+    cat > "$stage$prefix/bin/$2" << END
+#!/bin/sh
+program=\$(dirname -- "\$0")/../$behind
+[ "\$*" != --version ] || exec printf '%s, unproved\n' "\$("\$program" --version)"
+exec "\$program" "\$@"
+END
+    chmod 755 "$stage$prefix/bin/$2"
+}
 # a program with its man pages and completions: program CRATE NAME [WORD..]
 program() {
     crate=$1
@@ -81,7 +106,7 @@ program() {
     fi
     mkdir -p -- "$stage$prefix/bin" "$share/man/man1" "$share/bash-completion/completions" "$share/zsh/site-functions" \
         "$share/fish/vendor_completions.d"
-    install -m 755 "$built" "$stage$prefix/bin/$1"
+    put "$built" "$1"
     # config_value has no options to complete
     if [ "$1" != config_value ]; then
         install -m 644 "$root/packaging/completions/bash" "$share/bash-completion/completions/$1"
@@ -133,10 +158,22 @@ print(next((it for it in site.getsitepackages() if it.startswith(sys.argv[1] + "
     mkdir -p -- "$stage$site"
     python3 -m zipfile -e "$work"/wheel/*.whl "$stage$site"
 }
+if [ -n "$option" ] && [ -z "${PROGRAMS:-}" ]; then
+    mkdir "$work/programs"
+    for crate in config_value git_settings config_check; do
+        try "$crate" &
+    done
+    wait
+    PROGRAMS=$work/programs
+fi
 program config_value config_value
 program git_settings git-settings get list set unset rename-section remove-section
 program config_check config_check
-libraries
+if [ -n "$option" ]; then
+    skipped "the C library and the Python package, which only a proof makes"
+else
+    libraries
+fi
 
 mkdir -p -- "$stage"
 (cd "$stage" && find . ! -type d | sed 's/^\.//' | LC_ALL=C sort) > "$work/files"

@@ -3,9 +3,9 @@
 #
 # DEST is the top of that repository, or an empty folder. It gets the folders of the library's twelve crates in
 # DEST/crates, and their lines in DEST/crates.txt, each line once. A crate of DEST then uses the library by a line such
-# as `NAME: gix_config_value config_file`, with config_host if it opens files. The two licenses, and the pages that
-# comments cite, are in DEST/crates/gix_config_value. `vendored` there has the version and the sum of each file that is
-# copied: `sha256sum --check crates/gix_config_value/vendored` tells in DEST which ones have changed.
+# as `NAME: gix_config_value config_file`, with config_host if it opens files. The two licenses, CALLING.md, CHANGELOG.md
+# and the pages that comments cite are in DEST/crates/gix_config_value. `vendored` there has the version and the sum of
+# each file that is copied: `sha256sum --check crates/gix_config_value/vendored` tells in DEST which ones have changed.
 #
 # A second run replaces the library by a newer version, and removes the files that this no longer has. If a file or a
 # line of DEST that it would replace or remove is not as an earlier run has written it, nothing is changed, and the
@@ -31,7 +31,9 @@ for crate in $library; do
     done
     grep "^$crate:" "$root/crates.txt" >> "$work/lines"
 done
-cp -- "$root/LICENSE-MIT" "$root/LICENSE-APACHE" "$work/new/$own/"
+for it in LICENSE-MIT LICENSE-APACHE CALLING.md CHANGELOG.md; do
+    cp -- "$root/$it" "$work/new/$own/"
+done
 mkdir "$work/new/$own/docs"
 grep -rhoE 'docs/[A-Z]+\.md' "$work/new/crates" | sort -u | while IFS= read -r page; do
     cp -- "$root/$page" "$work/new/$own/docs/"

@@ -208,6 +208,18 @@ def installation(work, given, archive):
     holds("nothing is installed without programs and archive", tree(dest), before)
 
 
+def unproved(work):
+    """Programs for which nothing is proved, which say so."""
+    prefix = work / "it's own"
+    run("sh", "install.sh", "--unproved", prefix, PROGRAMS=work / "programs")
+    said = run(prefix / "bin/config_check", "--version")
+    holds("the version of what is not proved", said, f"config_check {VERSION}, unproved\n")
+    said = run(prefix / "bin/git-settings", "get", "--default", "a  b", "no.such.key")
+    holds("arguments of what is not proved", said, "a  b\n")
+    run("sh", "install.sh", "--uninstall", prefix)
+    holds("what is left of what is not proved", prefix.exists(), False)
+
+
 def packages(work, archive):
     missing = [it for it in ("dpkg-deb", "dpkg-shlibdeps", "strip") if not shutil.which(it)]
     if missing:
@@ -260,6 +272,7 @@ def main():
         for program in given:
             (work / "programs" / program).symlink_to(given[program])
         installation(work, given, arguments.archive.resolve())
+        unproved(work)
         packages(work, arguments.archive.resolve())
     print(f"{counts[True]} passed, {counts[False]} failed")
     return 1 if counts[False] else 0

@@ -15,6 +15,7 @@ LIBRARY = "text integer boolean word color path file edit url search host".split
 CRATES = [*(f"config_{name}" for name in LIBRARY), "gix_config_value"]
 COPIED = "crates/config_text/src/lib.rt"
 OWN = pathlib.PurePath("crates/gix_config_value")
+OTHERS = ("LICENSE-MIT", "LICENSE-APACHE", "CALLING.md", "CHANGELOG.md")
 
 
 def vendor(source, *arguments):
@@ -30,8 +31,8 @@ def tree(folder):
 
 def older(folder):
     """A library of an earlier version: one file has other bytes, one is not there any more, and a line is shorter."""
-    for name in ("LICENSE-MIT", "LICENSE-APACHE", "crates.txt", "vendor.sh", "packaging/begin.sh", "docs",
-                 "crates/gix_config_value_c/VERSION", *(f"crates/{crate}" for crate in CRATES)):
+    for name in (*OTHERS, "crates.txt", "vendor.sh", "packaging/begin.sh", "docs", "crates/gix_config_value_c/VERSION",
+                 *(f"crates/{crate}" for crate in CRATES)):
         (folder / name).parent.mkdir(parents=True, exist_ok=True)
         copy = shutil.copytree if (ROOT / name).is_dir() else shutil.copy
         copy(ROOT / name, folder / name, **{"ignore": shutil.ignore_patterns("out")} if copy != shutil.copy else {})
@@ -51,9 +52,9 @@ def copied(folder):
     wanted = {str(file.relative_to(ROOT)): file.read_bytes() for crate in CRATES for part in ("src", "specs", "proofs")
               for file in (ROOT / "crates" / crate / part).rglob("*") if file.is_file()}
     pages = {f"docs/{page}" for text in wanted.values() for page in re.findall(r"docs/([A-Z]+\.md)", text.decode())}
-    wanted |= {str(OWN / name): (ROOT / name).read_bytes() for name in (*pages, "LICENSE-MIT", "LICENSE-APACHE")}
+    wanted |= {str(OWN / name): (ROOT / name).read_bytes() for name in (*pages, *OTHERS)}
     has = {name: text for name, text in first.items() if name.startswith("crates/") and name != str(OWN / "vendored")}
-    yield "the files of the library, its licenses and the pages that comments cite", has, wanted
+    yield "the files of the library, its licenses and its pages", has, wanted
     yield "a cited page", bool(pages), True
     yield "a license of theirs", first["LICENSE-MIT"], b"theirs"
     lines = first["crates.txt"].decode().splitlines()
