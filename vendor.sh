@@ -4,8 +4,9 @@
 # DEST is the top of that repository, or an empty folder. It gets the folders of the library's twelve crates in
 # DEST/crates, and their lines in DEST/crates.txt, each line once. A crate of DEST then uses the library by a line such
 # as `NAME: gix_config_value config_file`, with config_host if it opens files. The two licenses, CALLING.md, CHANGELOG.md
-# and the pages that comments cite are in DEST/crates/gix_config_value. `vendored` there has the version and the sum of
-# each file that is copied: `sha256sum --check crates/gix_config_value/vendored` tells in DEST which ones have changed.
+# and the pages of docs/ that all of it cites are in DEST/crates/gix_config_value. `vendored` there has the version and
+# the sum of each file that is copied: `sha256sum --check crates/gix_config_value/vendored` tells in DEST which ones have
+# changed.
 #
 # A second run replaces the library by a newer version, and removes the files that this no longer has. If a file or a
 # line of DEST that it would replace or remove is not as an earlier run has written it, nothing is changed, and the

@@ -51,8 +51,9 @@ def copied(folder):
     first = tree(folder)
     wanted = {str(file.relative_to(ROOT)): file.read_bytes() for crate in CRATES for part in ("src", "specs", "proofs")
               for file in (ROOT / "crates" / crate / part).rglob("*") if file.is_file()}
+    wanted |= {str(OWN / name): (ROOT / name).read_bytes() for name in OTHERS}
     pages = {f"docs/{page}" for text in wanted.values() for page in re.findall(r"docs/([A-Z]+\.md)", text.decode())}
-    wanted |= {str(OWN / name): (ROOT / name).read_bytes() for name in (*pages, *OTHERS)}
+    wanted |= {str(OWN / name): (ROOT / name).read_bytes() for name in pages}
     has = {name: text for name, text in first.items() if name.startswith("crates/") and name != str(OWN / "vendored")}
     yield "the files of the library, its licenses and its pages", has, wanted
     yield "a cited page", bool(pages), True
