@@ -6,7 +6,8 @@ entries (entries.c), libgit2 if it is installed, pygit2 if Python has it, and fo
 library for C, which is measured too (walk.c), and a lookup in it, and FOLDER has the Python package, as pip's --target
 makes it. A COMMAND gets the name of the file: it is another program that reads it. The processor time is the least of
 the runs, made in turn; it includes a program's start, which is that of Python too, and its output. The last column has
-it as a part of that of Git with the file alone. If a list of git_settings is not Git's, the status is 1.
+it as a part of that of Git with the file alone. A second table has calls of Git and of git_settings, which get the same
+words. If git_settings does not print what Git prints, the status is 1.
 """
 import argparse
 import importlib.util
@@ -29,6 +30,7 @@ SECTION = """[branch "topic-%06d"]
 """
 ENTRIES = SECTION.count(" = ")
 SIZES = [100_000, 2_000_000]
+MILLION = 1_000_000
 # programs of Python: the name of each, the module that it needs, and what it does
 PYTHON = [("dulwich", "dulwich", """
 import sys
@@ -42,6 +44,22 @@ sum(1 for _ in pygit2.Config(sys.argv[1]))
 import sys, gix_config_value
 sum(1 for _ in gix_config_value.read(sys.argv[1]).entries)
 """)]
+
+
+# what is read: the front of a file, a line that follows it so often, with its number, and the words of a call
+CALLS = [
+    ("the last of 1,000,000 entries", "[s]\n", "\tk%d = v\n", MILLION, "--get s.k999999"),
+    ("1,000,000 entries", "[s]\n", "\tk%d = v\n", MILLION, "--list"),
+    ("the values of one key", "[s]\n", "\tk = v\n", MILLION, "--get-all s.k"),
+    ("keys by a pattern", "[s]\n", "\tk%d = v\n", MILLION, "--get-regexp ^s.k9999.9$"),
+    ("500,000 sections", "", "[s%d]\n\tk = v\n", MILLION // 2, "--list"),
+    ("500,000 URLs", "", '[http "https://h/%d"]\n\tproxy = p\n', MILLION // 2,
+     "--get-urlmatch http.proxy https://h/7/x"),
+    ("1,000,000 blank lines", "", "\n", MILLION, "--list"),
+    ("1,000,000 comments", "", "# a comment\n", MILLION, "--list"),
+    ("300,000 entries below comments", "[s]\n", "# a comment\n\n\tk%d = v ; why\n", 300_000, "--list"),
+    ("1,000 keys below a name of 1,000,000 bytes", f'[s "{"x" * MILLION}"]\n', "\tk%d = v\n", 1000, "--list"),
+]
 
 
 def listed(*command):
@@ -93,6 +111,23 @@ def rows(measuring, asked, file, arguments):
             yield what, name, f"{seconds * 1000:.0f}", f"{size / seconds / 1e6:.2f}", f"{seconds / least[0]:.2f}"
 
 
+def calls(measuring, arguments, file):
+    """For each call the least milliseconds and the memory of Git and of git_settings, and the part of Git's time."""
+    programs = [shutil.which("git"), "config"], [arguments.git_settings]
+    for name, front, line, count, words in CALLS:
+        with open(file, "w", encoding="utf-8") as text:
+            text.write(front)
+            text.writelines(line % number if "%" in line else line for number in range(count))
+        asked = [[*program, "--file", file, *words.split()] for program in programs]
+        printed = [subprocess.run(it, stdout=subprocess.PIPE, check=False).stdout for it in asked]
+        if printed[0] != printed[1]:
+            sys.exit(f"git_settings does not print what Git prints: {words}")
+        (git, most), (own, memory) = (
+            map(min, zip(*(usage(measuring, *command) for _ in range(arguments.runs)))) for command in asked)
+        yield (name, f"`{words.split()[0]}`", f"{git * 1000:.0f}", f"{own * 1000:.0f}", f"{own / git:.2f}",
+               f"{most / 1024:.0f}", f"{memory / 1024:.0f}")
+
+
 def lookups(folder, prefix, file, runs):
     """How long a lookup takes in the large file, in each library, and what it finds."""
     key = f"branch.topic-{SIZES[0] // ENTRIES // 2:06}.description"
@@ -121,10 +156,15 @@ def main():
         asked = list(commands(arguments, folder, f"{folder}/config"))
         table = list(rows(f"{folder}/usage", asked, f"{folder}/config", arguments))
         found = list(lookups(folder, arguments.prefix, f"{folder}/config", arguments.runs))
+        beside = list(calls(f"{folder}/usage", arguments, f"{folder}/config"))
     print(head(before))
     print("| File | Program | Processor time, ms | Million entries in a second | Of Git's time |")
     print("|---|---|---|---|---|")
     for row in table:
+        print("| " + " | ".join(row) + " |")
+    print("\n| What is read | Call | Git, ms | git_settings, ms | Of Git's time | Git, MB | git_settings, MB |")
+    print("|---|---|---|---|---|---|---|")
+    for row in beside:
         print("| " + " | ".join(row) + " |")
     for name, nanoseconds, value in found:
         print(f"\nA lookup among {SIZES[-1]:,} entries by {name}: {nanoseconds:.0f} ns, {value}")

@@ -597,15 +597,17 @@ impl<'c, 't> Checking<'c, 't> {
         let mut counts = counts;
         let mut left = changes;
         for finding in held {
-            match left.split_first() {
-                Some((change, others)) if finding.entry == Some(change.entry as u64) => {
-                    left = others;
-                    counts = less(counts, finding.counts());
-                }
-                _ if self.report.counts_held(finding) => {
-                    written(writer.write_all(&finding.text))?;
-                }
-                _ => {}
+            let others = match left.split_first() {
+                Some((change, others)) if finding.entry == Some(change.entry as u64) => Some(
+                    others,
+                ),
+                _ => None,
+            };
+            if let Some(others) = others {
+                left = others;
+                counts = less(counts, finding.counts());
+            } else if self.report.counts_held(finding) {
+                written(writer.write_all(&finding.text))?;
             }
         }
         written(writer.flush())?;
