@@ -117,12 +117,13 @@ class Edit(Given):
 
 
 class Mended(Given):
-    """A file with this many misspelled keys, of different branches, which `config_check --fix` renames."""
+    """A file with this many entries, of which one of a hundred has a misspelled key, and what is done with it."""
 
-    def __init__(self, count):
+    def __init__(self, count, *words):
         self.made, self.file = tempfile.TemporaryDirectory(), tempfile.TemporaryFile()
-        self.words, self.folder = ["-q", "--fix", "config"], self.made.name
-        self.text = "".join(f'[branch "b{number}"]\n\tremot = x\n' for number in range(count))
+        self.words, self.folder = ["-q", *words, "config"], self.made.name
+        right = "\tdescription = a b\n" * 99
+        self.text = "".join(f'[branch "b{number}"]\n\tremot = x\n{right}' for number in range(count // 100))
 
     def begin(self):
         pathlib.Path(self.folder, "config").write_text(self.text, "ascii")
@@ -190,7 +191,8 @@ CHECKED = [
     ("unknown keys of a section near one of Git", 500_000, functools.partial(Unknown, b"[coer]\n")),
     ("unknown keys of `core`", 100_000, functools.partial(Unknown, b"[core]\n")),
     ("unknown slots of `color.status`", 100_000, functools.partial(Unknown, b'[color "status"]\n')),
-    ("misspelled keys, all renamed by `--fix`", 1_000, Mended),
+    ("entries, one of 100 misspelled", 100_000, Mended),
+    ("the same, all renamed by `--fix`", 100_000, lambda size: Mended(size, "--fix")),
 ]
 
 
