@@ -420,7 +420,7 @@ http.proxySSLCAInfo                 text
 http.delegation                     warn word none policy always
 http.cookieFile                     path
 http.version                        warn word HTTP/2 HTTP/1.1
-http.sslVersion                     warn words sslv2 sslv3 tlsv1 tlsv1.0 tlsv1.1 tlsv1.2 tlsv1.3
+http.sslVersion                     warn word sslv2 sslv3 tlsv1 tlsv1.0 tlsv1.1 tlsv1.2 tlsv1.3
 http.sslVerify                      bool
 http.sslCAPath                      path
 http.sslTry                         bool
@@ -454,7 +454,7 @@ http.*.proxySSLCAInfo               text
 http.*.delegation                   warn word none policy always
 http.*.cookieFile                   path
 http.*.version                      warn word HTTP/2 HTTP/1.1
-http.*.sslVersion                   warn words sslv2 sslv3 tlsv1 tlsv1.0 tlsv1.1 tlsv1.2 tlsv1.3
+http.*.sslVersion                   warn word sslv2 sslv3 tlsv1 tlsv1.0 tlsv1.1 tlsv1.2 tlsv1.3
 http.*.sslVerify                    bool
 http.*.sslCAPath                    path
 http.*.sslTry                       bool
