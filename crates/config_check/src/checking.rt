@@ -306,8 +306,11 @@ impl<'c, 't> Checking<'c, 't> {
         Ok(())
     }
 
-    /// Reports the aliases that lead to no command.
+    /// Reports the aliases since the last report that lead to no command.
     fn report_aliases(&mut self) -> Result<(), Failure<'static>> {
+        if self.aliases.all.is_empty() {
+            return Ok(());
+        }
         let alloc = self.rt.alloc();
         let aliases = mem::replace(&mut self.aliases, Aliases::new(alloc)?);
         let are_endless = aliases.are_endless(alloc)?;
@@ -839,18 +842,19 @@ impl<'c, 't> Checking<'c, 't> {
         }
     }
 
-    /// Reports the condition of an entry that includes a file, if Git does not know this condition.
-    fn judge_condition(
+    /// Whether Git knows the condition of an entry that includes a file. Reports one that it does not know.
+    fn knows_condition(
         &mut self,
         place: FilePlace<'t>,
         entry: &Entry<'t>,
-    ) -> Result<(), Failure<'static>> {
+    ) -> Result<bool, Failure<'static>> {
         let key = entry.key_text(self.rt.alloc())?;
         match Key::split(&key).and_then(|key| key.subsection()) {
             Some(text) if Condition::parse(text) == Condition::Unknown => {
-                self.report(place, entry, Wrong::UnknownCondition)
+                self.report(place, entry, Wrong::UnknownCondition)?;
+                Ok(false)
             }
-            _ => Ok(()),
+            _ => Ok(true),
         }
     }
 
@@ -890,7 +894,9 @@ impl<'c, 't> Checking<'c, 't> {
             {
                 continue;
             }
-            self.judge_condition(place, &entry)?;
+            if !self.knows_condition(place, &entry)? {
+                continue;
+            }
             match include {
                 Include::Named(name) => self.include(&mut walk, place, &entry, name)?,
                 _ => self.include_unknown(&mut walk, place, &entry)?,
@@ -991,6 +997,10 @@ impl<'c, 't> Checking<'c, 't> {
         self.begin()?;
         for file in &files {
             self.file(file)?;
+            // files that are named may be of several machines
+            if !self.request.files.is_empty() {
+                self.report_aliases()?;
+            }
         }
         self.report_aliases()?;
         self.report_missing()?;

@@ -302,10 +302,24 @@ fn fails_on(options: &Options<'_>) -> Severity {
     }
 }
 
+/// The first three parts of a version, behind which builds other than releases have more.
+fn release_of(text: &str) -> &str {
+    let mut dots: usize = 0;
+    for (at, byte) in text.bytes().enumerate() {
+        if byte == b'.' {
+            dots = dots.saturating_add(1);
+            if dots == 3 {
+                return text.get(..at).unwrap_or(text);
+            }
+        }
+    }
+    text
+}
+
 /// The version of `--git`.
 pub(crate) fn git_of<'m>(rt: &HostRuntime, options: &Options<'m>) -> Result<Version, Failure<'m>> {
     match options.last("git") {
-        Some(text) => match Version::read(text.as_bytes()) {
+        Some(text) => match Version::read(release_of(text).as_bytes()) {
             Some(version) if NEWEST.is_before(version) => {
                 let (major, minor) = (NEWEST.major, NEWEST.minor);
                 let said = "the built-in rows do not know what is new in Git after";

@@ -242,7 +242,7 @@ fn shared_text<'t>(
 /// What the file of rows at the top of the repository has.
 #[derive(Drop)]
 pub(crate) struct Shared<'t> {
-    /// The words of the lines that begin with `--`, which are options.
+    /// The words of the lines that begin with `--`, which are options, without comments.
     pub(crate) words: Vec<&'t str>,
     /// The other lines, each at its place.
     pub(crate) rows: &'t [u8],
@@ -270,6 +270,9 @@ pub(crate) fn read_shared<'t>(
         };
         rows.put_byte(b'\n');
         for word in line.split_ascii_whitespace() {
+            if word.starts_with('#') {
+                break;
+            }
             if words.push(word).is_err() {
                 return Err(Failure::Memory(AllocError));
             }

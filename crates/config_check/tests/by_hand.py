@@ -273,6 +273,12 @@ def modules(group, program):
         group.expect(("a submodule", name), (is_right, 0 if is_right else 1), (came.output == b"", came.output.count(b"[submodule-name]\n")))
     came = program.run(["-q", "-"], rows.ALIASES)
     group.expect("aliases", rows.ENDLESS, [int(line.split(b":")[1]) for line in came.output.splitlines() if line.endswith(b"[endless-alias]")])
+    one, other, both = (program.settings(text) for text in (b"[alias] a1 = b1\n", b"[alias] b1 = a1\n", b"[alias]\na1 = b1\nb1 = a1\n"))
+    for files, count in (([one, other], 0), ([both, program.settings(b"[alias] b1 = status\n")], 2)):
+        came = program.run(["-q", *files])
+        group.expect(("aliases of files", files), count, came.output.count(b"[endless-alias]"))
+    came = program.run(["-q", "-"], b"[includeIf \"gitdri:x\"]\n\tpath = /no/such/file\n")
+    group.expect("an unknown condition", [b"[unknown-condition]"], [line.split()[-1] for line in came.output.splitlines()])
 
 
 def others(group, program):

@@ -201,7 +201,7 @@ def repositories(group, program):
         group.expect("named rows come first", b"", came.output)
         for lines, more, wanted in (
                 ("--ignore bad-boolean\n", [], (0, b"")), ("# ours\n--fail-on=note --ignore not-a-word\n", [], (1, b"c:2")),
-                ("--exit-zero\n", [], (0, b"c:2")), ("--ignore bad-boolean\n", ["--no-ignore"], (1, b"c:2")),
+                ("--exit-zero # why --git\n", [], (0, b"c:2")), ("--ignore bad-boolean\n", ["--no-ignore"], (1, b"c:2")),
                 ("--git 2.50\n", ["--git", "2.51"], (1, b"c:2")), ("tool.x text\n--fix\n", [], (2, b"")), ("--ignore core.* x\n", [], (2, b""))):
             (folder / ".gitconfig-check").write_text(lines)
             (folder / "c").write_bytes(b"[core]\n\tbare = x\n")

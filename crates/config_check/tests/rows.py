@@ -697,8 +697,8 @@ SAME_ARGUMENTS = [
     (["--ignore", "bad-boolean", "--no-ignore", "-"], ["-"]), (["--format", "json", "--", "-"], ["--format=json", "-"])]
 
 # texts that are no versions of Git, and versions, each with the severity of `pull.autostash = true` by it
-WRONG_VERSIONS = ["two", "2", "", "2.", ".39", "2.39.5.1", "v2.39", "2,39"]
-VERSIONS = {"2.39": b"note", "2.50.9": b"note", "1.99": b"note", "2.51": None, "2.51.0": None, "3.0": None}
+WRONG_VERSIONS = ["two", "2", "", "2.", ".39", "v2.39", "2,39"]
+VERSIONS = {"2.39": b"note", "2.47.1.windows.1": b"note", "2.50.0.rc1": b"note", "2.51.0.12.gabc": None, "2.50.9": b"note", "1.99": b"note", "2.51": None, "2.51.0": None, "3.0": None}
 
 # arguments that are not UTF-8
 ILL_FORMED_ARGUMENTS = [[b"--canonical\xff"], [b"--settings", b"\xff"], [b"\xc3"]]

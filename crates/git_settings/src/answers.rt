@@ -242,7 +242,7 @@ impl<'t> Reading<'_, 't> {
                         value: Some(text.as_bytes()),
                         place: None,
                     };
-                    tell_wrong(self.rt, Shown::Canonical(Kind::Boolean), &wrong, b"");
+                    tell_wrong(self.rt, Shown::Canonical(Kind::Boolean), &wrong, [b"", b""]);
                     return Ok(None);
                 }
             },

@@ -475,7 +475,12 @@ pub fn run(rt: &HostRuntime, edit: &Edit<'_>) -> Result<Ending, HostError> {
                 value: Some(value.as_bytes()),
                 place: None,
             };
-            tell_wrong(rt, edit.shown, &wrong, b"fatal: cannot parse color ");
+            tell_wrong(
+                rt,
+                edit.shown,
+                &wrong,
+                [b"fatal: cannot parse color '", b"'"],
+            );
             Ok(Ending::Refused)
         }
         _ => change_texts(rt, edit, &text),

@@ -171,7 +171,7 @@ impl<'t> Reading<'_, 't> {
             value: setting.value.as_deref(),
             place: Some(self.collector.writer.unfiled.place(setting)),
         };
-        tell_wrong(self.rt, shown, &wrong, b"");
+        tell_wrong(self.rt, shown, &wrong, [b"", b""]);
     }
 
     /// Tells that the default value of this key is none of its type.
@@ -181,8 +181,8 @@ impl<'t> Reading<'_, 't> {
             value: Some(default.as_bytes()),
             place: None,
         };
-        let end = b"fatal: failed to format default config value: ";
-        tell_wrong(self.rt, self.request.shown, &wrong, end);
+        let front = b"fatal: failed to format default config value: ";
+        tell_wrong(self.rt, self.request.shown, &wrong, [front, b""]);
     }
 
     /// The settings that were kept, which are taken out.

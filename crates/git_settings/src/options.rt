@@ -162,7 +162,7 @@ whose names are then printed";
 /// Whether `set` adds an entry.
 const APPEND: &[Row] = &[("append", "", Nothing, "Add an entry, and keep the others")];
 
-/// What Git's older flags do.
+/// What Git's older flags do. There is no `--edit`, and it is told so.
 const OLDER: &[Row] = &[
     ("get", "", Ever, "Print the last value of KEY"),
     ("get-all", "", Ever, "Print all values of KEY"),
@@ -197,14 +197,15 @@ const OLDER: &[Row] = &[
         Ever,
         "Say whether the output of KEY is colored",
     ),
+    ("edit", "e", Ever, ""),
 ];
 
 /// What the help of the words that read ends with.
 const READING: &str = "\
 Each option but the flags of types has an opposite, such as --no-type. Statuses: 0 if all is printed,
-1 if no entry has the key or it is no key, 6 for an invalid pattern, 128 if a file, a line, a value or
-a URL is refused, or after an error of the output or of memory, 129 for a wrong usage, 141 if nobody
-reads the output to its end, and 255 for a default that is no color.
+1 if no entry has the key, it is no key, or the file of get is not there, 6 for an invalid pattern, 128
+if a file, a line, a value, a default or a URL is refused, or after an error of the output or of memory,
+129 for a wrong usage, and 141 if nobody reads the output to its end.
 
 An expiry date is never, false, all or now; or the seconds since 1970, from 100000000 to 4102444799;
 or an age: a number, a space or a dot, and a unit from second to week, perhaps with ago, as in
@@ -229,7 +230,7 @@ Words: list, get, set, unset, rename-section and remove-section, each of which h
 own. Git's word edit and its option --blob are missing. Without a word and without one of the flags
 from --get to --get-colorbool a key alone is read, and a key and a value are set. Before them each
 `-c KEY=VALUE` and each `--config-env=KEY=VARIABLE` adds a setting of the command. Statuses are those
-of the words.
+of the words, and 255 if the default of --get-color is no color.
 
 Examples:
   git-settings get --type=bool --default=false core.bare

@@ -28,11 +28,19 @@ pub fn tell(rt: &HostRuntime, parts: &[&[u8]]) {
     };
 }
 
+/// A message without the number that the system has for an error, which Git does not write.
+fn without_number(text: &str) -> &str {
+    match text.rsplit_once(" (os error ") {
+        Some((front, number)) if number.ends_with(')') => front,
+        _ => text,
+    }
+}
+
 /// Writes these parts and an error on standard error.
 pub fn tell_error<E: fmt::Display + Drop>(rt: &HostRuntime, parts: [&[u8]; 3], error: E) {
     let [front, name, end] = parts;
     match format!(in rt.alloc(); "{error}") {
-        Ok(text) => tell(rt, &[front, name, end, text.as_bytes()]),
+        Ok(text) => tell(rt, &[front, name, end, without_number(&text).as_bytes()]),
         Err(_) => tell(rt, &[b"fatal: out of memory"]),
     }
 }

@@ -176,8 +176,8 @@ fn tell_typed(rt: &HostRuntime, shown: Shown, wrong: &Wrong<'_>, value: &[u8]) -
 }
 
 /// Tells in Git's words why a value is none of its type. If they have a second line, it is that of the place
-/// of the value, or this one and the value.
-pub fn tell_wrong(rt: &HostRuntime, shown: Shown, wrong: &Wrong<'_>, end: &[u8]) {
+/// of the value, or the value between these texts.
+pub fn tell_wrong(rt: &HostRuntime, shown: Shown, wrong: &Wrong<'_>, around: [&[u8]; 2]) {
     let needs_value = matches!(shown, Shown::Path | Shown::Date | Shown::Escape(_));
     let value = wrong.value.unwrap_or(b"true");
     if wrong.value.is_none() && needs_value {
@@ -187,6 +187,6 @@ pub fn tell_wrong(rt: &HostRuntime, shown: Shown, wrong: &Wrong<'_>, end: &[u8])
     }
     match wrong.place {
         Some(place) => tell_line(rt, &place, b""),
-        None => tell(rt, &[end, value]),
+        None => tell(rt, &[around[0], value, around[1]]),
     }
 }

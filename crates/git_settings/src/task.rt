@@ -194,8 +194,16 @@ fn action_of(name: &str) -> Option<Counted> {
     None
 }
 
+/// Whether Git's word is asked for that opens an editor, or its flag.
+fn edits(options: &Options<'_>) -> bool {
+    options.has("edit") || matches!(options.words.first(), Some(word) if *word == "edit")
+}
+
 /// The action of the one older flag, or that of this number of words without a flag.
 fn older_action<'a>(options: &Options<'a>) -> Result<Counted, Misuse<'a>> {
+    if edits(options) {
+        return Err(error("edit is not offered: ask git config"));
+    }
     let mut found: Option<(&'static str, Counted)> = None;
     for given in &options.given {
         let Some(counted) = action_of(given.name) else {
