@@ -67,11 +67,13 @@ pages() {
     shift
     for word in "" "$@"; do
         page=$program${word:+-$word}
-        # help2man splits the command at spaces, and names the page after the program alone
+        # help2man splits the command at spaces, names the page after the program alone, and fills examples
         command="./$program${word:+ $word}"
         (cd "$stage$prefix/bin" && LC_ALL=C help2man --no-info --name="$($command --help | head -n 1)" "$command") \
             > "$work/page"
-        sed "/^\\.SH NAME/{n;s/^$program /$page /}" "$work/page" > "$share/man/man1/$page.1"
+        heading=$(printf '%s' "$page" | tr '[:lower:]' '[:upper:]')
+        sed -e "s/^\\.TH [^ ]*/.TH $heading/" -e "/^\\.SH NAME/{n;s/^$program /$page /}" \
+            -e '/^\.SH EXAMPLES/,/^\.SH [^E]/s/^\.IP/.nf\n.IP/' "$work/page" > "$share/man/man1/$page.1"
     done
 }
 # builds a program for which nothing is proved

@@ -158,6 +158,10 @@ def programs(prefix, given, said):
         text = run("man", "--warnings", "--local-file", file, MANWIDTH=100, LC_ALL="C.UTF-8")
         name = page.removesuffix(".1").replace("git-config-check", "config_check")
         holds(f"the name in {page}", text.splitlines()[3].split(" - ")[0].strip(), name)
+        holds(f"the head of {page}", text.split("(")[0], name.upper())
+        # a line each
+        shown = [line.split()[0] for line in text.partition("\nEXAMPLES\n")[2].split("\n\n")[0].splitlines()]
+        holds(f"the examples in {page}", set(shown), {name} if shown else set())
 
 
 def libraries(prefix):
