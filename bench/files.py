@@ -10,6 +10,7 @@ it as a part of that of Git with the file alone. A second table has calls of Git
 words. If git_settings does not print what Git prints, the status is 1.
 """
 import argparse
+import contextlib
 import importlib.util
 import os
 import pathlib
@@ -111,21 +112,27 @@ def rows(measuring, asked, file, arguments):
             yield what, name, f"{seconds * 1000:.0f}", f"{size / seconds / 1e6:.2f}", f"{seconds / least[0]:.2f}"
 
 
-def calls(measuring, arguments, file):
-    """For each call the least milliseconds and the memory of Git and of git_settings, and the part of Git's time."""
-    programs = [shutil.which("git"), "config"], [arguments.git_settings]
+def call(measuring, git_settings, words, runs):
+    """The least milliseconds and the memory of Git and of git_settings, and the part of Git's time."""
+    asked = [shutil.which("git"), "config", *words], [git_settings, *words]
+    printed = [subprocess.run(it, stdout=subprocess.PIPE, check=False).stdout for it in asked]
+    if printed[0] != printed[1]:
+        sys.exit(f"git_settings does not print what Git prints: {words}")
+    (git, most), (own, memory) = (map(min, zip(*(usage(measuring, *it) for _ in range(runs)))) for it in asked)
+    return f"{git * 1000:.2f}", f"{own * 1000:.2f}", f"{own / git:.2f}", f"{most / 1024:.0f}", f"{memory / 1024:.0f}"
+
+
+def calls(measuring, arguments, folder):
+    """For each call what is read, the call, and what it takes."""
     for name, front, line, count, words in CALLS:
-        with open(file, "w", encoding="utf-8") as text:
+        with open(f"{folder}/config", "w", encoding="utf-8") as text:
             text.write(front)
             text.writelines(line % number if "%" in line else line for number in range(count))
-        asked = [[*program, "--file", file, *words.split()] for program in programs]
-        printed = [subprocess.run(it, stdout=subprocess.PIPE, check=False).stdout for it in asked]
-        if printed[0] != printed[1]:
-            sys.exit(f"git_settings does not print what Git prints: {words}")
-        (git, most), (own, memory) = (
-            map(min, zip(*(usage(measuring, *command) for _ in range(arguments.runs)))) for command in asked)
-        yield (name, f"`{words.split()[0]}`", f"{git * 1000:.0f}", f"{own * 1000:.0f}", f"{own / git:.2f}",
-               f"{most / 1024:.0f}", f"{memory / 1024:.0f}")
+        words = ["--file", f"{folder}/config", *words.split()]
+        yield name, f"`{words[2]}`", *call(measuring, arguments.git_settings, words, arguments.runs)
+    run("git", "init", "--quiet", f"{folder}/repository")
+    with contextlib.chdir(f"{folder}/repository"):
+        yield "a new repository", "`--get`", *call(measuring, arguments.git_settings, ["--get", "core.bare"], 100)
 
 
 def lookups(folder, prefix, file, runs):
@@ -156,7 +163,7 @@ def main():
         asked = list(commands(arguments, folder, f"{folder}/config"))
         table = list(rows(f"{folder}/usage", asked, f"{folder}/config", arguments))
         found = list(lookups(folder, arguments.prefix, f"{folder}/config", arguments.runs))
-        beside = list(calls(f"{folder}/usage", arguments, f"{folder}/config"))
+        beside = list(calls(f"{folder}/usage", arguments, folder))
     print(head(before))
     print("| File | Program | Processor time, ms | Million entries in a second | Of Git's time |")
     print("|---|---|---|---|---|")
