@@ -11,7 +11,7 @@ WRONG = "[gc]\n\tauto = wrong\n"
 PATH = "[include]\n\tpath = %s\n"
 # conditions that may hold somewhere, and some that never do
 CONDITIONS = ("gitdir:/r/", "gitdir:/R/", "gitdir/i:/R/", "gitdir:./.git", "gitdir:~/", "gitdir:r/.git", "onbranch:m*",
-              "onbranch:main/", "hasconfig:remote.*.url:**", "unknown:x")
+              "onbranch:main/", "hasconfig:remote.*.url:**")
 # the environment variables, and the folder in which both programs run
 CASES = [
     ({}, "plain"), ({}, "work"), ({}, "work/deep/er"), ({}, "work/.git"), ({}, "linked"), ({}, "linked/deep"),
@@ -64,7 +64,7 @@ def spoil(home):
 
 
 def included(group, program, home, known):
-    """Included files are read once, whatever the condition: a cycle, a missing file, no value, and the depth.
+    """Included files are read once, on any condition that Git knows: a cycle, a missing file, no value, and the depth.
 
     They come in the order in which Git comes to them, behind the file that includes them."""
     folder = home / "includes"
@@ -88,6 +88,8 @@ def included(group, program, home, known):
         (folder / "on").write_text(WRONG + f"[includeIf \"{condition}\"]\n\tpath = deep-11\n")
         came = by_program(program, folder, known, ["on"])
         group.expect(condition, [f"{folder}/on", f"{folder}/deep-11"], came)
+    (folder / "on").write_text(WRONG + "[includeIf \"unknown:x\"]\n\tpath = deep-11\n")
+    group.expect("an unknown condition", [f"{folder}/on"], by_program(program, folder, known, ["on"]))
     data = (WRONG + PATH % "deep-11" + PATH % f"{folder}/c" + PATH % "~/b").encode()
     came = run([program.path, "-"], data, cwd=folder, env=known)
     names = list(dict.fromkeys(line.split(":")[0] for line in came.output.decode().splitlines()))
@@ -104,7 +106,7 @@ def stops(group, program, folder, known):
     (folder / "stops").write_text(text + PATH % "stops")
     came = run([program.path, "stops"], cwd=folder, env=known)
     found = [line.split(": ")[0].split(":")[1] + line.split(": ")[1] for line in came.output.decode().splitlines()]
-    group.expect("stops", ["2error", "3error", "4note", "5note", "8warning", "8note", "10error"], found)
+    group.expect("stops", ["2error", "3error", "4note", "5note", "8warning", "10error"], found)
     (folder / "stops").write_text(PATH % "")
     for name in ("stops", "./stops"):
         told = b"%s:2:2: error: include.path: '': the path is empty, and so names a folder, at which Git stops [include-path]\n"
