@@ -118,7 +118,8 @@ def call(measuring, git_settings, words, runs):
     printed = [subprocess.run(it, stdout=subprocess.PIPE, check=False).stdout for it in asked]
     if printed[0] != printed[1]:
         sys.exit(f"git_settings does not print what Git prints: {words}")
-    (git, most), (own, memory) = (map(min, zip(*(usage(measuring, *it) for _ in range(runs)))) for it in asked)
+    turns = [[usage(measuring, *it) for it in asked] for _ in range(runs)]
+    (git, most), (own, memory) = (map(min, zip(*of_one)) for of_one in zip(*turns))
     return f"{git * 1000:.2f}", f"{own * 1000:.2f}", f"{own / git:.2f}", f"{most / 1024:.0f}", f"{memory / 1024:.0f}"
 
 
