@@ -109,7 +109,6 @@ fn write_wrong<'f>(
         source,
         mender: None,
         collects: false,
-        held: None,
         fixes: Vec::new(rt.alloc()),
         writer: rt.stdout(),
     };
@@ -133,16 +132,6 @@ enum Pass {
 struct Looked {
     counts: Counts,
     changed: Option<Result<Changed, Unchanged>>,
-    /// Its findings, if changes are looked for, unless they are too many or depend on those before.
-    held: Option<Vec<Held>>,
-}
-
-/// What a check of a text by some rows gives: its counts, its findings if they are held, and what is proposed for it.
-#[derive(Drop)]
-struct Checked<'t> {
-    counts: Counts,
-    held: Option<Vec<Held>>,
-    proposals: Vec<Proposal<'t>>,
 }
 
 /// Counts without these others.
@@ -372,21 +361,13 @@ impl<'c, 't> Checking<'c, 't> {
             Pass::Looks { guesses: wanted } => guesses = wanted,
         }
         fixes.reverse();
-        let Checked {
-            counts,
-            held,
-            proposals,
-        } = self.checked(rows, file, text, mender, collects, fixes)?;
+        let (counts, proposals) = self.proposed(rows, file, text, mender, collects, fixes)?;
         let changed = self.changed_by(rows, guesses, file, text, proposals)?;
-        Ok(Looked {
-            counts,
-            changed,
-            held,
-        })
+        Ok(Looked { counts, changed })
     }
 
-    /// The counts of a text that is checked by these rows, its findings and what is proposed for it, if that is kept.
-    fn checked(
+    /// The counts of a text that is checked by these rows, and what is proposed for it, if that is kept.
+    fn proposed(
         &mut self,
         rows: &[Row<'_>],
         file: &'t str,
@@ -394,14 +375,9 @@ impl<'c, 't> Checking<'c, 't> {
         mender: Option<Mender<'t>>,
         collects: bool,
         fixes: Vec<Mended>,
-    ) -> Result<Checked<'t>, Failure<'static>> {
+    ) -> Result<(Counts, Vec<Proposal<'t>>), Failure<'static>> {
         let alloc = self.rt.alloc();
         let options = self.options;
-        let held = if collects && !self.report.needs_fingerprints() {
-            Some(Vec::new(alloc))
-        } else {
-            None
-        };
         let writer = written(BufWriter::new(alloc, self.rt.stdout()))?;
         let mut source = Source::new(file.as_bytes(), text);
         let mut lines = Lines {
@@ -411,7 +387,6 @@ impl<'c, 't> Checking<'c, 't> {
             source: &mut source,
             mender,
             collects,
-            held,
             fixes,
             writer,
         };
@@ -422,11 +397,7 @@ impl<'c, 't> Checking<'c, 't> {
             Some(mender) => mender.proposals,
             None => Vec::new(alloc),
         };
-        Ok(Checked {
-            counts,
-            held: lines.held.take(),
-            proposals,
-        })
+        Ok((counts, proposals))
     }
 
     /// What becomes of a text that is checked by these rows, if something is proposed for it.
@@ -560,11 +531,7 @@ impl<'c, 't> Checking<'c, 't> {
         text: &'t [u8],
     ) -> Result<Counts, Failure<'static>> {
         let looks = Pass::Looks { guesses: true };
-        let Looked {
-            counts,
-            changed,
-            ..
-        } = self.look_by_all(file, text, looks)?;
+        let Looked { counts, changed } = self.look_by_all(file, text, looks)?;
         if counts.findings == 0 {
             return Ok(counts);
         }
@@ -627,21 +594,19 @@ impl<'c, 't> Checking<'c, 't> {
         let looks = Pass::Looks {
             guesses: self.request.guesses,
         };
-        let Looked {
-            counts,
-            changed,
-            held,
-        } = self.look_by_all(file, text, looks)?;
+        self.report.hold(self.rt.alloc());
+        let Looked { counts, changed } = self.look_by_all(file, text, looks)?;
         if counts.findings == 0 {
             return Ok((text, counts));
         }
         let (new, changes) = self.change(file, text, changed)?;
-        let counts = match held {
-            Some(held) if line_feeds(new) == line_feeds(text) => {
-                self.write_held(&held, &changes, counts)?
-            }
-            _ => self.judge(file, new)?,
+        let Some(held) = self.report.held.take() else {
+            return Ok((new, self.judge(file, new)?));
         };
+        if line_feeds(new) != line_feeds(text) {
+            return Ok((new, self.judge(file, new)?));
+        }
+        let counts = self.write_held(&held, &changes, counts)?;
         Ok((new, counts))
     }
 
@@ -689,11 +654,7 @@ impl<'c, 't> Checking<'c, 't> {
     /// Checks the text of a file, and shows what would be changed in it.
     fn show_changes(&mut self, file: &'t str, text: &'t [u8]) -> Result<Counts, Failure<'static>> {
         let alloc = self.rt.alloc();
-        let Looked {
-            counts,
-            changed,
-            ..
-        } = self.look_by_all(file, text, Pass::Both)?;
+        let Looked { counts, changed } = self.look_by_all(file, text, Pass::Both)?;
         if let Some(changed) = self.some_changes(file, changed) {
             let diff = diff_of(alloc, file, text, &changed.text, &changed.changes)?;
             written(self.rt.stdout().write_all(&diff))?;

@@ -72,6 +72,8 @@ pub(crate) struct Report<'c> {
     /// How many findings each code has, in the order of the codes.
     counts: Vec<u64>,
     is_first: bool,
+    /// The findings of a text that is changed next, unless they are too many.
+    pub(crate) held: Option<Vec<Held>>,
 }
 
 /// How many findings a code has.
@@ -171,12 +173,22 @@ impl<'c> Report<'c> {
             collected: BTreeMap::new(alloc),
             counts,
             is_first: true,
+            held: None,
         })
     }
 
     /// Whether fingerprints are asked for.
-    pub(crate) fn needs_fingerprints(&self) -> bool {
+    fn needs_fingerprints(&self) -> bool {
         self.baseline.is_some() || matches!(self.style.format, Format::Json | Format::Sarif)
+    }
+
+    /// Holds the findings to come whose suggestions are collected, unless one may depend on those before.
+    pub(crate) fn hold(&mut self, alloc: Global) {
+        self.held = if self.needs_fingerprints() {
+            None
+        } else {
+            Some(Vec::new(alloc))
+        };
     }
 
     /// Takes note of a finding that was held. Returns whether it is reported.
@@ -256,8 +268,6 @@ pub(crate) struct Lines<'l, 's, 'r, 'c, 'k, 'w, 'm, W: Write> {
     pub(crate) mender: Option<Mender<'m>>,
     /// Whether suggestions are only collected, and nothing is counted or written.
     pub(crate) collects: bool,
-    /// The findings so far, if suggestions are collected, unless there are too many.
-    pub(crate) held: Option<Vec<Held>>,
     /// What is known of the changes of the findings to come, the last first.
     pub(crate) fixes: Vec<Mended>,
     pub(crate) writer: W,
@@ -339,7 +349,7 @@ impl<W: Write> Lines<'_, '_, '_, '_, '_, '_, '_, W> {
         spot: &Spot<'_>,
         is_ignored: bool,
     ) -> Result<(), AllocError> {
-        let Some(mut held) = self.held.take() else {
+        let Some(mut held) = self.report.held.take() else {
             return Ok(());
         };
         if held.len() >= MOST_HELD {
@@ -352,7 +362,7 @@ impl<W: Write> Lines<'_, '_, '_, '_, '_, '_, '_, W> {
             is_ignored,
             text: self.formatted(finding, spot, 0)?,
         })?;
-        self.held = Some(held);
+        self.report.held = Some(held);
         Ok(())
     }
 
