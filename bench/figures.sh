@@ -17,6 +17,9 @@ measure() {
     python3 "$here/$script" "$@"
 }
 date -u '+%Y-%m-%d'
+measure program.py "$prefix/bin/config_value" --runs 5
+measure compare.py --prefix "$prefix"
+measure python.py "$package"
 # $programs is two words
 # shellcheck disable=SC2086
 {
@@ -26,6 +29,3 @@ date -u '+%Y-%m-%d'
     fi
     measure growth.py "$prefix/bin/config_value" $programs --runs 5
 }
-measure program.py "$prefix/bin/config_value" --runs 5
-measure compare.py --prefix "$prefix"
-measure python.py "$package"

@@ -16,7 +16,6 @@ import sys
 import tempfile
 
 from compare import build, head, load, run
-from growth import lines
 
 HERE = pathlib.Path(__file__).resolve().parent
 # a line of each kind, and one that is refused
@@ -24,12 +23,12 @@ KINDS = [
     b"suffix K", b"integer -010m", b"amount 7k", b"boolean Yes",
     b"name #F1b", b"attribute no-dim", b"color red ul blue", b"boolean maybe",
 ]
-# the name of an input, what makes the input of a size, and the size
+# the name of an input, and the lines that it has so often
 INPUTS = [
-    ("1,000,000 short lines", lines(b"integer 0x10k"), 1_000_000),
-    ("1,000,000 lines of every kind", lines(*KINDS), 1_000_000),
-    ("one line of 50 MB, zeros", lambda size: b"integer 0x" + b"0" * size + b"7\n", 50_000_000),
-    ("one line of 50 MB, `ul `", lambda size: b"color " + b"ul " * (size // 3) + b"\n", 50_000_000),
+    ("1,000,000 short lines", b"integer 0x10k\n", 1_000_000),
+    ("1,000,000 lines of every kind", b"\n".join([*KINDS, b""]), 1_000_000 // len(KINDS)),
+    ("one line of 50 MB, zeros", b"integer 0x" + b"0" * 50_000_000 + b"7\n", 1),
+    ("one line of 50 MB, `ul `", b"color " + b"ul " * 16_000_000 + b"\n", 1),
 ]
 
 
@@ -78,13 +77,13 @@ def main():
     arguments = arguments.parse_args()
     crate = build.built()
     programs = [str(crate / "upstream"), *(os.path.abspath(program) for program in arguments.program)]
-    names = ["the Rust crate", *arguments.program]
+    names = ["the Rust crate", *(pathlib.Path(program).name for program in arguments.program)]
     before, table = load(), []
     with tempfile.TemporaryDirectory() as folder:
         measuring, file = f"{folder}/usage", f"{folder}/input"
         run(*shlex.split(os.environ.get("CC", "cc")), "-O2", HERE / "usage.c", "-o", measuring)
-        for what, made, size in INPUTS:
-            pathlib.Path(file).write_bytes(made(size))
+        for what, part, times in INPUTS:
+            pathlib.Path(file).write_bytes(part * times)
             wanted = answers(programs[0], file)
             for name, program in zip(names, programs):
                 if answers(program, file) != wanted:
