@@ -143,6 +143,7 @@ def files(folders, work):
 
 def main():
     folders = sys.argv[1:]
+    print(f"{'microseconds':24}", "    plain", *("  package" for _ in folders))
     for name, statement in ROWS.items():
         times = [microseconds("", PLAIN, statement), *(microseconds(it, OF_PACKAGE, statement) for it in folders)]
         print(f"{name:24}", *(f"{time:9.2f}" for time in times))
