@@ -1,9 +1,10 @@
 #!/bin/sh
 # Measures what install.sh has put into PREFIX, by each script here in turn: sh bench/figures.sh PREFIX > bench/figures.txt
 #
-# NEWER_GITS may name a folder of compare/newer_gits.py: then files are measured beside its Git of sid too. The machine
-# should do nothing else. It takes half an hour.
+# NEWER_GITS may name a folder of compare/newer_gits.py: then files are measured beside its Git of sid too. RUNS is how
+# often a run is measured, or 5. The machine should do nothing else.
 set -eu
+runs=${RUNS:-5}
 here=$(CDPATH='' cd -- "$(dirname -- "$0")" && pwd)
 prefix=$(CDPATH='' cd -- "$1" && pwd)
 package=$(dirname -- "$(find "$prefix" -type d -path '*packages/gix_config_value' | head -n 1)")
@@ -17,15 +18,15 @@ measure() {
     python3 "$here/$script" "$@"
 }
 date -u '+%Y-%m-%d'
-measure program.py "$prefix/bin/config_value" --runs 5
+measure program.py "$prefix/bin/config_value" --runs "$runs"
 measure compare.py --prefix "$prefix"
 measure python.py "$package"
 # $programs is two words
 # shellcheck disable=SC2086
 {
-    measure files.py $programs --prefix "$prefix" --package "$package"
+    measure files.py $programs --prefix "$prefix" --package "$package" --runs "$runs"
     if [ -n "${NEWER_GITS:-}" ]; then
-        (PATH="$NEWER_GITS/sid:$PATH" measure files.py $programs)
+        (PATH="$NEWER_GITS/sid:$PATH" && measure files.py $programs --runs "$runs")
     fi
-    measure growth.py "$prefix/bin/config_value" $programs --runs 5
+    measure growth.py "$prefix/bin/config_value" $programs --runs "$runs"
 }
