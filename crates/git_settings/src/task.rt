@@ -201,9 +201,6 @@ fn edits(options: &Options<'_>) -> bool {
 
 /// The action of the one older flag, or that of this number of words without a flag.
 fn older_action<'a>(options: &Options<'a>) -> Result<Counted, Misuse<'a>> {
-    if edits(options) {
-        return Err(error("edit is not offered: ask git config"));
-    }
     let mut found: Option<(&'static str, Counted)> = None;
     for given in &options.given {
         let Some(counted) = action_of(given.name) else {
@@ -218,6 +215,9 @@ fn older_action<'a>(options: &Options<'a>) -> Result<Counted, Misuse<'a>> {
             }
             _ => found = Some((given.name, counted)),
         }
+    }
+    if found.is_none() && edits(options) {
+        return Err(error("edit is not offered: ask git config"));
     }
     match (found, options.words.as_slice()) {
         (Some((_, counted)), _) => Ok(counted),
