@@ -139,7 +139,7 @@ between_blanks {start = start} {spelled = spelled} {ending = ending} run all s =
     ap (λ n. take n start) count ∙ ap (take (length passed.front)) whole
     ∙ take-append_seam passed.front passed.gap ∙ sym (spelled_is more)
 
-plain_is_unmarked : (front : List ℕ) → list_all is_plain_byte front ≡ true → list_all is_unmarked front ≡ true
+pub plain_is_unmarked : (front : List ℕ) → list_all is_plain_byte front ≡ true → list_all is_unmarked front ≡ true
 plain_is_unmarked [] all = refl
 plain_is_unmarked (b ∷ front) all =
     let (here, more) = and_parts (is_plain_byte b) (list_all is_plain_byte front) all in
@@ -154,7 +154,7 @@ unmarked_behind front rest all = rw (list_all-append is_unmarked front rest, pla
 is_unmarked_byte : (b : ℕ) → b ≢ 34 → b ≢ 92 → is_unmarked b ≡ true
 is_unmarked_byte b not_quote not_backslash = grind (arith, nat_tests)
 
-unmarked_text : (text : List ℕ) → ¬ (Contains text 34) → ¬ (Contains text 92) → list_all is_unmarked text ≡ true
+pub unmarked_text : (text : List ℕ) → ¬ (Contains text 34) → ¬ (Contains text 92) → list_all is_unmarked text ≡ true
 unmarked_text [] no_quote no_backslash = refl
 unmarked_text (b ∷ text) no_quote no_backslash =
     let first : Contains (b ∷ text) b = (0, omega arith, refl) in
@@ -163,8 +163,8 @@ unmarked_text (b ∷ text) no_quote no_backslash =
     (λ has. no_backslash (Contains-append_right (b ∷ []) text 92 has)) in
     rw (here, more) refl
 
-pub unmarked_start : {raw blanks start : List ℕ} → Run is_blank raw blanks start → ¬ (Contains raw 34)
-    → ¬ (Contains raw 92) → list_all is_unmarked start ≡ true
-unmarked_start {blanks = blanks} {start = start} run no_quote no_backslash =
-    unmarked_text start (λ has. no_quote (rw run.joined (Contains-append_right blanks start 34 has)))
-    (λ has. no_backslash (rw run.joined (Contains-append_right blanks start 92 has)))
+pub unmarked_after : {text : List ℕ} (front rest : List ℕ) → text ≡ front ++ rest → list_all is_unmarked text ≡ true
+    → list_all is_unmarked rest ≡ true
+unmarked_after front rest joined all =
+    (and_parts (list_all is_unmarked front) (list_all is_unmarked rest)
+    (rw (joined, list_all-append is_unmarked front rest) at all)).1

@@ -1,6 +1,6 @@
 -- The reader, item by item.
-use Rattle.std.proofs.Common.{◌≡◌, ◌≢◌, ℕ, ◌+◌, true, false, List, [], ◌∷◌, Option, Some, None, Result, Ok}
-use Rattle.std.proofs.Common.{Err, ap, ◌∙◌, arith}
+use Rattle.std.proofs.Common.{◌≡◌, ◌≢◌, ℕ, ◌+◌, true, false, List, [], ◌∷◌, Option, Some, None, Ok}
+use Rattle.std.proofs.Common.{ap, ◌∙◌, arith, refl, option_map}
 use Rattle.std.proofs.lemmas.Bool.Decides.{nat_tests}
 use Rattle.std.specs.Char.{is_ascii_alphabetic}
 use Rattle.config_file.specs.declared.errors.FileError.{FileError}
@@ -10,9 +10,12 @@ use Rattle.config_file.specs.declared.reader.Entries as reader
 use Rattle.config_file.specs.Bytes.{is_blank, is_comment_sign}
 use Rattle.config_file.specs.Header.{Section, HeaderStops, fault_at}
 use Rattle.config_file.specs.File as file
-use Rattle.config_file.specs.File.{Entry, TakesEntry, EntryStops, Reads, begins_item}
-use Rattle.config_file.specs.Left.{HasLeft, GivesEntry}
-use Rattle.config_file.specs.Views.{entry_of}
+use Rattle.config_file.specs.File.{Entry, TakesEntry, EntryStops, Reads, begins_item, entry_at}
+use Rattle.config_file.specs.Left.{Advances, HasLeft, GivesEntry, last_entry}
+use Rattle.config_file.specs.Reading.Ends.{EndsEntryAs}
+use Rattle.config_file.specs.Views.{entry_of, section_of}
+use Rattle.config_file.specs.declared.entry.EntryForm.{EntryForm}
+use Rattle.config_file.specs.declared.entry.EntryForm.TheVariants.{Alone, Plain, Marked, Refused}
 
 -- a text that is refused with an error of this line and this fault is refused with an equal error
 pub refused_as : {section : Option Section} {line at_line : ℕ} {fault : FileFault} {text : List ℕ} (error : FileError)
@@ -36,13 +39,43 @@ at_entry left error at e letter taken h = rw e (file.entry letter (rw e at taken
 pub none_left : {section : Option Section} {line : ℕ} (at : List ℕ) → at ≡ [] → Reads section line at [] None
 none_left at e = rw e file.ends
 
--- a reader that has what a later one has left returns what the later one returns
-pub gives_from : (old mid : reader.Entries) (result : Result code.Entry FileError) (new : reader.Entries)
+-- the reader is in the same section, so many lines further
+abbrev pub IsPast : reader.Entries → ℕ → reader.Entries → Type 0
+IsPast old lines new = (new.section ≡ old.section) × (new.line ≡ old.line + lines)
+
+past_entry : {b lines : ℕ} {rest : List ℕ} {value : Option (List ℕ)} (old new : reader.Entries)
+    → old.rest.now ≡ b ∷ rest → is_ascii_alphabetic b ≡ true → IsPast old lines new
+    → TakesEntry old.rest.now new.key.now value lines new.rest.now → (left : List Entry) (error : Option FileError)
+    → HasLeft new left error
+    → HasLeft old (entry_at (option_map section_of new.section) new.key.now value new.line ∷ left) error
+past_entry old new is letter (section, line) taken left error h =
+    rw (section, line) (at_entry left error old.rest.now is letter taken (rw (section, line) at h))
+
+-- the reader advances behind the entry that it has taken
+pub advances_here : {b : ℕ} {rest : List ℕ} (form : EntryForm) (lines : ℕ) (old new : reader.Entries)
+    → old.rest.now ≡ b ∷ rest → is_ascii_alphabetic b ≡ true → ¬ (form ≡ Refused) → IsPast old lines new
+    → EndsEntryAs form old.rest.now new.key.now new.raw.now lines new.rest.now → Advances old (Some form) new
+advances_here Alone lines old new is letter some past (taken, fits) = (fits, past_entry old new is letter past taken)
+advances_here Plain lines old new is letter some past (taken, fits) = (fits, past_entry old new is letter past taken)
+advances_here Marked lines old new is letter some past (taken, fits) = (fits, past_entry old new is letter past taken)
+advances_here Refused lines old new is letter some past stops = absurd (some refl)
+
+-- a reader that has what a later one has left advances as the later one does
+pub advances_from : (form : EntryForm) (old mid new : reader.Entries)
     → ((left : List Entry) (error : Option FileError) → HasLeft mid left error → HasLeft old left error)
-    → GivesEntry mid (Some result) new → GivesEntry old (Some result) new
-gives_from old mid (Ok entry) new same gives =
-    λ left error h. same (entry_of entry ∷ left) error (gives left error h)
-gives_from old mid (Err error) new same gives = (same [] (Some error) gives.0, gives.1)
+    → Advances mid (Some form) new → Advances old (Some form) new
+advances_from Alone old mid new same (fits, more) = (fits, λ left error h. same _ error (more left error h))
+advances_from Plain old mid new same (fits, more) = (fits, λ left error h. same _ error (more left error h))
+advances_from Marked old mid new same (fits, more) = (fits, λ left error h. same _ error (more left error h))
+advances_from Refused old mid new same (stops, none) = (same [] _ stops, none)
+
+-- an entry is given as the reader advances
+pub gives_entry : (form : EntryForm) (old new : reader.Entries) (entry : code.Entry) → ¬ (form ≡ Refused)
+    → entry_of entry ≡ last_entry new form → Advances old (Some form) new → GivesEntry old (Some (Ok entry)) new
+gives_entry Alone old new entry some is (fits, more) = rw is more
+gives_entry Plain old new entry some is (fits, more) = rw is more
+gives_entry Marked old new entry some is (fits, more) = rw is more
+gives_entry Refused old new entry some is stops = absurd (some refl)
 
 -- a byte at which the code finds no item does not begin an item
 pub begins_none : (b : ℕ) → is_blank b ≡ false → b ≢ 10 → is_comment_sign b ≡ false → b ≢ 91

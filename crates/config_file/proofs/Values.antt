@@ -1,6 +1,6 @@
 -- The scan of a value.
 use Rattle.std.proofs.Common.{◌≡◌, ◌≢◌, ℕ, ◌+◌, Bool, true, false, not, List, [], ◌∷◌, ◌++◌, Option, Some}
-use Rattle.std.proofs.Common.{None, is_some, refl, sym, ap, ◌∙◌, append_assoc, append-nil, arith, inl, inr}
+use Rattle.std.proofs.Common.{None, is_some, refl, sym, ap, ◌∙◌, append_assoc, append-nil, arith, inl, inr, subst}
 use Rattle.std.proofs.Common.{◌⊎◌, ◌==◌}
 use Rattle.std.proofs.lemmas.List.{append_cancel_right}
 use Rattle.std.proofs.lemmas.Option.{none-some}
@@ -15,9 +15,10 @@ use Rattle.config_file.specs.Value.{ends_inside, ends_at_backslash, quote, escap
 use Rattle.config_file.specs.Value.{continued_after_return, blank, plain, IsPart, EndsValue, IsNoEscape}
 use Rattle.config_file.specs.Value.{line_feeds, escape, TakesValue, closed, open_end, ValueStops, nul}
 use Rattle.config_file.specs.Value.{unclosed, unclosed_open_end, no_escape}
-use Rattle.config_file.specs.Reading.Scans.{PassedValue, OnOneLine, EndsScan, Escapes, letter, line}
-use Rattle.config_file.specs.Reading.Scans.{line_after_return, begins_with_letter, goes_on, is_plain_byte}
-use Rattle.config_file.proofs.LineEnds.{line_feeds_append, line_feeds_none, all_more}
+use Rattle.config_file.specs.Reading.Scans.{PassedValue, EndsScan, Escapes, letter, line}
+use Rattle.config_file.specs.Reading.Scans.{line_after_return, begins_with_mark, goes_on, is_plain_byte}
+use Rattle.config_file.specs.Runs.{Run, StopsRun}
+use Rattle.config_file.proofs.LineEnds.{line_feeds_none, all_more}
 
 pub passed_none : (text : List ℕ) → PassedValue text false text
 passed_none text = record { raw = []; value = []; held = []; joined = refl; extends = λ more spelled o h. h }
@@ -85,56 +86,6 @@ passed_run {after = after} q at (b ∷ bytes) passed e all =
     let (on, not_quote, not_backslash) = plain_passes q b here in
     passed_run q (bytes ++ after) bytes (passed_byte q at passed e on not_quote not_backslash) refl more
 
-pub one_line_none : (text : List ℕ) → OnOneLine text text
-one_line_none text = ([], refl, refl)
-
-one_line_more : {text at rest : List ℕ} (piece : List ℕ) → OnOneLine text at → at ≡ piece ++ rest
-    → list_all is_comment_byte piece ≡ true → OnOneLine text rest
-one_line_more {rest = rest} piece (raw, joined, none) e others =
-    let sum = line_feeds_append raw piece in
-    let no = line_feeds_none piece others in
-    (raw ++ piece, joined ∙ rw e (sym (append_assoc raw piece rest)), omega arith)
-
-pub one_line_byte : {text at rest : List ℕ} (b : ℕ) → OnOneLine text at → at ≡ b ∷ rest → b ≢ 10
-    → OnOneLine text rest
-one_line_byte b passed e other = one_line_more (b ∷ []) passed e (grind (arith, nat_tests))
-
-plain_along : (b : ℕ) → is_plain_byte b ≡ true → is_comment_byte b ≡ true
-plain_along b is = grind (arith, nat_tests)
-
-pub one_line_run : {text at rest : List ℕ} (bytes : List ℕ) → OnOneLine text at → at ≡ bytes ++ rest
-    → list_all is_plain_byte bytes ≡ true → OnOneLine text rest
-one_line_run bytes passed e all =
-    one_line_more bytes passed e (all_more is_plain_byte is_comment_byte plain_along bytes all)
-
-backslash_along : (b : ℕ) → b ≡ 92 → b ≢ 10
-backslash_along b is e = grind (arith, nat_tests)
-
-letter_along : (b c : ℕ) → escape b ≡ Some c → b ≢ 10
-letter_along b c found is = none-some c (rw is at found)
-
--- an escape that begins with a letter is on one line
-pub one_line_escape : {text rest after : List ℕ} {b : ℕ} (at : List ℕ) → OnOneLine text at → at ≡ b ∷ rest → b ≡ 92
-    → Escapes rest after → not (begins_with_letter rest) ≡ false → OnOneLine text after
-one_line_escape {b = b} at passed e is (letter {e = l} {c = c} s found) begins =
-    one_line_byte l (one_line_byte b passed e (backslash_along b is)) s (letter_along l c found)
-one_line_escape at passed e is (line s end) begins = absurd (true≢false (rw (s, end) at begins))
-one_line_escape at passed e is (line_after_return s return end) begins =
-    absurd (true≢false (rw (s, return) at begins))
-
--- the bytes that `before` returns are on that line
-pub one_line_part : {text at : List ℕ} (raw : List ℕ) → OnOneLine text at → text ≡ raw ++ at
-    → line_feeds raw ≡ 0
-one_line_part {at = at} raw (front, joined, none) same =
-    rw (append_cancel_right front raw at (sym joined ∙ same)) at none
-
-pub quote_along : (b : ℕ) → b ≡ 34 → b ≢ 10
-quote_along b is e = grind (arith, nat_tests)
-
-pub goes_on_along : (q : Bool) (b : ℕ) → goes_on q b ≡ true → b ≢ 10
-goes_on_along true b on = grind (arith, nat_tests)
-goes_on_along false b on = grind (arith, nat_tests)
-
 passed_part : {text at : List ℕ} (q : Bool) → (passed : PassedValue text q at) → IsPart q passed.raw
 passed_part true passed =
     (passed.value, rw (append-nil passed.raw) at (passed.extends [] _ inside ends_inside))
@@ -189,6 +140,34 @@ ends_closed true at raw passed h off e joined = cc
 ends_closed false at raw passed h off e joined =
     let (value, spells) = part false raw passed joined in
     closed joined spells (ends_value at h e)
+
+plain_along : (b : ℕ) → is_plain_byte b ≡ true → is_comment_byte b ≡ true
+plain_along b is = grind (arith, nat_tests)
+
+-- plain bytes end no line
+plain_line : (raw : List ℕ) → list_all is_plain_byte raw ≡ true → line_feeds raw ≡ 0
+plain_line raw all = line_feeds_none raw (all_more is_plain_byte is_comment_byte plain_along raw all)
+
+plain_scan_ends : (rest : List ℕ) → StopsRun is_plain_byte rest → begins_with_mark rest ≡ false → EndsScan false rest
+plain_scan_ends [] stops none = tt
+plain_scan_ends (b ∷ rest) stops none = grind (arith, nat_tests)
+
+-- the plain bytes at the start of a text have been passed
+pub passed_plain : {text raw rest : List ℕ} → Run is_plain_byte text raw rest → PassedValue text false rest
+passed_plain {text = text} {raw = raw} run = passed_run false text raw (passed_none text) run.joined run.pass
+
+-- plain bytes that no mark follows are a value, or are refused at a NUL
+pub takes_plain : {text raw rest : List ℕ} → Run is_plain_byte text raw rest → begins_with_mark rest ≡ false
+    → fault_at rest ≡ BadLine → TakesValue text raw 0 rest
+takes_plain {text = text} {raw = raw} {rest = rest} run none bad =
+    subst (λ lines. TakesValue text raw lines rest) (plain_line raw run.pass)
+    (ends_closed false rest raw (passed_plain run) (plain_scan_ends rest run.longest none) refl bad run.joined)
+
+pub stops_plain : {text raw rest : List ℕ} → Run is_plain_byte text raw rest → fault_at rest ≡ Nul
+    → ValueStops text 0 (fault_at rest)
+stops_plain {text = text} {raw = raw} {rest = rest} run is =
+    rw is (subst (λ lines. ValueStops text lines Nul) (plain_line raw run.pass)
+    (ends_at_nul false rest raw (passed_plain run) refl is run.joined))
 
 pub stops_after_backslash : {text rest : List ℕ} (q : Bool) (at raw : List ℕ) → PassedValue text q at
     → at ≡ 92 ∷ rest → IsNoEscape rest → text ≡ raw ++ at

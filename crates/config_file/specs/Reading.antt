@@ -1,4 +1,5 @@
 pub mod Scans
+pub mod Ends
 pub mod Spellings
 pub mod Walks
 pub mod Places

@@ -11,7 +11,7 @@ ghost use Rattle.config_file.specs.Value.{line_feeds};
 ghost use Rattle.config_file.specs.Reading.Scans as scans;
 ghost use Rattle.config_file.specs.Reading.Scans.{passes, block};
 ghost use Rattle.config_file.specs.declared.bytes.Class.TheVariants.{Name, Key, Blank, Space, Comment, Unescaped};
-ghost use Rattle.config_file.specs.declared.bytes.Class.TheVariants.{Word, Plain};
+ghost use Rattle.config_file.specs.declared.bytes.Class.TheVariants.{Word, Plain, InQuotes};
 
 use std::simd::prelude::*;
 
@@ -90,6 +90,14 @@ fn is_plain_byte(byte: u8) -> bool
     is_text_byte(byte) && !is_comment_sign(byte) && byte != b'"' && byte != b'\\'
 }
 
+/// Whether this byte spells itself in quotes.
+#[inline]
+fn is_plain_in_quotes(byte: u8) -> bool
+    ensures { result ≡ spec.is_plain_in_quotes byte }
+{
+    is_text_byte(byte) && byte != b'"' && byte != b'\\'
+}
+
 /// Whether the text is empty, or begins with LF or with CR LF.
 pub(crate) fn is_at_line_end(text: &[u8]) -> bool
     ensures { IsTrue result ↔ (IsAtLineEnd text.now) }
@@ -120,6 +128,8 @@ pub enum Class {
     Word,
     /// All bytes after which a value goes on in quotes and outside them, but quotes and backslashes.
     Plain,
+    /// All bytes that spell themselves in quotes: all but LF, NUL, quotes and backslashes.
+    InQuotes,
 }
 
 #[inline(always)]
@@ -135,6 +145,7 @@ fn is_in(class: Class, byte: u8) -> bool
         Class::Unescaped => byte != b'\\',
         Class::Word => is_word_byte(byte),
         Class::Plain => is_plain_byte(byte),
+        Class::InQuotes => is_plain_in_quotes(byte),
     }
 }
 
@@ -253,6 +264,19 @@ fn plain_run(text: &[u8], at: usize) -> usize
     first_set(stops.to_bitmask())
 }
 
+#[inline(always)]
+fn in_quotes_run(text: &[u8], at: usize) -> usize
+    requires { at + LANES ≤ length text.now }
+    ensures { result ≡ prefix_len (passes InQuotes) (block at text.now) }
+{
+    let bytes = u8x16::from_slice(&text[at..]);
+    let stops = bytes.simd_eq(u8x16::splat(0))
+        | bytes.simd_eq(u8x16::splat(b'\n'))
+        | bytes.simd_eq(u8x16::splat(b'"'))
+        | bytes.simd_eq(u8x16::splat(b'\\'));
+    first_set(stops.to_bitmask())
+}
+
 /// How many bytes of a class come first at this place, among as many as are looked at at once.
 #[inline(always)]
 fn block_run(text: &[u8], at: usize, class: Class) -> usize
@@ -268,6 +292,7 @@ fn block_run(text: &[u8], at: usize, class: Class) -> usize
         Class::Unescaped => unescaped_run(text, at),
         Class::Word => word_run(text, at),
         Class::Plain => plain_run(text, at),
+        Class::InQuotes => in_quotes_run(text, at),
     }
 }
 

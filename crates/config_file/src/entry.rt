@@ -3,13 +3,16 @@ ghost use Rattle.std.specs.Prelude.{◌↔◌, IsTrue, ◌≡◌, ℕ, List, ◌
 ghost use Rattle.std.specs.Prelude.{option_map};
 ghost use Rattle.std.specs.Char.{to_ascii_lowercase};
 ghost use Rattle.config_file.specs.Listing.{IsListed, IsListedSection};
+ghost use Rattle.config_file.specs.Bytes.{is_space};
 ghost use Rattle.config_file.specs.File.{TakesEntry, EntryStops};
+ghost use Rattle.config_file.specs.Reading.Ends.{IsEntryEnd, value_as};
+ghost use Rattle.config_file.specs.Runs.{Run};
 ghost use Rattle.config_file.specs.Views.{section_of, value_of};
 
 use crate::bytes::{Class, after_byte, is_at_line_end, run};
-use crate::errors::{Stop, stop_at};
+use crate::errors::{Stop, fault_at};
 use crate::section::Section;
-use crate::value::{Taken, Value, read_value};
+use crate::value::{Value, read_value};
 use std::alloc::{AllocError, Global};
 
 /// An entry, whose parts are borrowed from the text that it was read from.
@@ -51,35 +54,107 @@ pub struct EntryParts<'a> {
     pub rest: &'a [u8],
 }
 
-/// Reads the entry at the start of the text. It fails where the text is no entry.
+/// How an entry is written, as far as that decides how the text of its value is found.
+#[derive(Clone, Copy, Debug)]
+pub enum EntryForm {
+    /// A key alone.
+    Alone,
+    /// A value that has no quote and no backslash.
+    Plain,
+    /// A value that has a quote or a backslash.
+    Marked,
+    /// What is no entry, so that Git stops.
+    Refused,
+}
+
+/// How the entry at the start of a text ends.
+#[derive(Clone, Copy)]
+pub(crate) struct EntryEnd<'a> {
+    /// Its key.
+    pub key: &'a [u8],
+    /// The bytes of its value, if it is `Plain` or `Marked`.
+    pub raw: &'a [u8],
+    /// How many line ends it continues over, or how many precede the place where it is refused.
+    pub lines: usize,
+    /// What follows it, or the place where it is refused.
+    pub rest: &'a [u8],
+    /// How it is written.
+    pub form: EntryForm,
+}
+
+/// What follows the spaces and TABs at the start of a text.
 #[inline(always)]
+fn past_spaces(text: &[u8]) -> &[u8]
+    ensures { (spaces : List ℕ) × Run is_space text.now spaces result.now }
+{
+    match text {
+        // Most keys have one space before their `=`.
+        [b' ', b'=', ..] => &text[1..],
+        _ => run(text, Class::Space).1,
+    }
+}
+
+/// Reads the entry at the start of the text.
+#[inline(always)]
+pub(crate) fn read_end(text: &[u8]) -> EntryEnd<'_>
+    ensures { IsEntryEnd text.now result }
+{
+    let (key, spaced) = run(text, Class::Key);
+    let rest = past_spaces(spaced);
+    if let Some(after) = after_byte(b'=', rest) {
+        let end = read_value(after);
+        return EntryEnd {
+            key,
+            raw: end.raw,
+            lines: end.lines,
+            rest: end.rest,
+            form: end.form,
+        };
+    }
+    let form = if is_at_line_end(rest) {
+        EntryForm::Alone
+    } else {
+        EntryForm::Refused
+    };
+    EntryEnd {
+        key,
+        raw: b"",
+        lines: 0,
+        rest,
+        form,
+    }
+}
+
+/// The value of an entry of this form, whose value has these bytes if it has one.
+#[inline(always)]
+pub(crate) fn value_as(form: EntryForm, raw: &[u8]) -> Option<Value<'_>>
+    ensures { value_of result ≡ value_as form raw.now }
+{
+    match form {
+        EntryForm::Plain | EntryForm::Marked => Some(Value { raw }),
+        EntryForm::Alone | EntryForm::Refused => None,
+    }
+}
+
+/// Reads the entry at the start of the text. It fails where the text is no entry.
 pub fn read_entry(text: &[u8]) -> Result<EntryParts<'_>, Stop>
     ensures { MatchResult result
         (λ parts. TakesEntry text.now parts.key.now (value_of parts.value) parts.lines parts.rest.now)
         (λ stop. EntryStops text.now stop.lines stop.fault) }
 {
-    let (key, spaced) = run(text, Class::Key);
-    let (_, rest) = run(spaced, Class::Space);
-    if is_at_line_end(rest) {
-        return Ok(EntryParts {
-            key,
-            value: None,
-            lines: 0,
-            rest,
+    let end = read_end(text);
+    if matches!(end.form, EntryForm::Refused) {
+        return Err(Stop {
+            lines: end.lines,
+            fault: fault_at(end.rest),
         });
     }
-    match after_byte(b'=', rest) {
-        Some(after) => {
-            let Taken { value, lines, rest } = read_value(after)?;
-            Ok(EntryParts {
-                key,
-                value: Some(value),
-                lines,
-                rest,
-            })
-        }
-        None => Err(stop_at(rest)),
-    }
+    Ok(EntryParts {
+        key: end.key,
+        value: value_as(end.form, end.raw),
+        lines: end.lines,
+        rest: end.rest,
+    })
 }
 
 impl<'a> Entry<'a> {

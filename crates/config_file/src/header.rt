@@ -86,21 +86,17 @@ fn quoted(text: &[u8]) -> Result<(&[u8], &[u8]), &[u8]>
     ensures { MatchResult result (λ p. TakesSubsection text.now p.0.now p.1.now)
         (λ rest. StopsInSubsection text.now rest.now) }
 {
-    let mut at = text;
-    'bytes: while let Some((byte, rest)) = split(at) {
+    let (_, mut at) = run(text, Class::InQuotes);
+    'pieces: while let Some((byte, rest)) = split(at) {
         if byte == b'"' {
             return Ok((before(text, at), rest));
         }
-        if !is_text_byte(byte) {
+        if byte != b'\\' {
             return Err(at);
         }
-        if byte == b'\\' {
-            match after_escaped(rest) {
-                Some(after) => at = after,
-                None => return Err(rest),
-            }
-        } else {
-            at = rest;
+        match after_escaped(rest) {
+            Some(after) => at = run(after, Class::InQuotes).1,
+            None => return Err(rest),
         }
     }
     Err(at)

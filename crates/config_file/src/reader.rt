@@ -1,12 +1,12 @@
 //! The reader: the entries of a text, one by one.
-ghost use Rattle.std.specs.Prelude.{◌≡◌, ◌+◌, ◌<◌, ◌≤◌, ◌^◌, ◌↔◌, IsTrue, None, Some, Option, [], length};
+ghost use Rattle.std.specs.Prelude.{◌≡◌, ◌+◌, ◌<◌, ◌≤◌, ◌^◌, ◌↔◌, IsTrue, None, Some, Option, IfSome, [], length};
 ghost use Rattle.std.specs.Prelude.{option_map, MatchOption};
 ghost use Rattle.config_file.specs.File.{Begins, after_mark, IsPartOfMark};
 ghost use Rattle.config_file.specs.Bytes.{BeginsWithLetter};
 
 use crate::bytes::{Class, is_at_line_end, is_blank, is_comment_sign, run, split};
-use crate::entry::{Entry, read_entry};
-use crate::errors::{FileError, Stop, fault_at};
+use crate::entry::{Entry, EntryForm, read_end, value_as};
+use crate::errors::{FileError, FileFault, Stop, fault_at};
 use crate::header::read_header;
 use crate::section::Section;
 
@@ -30,6 +30,11 @@ pub struct Entries<'a> {
     section: Option<Section<'a>>,
     line: usize,
     rest: &'a [u8],
+    /// The key of the last entry, and the bytes of its value.
+    key: &'a [u8],
+    raw: &'a [u8],
+    /// Why the text is refused, if it is.
+    fault: FileFault,
     ghost line_fits: { line + length rest.now < 2 ^ 63 + 2 },
 }
 
@@ -57,7 +62,9 @@ fn is_part_of_mark(text: &[u8]) -> bool
 }
 
 impl<'a> Entries<'a> {
-    ghost use Rattle.config_file.specs.Left.{GivesEntry, HasLeft};
+    ghost use Rattle.config_file.specs.Left.{Advances, HasLeft, last_entry, last_error};
+    ghost use Rattle.config_file.specs.declared.entry.EntryForm.TheVariants.{Refused};
+    ghost use Rattle.config_file.specs.Views.{entry_of};
 
     /// The entries of a text, after its byte order mark if it has one.
     pub fn new(text: &'a [u8]) -> Self
@@ -65,23 +72,26 @@ impl<'a> Entries<'a> {
         ensures begins { Begins text.now result.line result.rest.now }
     {
         if let Some(rest) = after_mark(text) {
-            return Self {
-                section: None,
-                line: 1,
-                rest,
-            };
+            return Self::at(None, 1, rest);
         }
         if is_part_of_mark(text) {
-            return Self {
-                section: None,
-                line: 2,
-                rest: text,
-            };
+            return Self::at(None, 2, text);
         }
+        Self::at(None, 1, text)
+    }
+
+    /// The entries of the rest of a text, of which none has been read.
+    fn at(section: Option<Section<'a>>, line: usize, rest: &'a [u8]) -> Self
+        requires { line + length rest.now < 2 ^ 63 + 2 }
+        ensures { (result.section ≡ section.entry) × (result.line ≡ line) × (result.rest ≡ rest.entry) }
+    {
         Self {
-            section: None,
-            line: 1,
-            rest: text,
+            section,
+            line,
+            rest,
+            key: b"",
+            raw: b"",
+            fault: FileFault::BadLine,
         }
     }
 
@@ -94,11 +104,7 @@ impl<'a> Entries<'a> {
         if line > (1 << 63) + 1 - rest.len() {
             return None;
         }
-        Some(Self {
-            section,
-            line,
-            rest,
-        })
+        Some(Self::at(section, line, rest))
     }
 
     /// What [`Entries::resume`] goes on from: the last header, the line, and the rest of the text.
@@ -108,40 +114,109 @@ impl<'a> Entries<'a> {
         (self.section, self.line, self.rest)
     }
 
-    /// The entry that begins with the next byte, or why it is refused.
+    /// Goes on behind the next entry, and tells how it is written; or to the place where Git stops. Returns `None` at
+    /// the end of the text. [`Entries::entry`] is the entry, and [`Entries::error`] tells why Git stops. So an entry
+    /// that its caller passes by is not handed on.
+    ///
+    /// ```rust
+    /// use config_file::entry::EntryForm;
+    /// use config_file::reader::Entries;
+    ///
+    /// let mut entries = Entries::new(b"[core]\n\tbare\n\teditor = \"vi\"");
+    /// let form = entries.advance().expect(&rt, "an entry");
+    /// assert!(rt; matches!(form, EntryForm::Alone));
+    /// assert!(rt; entries.entry(form).has_key(b"bare"));
+    /// assert!(rt; matches!(entries.advance(), Some(EntryForm::Marked)));
+    /// assert!(rt; entries.advance().is_none());
+    /// ```
+    #[inline(never)]
+    pub fn advance(&mut self) -> Option<EntryForm>
+        ensures advances { Advances self.old result self.new }
+        ensures shorter { IfSome result (λ _. length self.new.rest.now < length self.old.rest.now) }
+    {
+        'items: while let Some((byte, rest)) = split(self.rest) {
+            if is_blank(byte) {
+                self.rest = rest;
+            } else if byte == b'\n' {
+                self.line += 1;
+                self.rest = rest;
+            } else if is_comment_sign(byte) {
+                self.rest = run(rest, Class::Comment).1;
+            } else if byte == b'[' {
+                match read_header(rest) {
+                    Ok((section, after)) => {
+                        self.section = Some(section);
+                        self.rest = after;
+                    }
+                    Err(stop) => return Some(self.refuse(stop)),
+                }
+            } else if byte.is_ascii_alphabetic() {
+                return Some(self.advance_here());
+            } else {
+                let fault = fault_at(self.rest);
+                return Some(self.refuse(Stop { lines: 0, fault }));
+            }
+        }
+        None
+    }
+
+    /// Goes on behind the entry that begins with the next byte, or ends the reading where it is refused.
     #[inline(always)]
-    fn entry_here(&mut self) -> Result<Entry<'a>, FileError>
+    fn advance_here(&mut self) -> EntryForm
         requires { BeginsWithLetter self.old.rest.now }
-        ensures gives { GivesEntry self.old (Some result) self.new }
+        ensures advances { Advances self.old (Some result) self.new }
         ensures shorter { length self.new.rest.now < length self.old.rest.now }
     {
-        match read_entry(self.rest) {
-            Ok(parts) => {
-                self.line += parts.lines;
-                self.rest = parts.rest;
-                Ok(Entry {
-                    section: self.section,
-                    key: parts.key,
-                    value: parts.value,
-                    line: self.line,
-                })
-            }
-            Err(stop) => Err(self.refused(stop)),
+        let end = read_end(self.rest);
+        if let EntryForm::Refused = end.form {
+            let fault = fault_at(end.rest);
+            return self.refuse(Stop {
+                lines: end.lines,
+                fault,
+            });
         }
+        self.line += end.lines;
+        self.rest = end.rest;
+        self.key = end.key;
+        self.raw = end.raw;
+        end.form
     }
 
     /// Ends the reading with an error.
-    fn refused(&mut self, stop: Stop) -> FileError
-        requires { self.old.line + stop.lines < 2 ^ 64 }
-        ensures line { result.line ≡ self.old.line + stop.lines }
-        ensures fault { result.fault ≡ stop.fault }
+    fn refuse(&mut self, stop: Stop) -> EntryForm
+        requires { self.old.line + stop.lines < 2 ^ 63 + 2 }
+        ensures line { self.new.line ≡ self.old.line + stop.lines }
+        ensures fault { self.new.fault ≡ stop.fault }
         ensures left { HasLeft self.new [] None }
         ensures end { self.new.rest.now ≡ [] }
+        ensures form { result ≡ Refused }
     {
         self.rest = &[];
+        self.line += stop.lines;
+        self.fault = stop.fault;
+        EntryForm::Refused
+    }
+
+    /// The last entry, which is written in this form.
+    #[inline(always)]
+    pub fn entry(&self, form: EntryForm) -> Entry<'a>
+        ensures { entry_of result ≡ last_entry self.now form }
+    {
+        Entry {
+            section: self.section,
+            key: self.key,
+            value: value_as(form, self.raw),
+            line: self.line,
+        }
+    }
+
+    /// Where and why Git stops, if it does.
+    pub fn error(&self) -> FileError
+        ensures { result ≡ last_error self.now }
+    {
         FileError {
-            line: self.line + stop.lines,
-            fault: stop.fault,
+            line: self.line,
+            fault: self.fault,
         }
     }
 }
@@ -160,29 +235,9 @@ impl<'a> Iterator for Entries<'a> {
     /// returns `None`.
     #[inline(always)]
     fn next(&mut self) -> Option<Result<Entry<'a>, FileError>> {
-        'items: while let Some((byte, rest)) = split(self.rest) {
-            if is_blank(byte) {
-                self.rest = rest;
-            } else if byte == b'\n' {
-                self.line += 1;
-                self.rest = rest;
-            } else if is_comment_sign(byte) {
-                self.rest = run(rest, Class::Comment).1;
-            } else if byte == b'[' {
-                match read_header(rest) {
-                    Ok((section, after)) => {
-                        self.section = Some(section);
-                        self.rest = after;
-                    }
-                    Err(stop) => return Some(Err(self.refused(stop))),
-                }
-            } else if byte.is_ascii_alphabetic() {
-                return Some(self.entry_here());
-            } else {
-                let fault = fault_at(self.rest);
-                return Some(Err(self.refused(Stop { lines: 0, fault })));
-            }
+        match self.advance()? {
+            EntryForm::Refused => Some(Err(self.error())),
+            form => Some(Ok(self.entry(form))),
         }
-        None
     }
 }

@@ -14,9 +14,10 @@ ghost use Rattle.config_file.specs.Reading.Adds.{AddsEntry, AddsNext, AddsOnce, 
 ghost use Rattle.config_file.specs.declared.scope.Scope.TheVariants.{Command};
 ghost use Rattle.config_file.specs.KeyView.{key_of};
 ghost use Rattle.config_file.specs.Listing.{IsListed};
+ghost use Rattle.config_file.specs.Reading.Ends.{FitsEntry};
 ghost use Rattle.config_file.specs.Views.{entry_of};
 
-use crate::entry::Entry;
+use crate::entry::{Entry, EntryForm};
 use crate::errors::FileError;
 use crate::files::{Content, Files};
 use crate::key::{Key, KeyError};
@@ -302,7 +303,6 @@ impl error::Error for GetError<'_, '_> {}
 
 impl<'t> Setting<'t> {
     /// The setting of an entry of a file, with the scope `Command`. It fails only if memory is refused.
-    #[inline(always)]
     pub fn of_entry(alloc: Global, file: &'t [u8], entry: Entry<'t>) -> Result<Self, AllocError>
         ensures entry { IfOk result (IsSettingOf (file.now, entry_of entry.entry)) }
         ensures scope { IfOk result (λ setting. setting.scope ≡ Command) }
@@ -310,8 +310,42 @@ impl<'t> Setting<'t> {
         Self::with_scope(alloc, Scope::Command, file, entry)
     }
 
-    /// The setting of an entry of a file of this scope.
+    /// The setting of an entry of a file of this scope, which was read in this form: [`Entries::advance`]. A plain value
+    /// need not be looked at for its marks again. It fails only if memory is refused.
+    ///
+    /// ```rust
+    /// use config_file::{Entries, Scope, Setting};
+    ///
+    /// let mut entries = Entries::new(b"[core]\n\teditor = vi # mine");
+    /// let form = entries.advance().expect(&rt, "an entry");
+    /// let setting = Setting::of_form(alloc, Scope::Local, b"config", entries.entry(form), form)?;
+    /// assert_eq!(rt; setting.text(), b"vi".as_slice());
+    /// ```
     #[inline(always)]
+    pub fn of_form(
+        alloc: Global,
+        scope: Scope,
+        file: &'t [u8],
+        entry: Entry<'t>,
+        form: EntryForm,
+    ) -> Result<Self, AllocError>
+        ensures entry { FitsEntry form (entry_of entry.entry) → IfOk result (IsSettingOf (file.now, entry_of entry.entry)) }
+        ensures scope { IfOk result (λ setting. setting.scope ≡ scope) }
+    {
+        let value = match (&entry.value, form) {
+            (None, _) => None,
+            (Some(value), EntryForm::Plain) => Some(CowSlice::Borrowed(value.trimmed())),
+            (Some(value), _) => Some(CowSlice::Owned(value.to_vec(alloc)?)),
+        };
+        Ok(Self {
+            scope,
+            file,
+            entry,
+            value,
+        })
+    }
+
+    /// The setting of an entry of a file of this scope.
     fn with_scope(
         alloc: Global,
         scope: Scope,

@@ -1,20 +1,21 @@
 //! The value of an entry.
-ghost use Rattle.std.specs.Prelude.{◌≡◌, ◌≢◌, ℕ, List, [], ◌∷◌, ◌≤◌, length, IfOk, IfSome, OnOk, MatchOption};
-ghost use Rattle.std.specs.Prelude.{MatchResult, false, reverse};
+ghost use Rattle.std.specs.Prelude.{◌≡◌, ◌≢◌, ℕ, List, [], ◌∷◌, ◌≤◌, length, true, false, IfOk, OnOk};
+ghost use Rattle.std.specs.Prelude.{MatchOption};
+ghost use Rattle.std.specs.Prelude.{MatchResult, reverse};
 ghost use Rattle.std.specs.Cow.{IsBorrowedSlice, cow_slice_items};
 ghost use Rattle.std.specs.List.{Contains, list_all, prefix_len};
-ghost use Rattle.std.specs.Option.{IsSome};
 ghost use Rattle.config_file.specs.Bytes.{backslash, double_quote, is_blank};
 ghost use Rattle.config_file.specs.Value as spec;
-ghost use Rattle.config_file.specs.Value.{TakesValue, ValueStops, IsNoEscape, SpellsValue, kept, Ending};
-ghost use Rattle.config_file.specs.Value.{line_feeds};
-ghost use Rattle.config_file.specs.Reading.Scans.{PassedValue, OnOneLine, EndsScan, Escapes, begins_with_letter, goes_on};
+ghost use Rattle.config_file.specs.Value.{IsNoEscape, SpellsValue, kept, Ending};
+ghost use Rattle.config_file.specs.Reading.Ends.{IsValueEnd};
+ghost use Rattle.config_file.specs.Reading.Scans.{PassedValue, EndsScan, Escapes, begins_with_mark, goes_on};
 ghost use Rattle.config_file.specs.Reading.Scans.{is_held_back, is_unmarked, unescape};
 
 use crate::bytes::{
     Class, after_byte, before, is_blank, is_comment_sign, is_text_byte, line_feeds, run, split,
 };
-use crate::errors::{FileFault, Stop, fault_at};
+use crate::entry::EntryForm;
+use crate::errors::{FileFault, fault_at};
 use std::alloc::{AllocError, Global};
 use std::borrow::CowSlice;
 
@@ -45,12 +46,17 @@ pub struct Value<'a> {
     pub raw: &'a [u8],
 }
 
-/// A value, how many line ends it continues over, and what follows it.
+/// How the value at the start of a text ends.
 #[derive(Clone, Copy)]
-pub(crate) struct Taken<'a> {
-    pub value: Value<'a>,
+pub(crate) struct ValueEnd<'a> {
+    /// Its bytes, unless it is refused.
+    pub raw: &'a [u8],
+    /// How many line ends it continues over, or how many precede the place where it is refused.
     pub lines: usize,
+    /// What follows it, or the place where it is refused.
     pub rest: &'a [u8],
+    /// `Plain`, `Marked` or `Refused`.
+    pub form: EntryForm,
 }
 
 impl<'a> Value<'a> {
@@ -64,17 +70,26 @@ impl<'a> Value<'a> {
     /// let text = entry.value.expect(&rt, "a value").text(alloc)?;
     /// assert!(rt; text.as_slice() == b"c  d".as_slice());
     /// ```
-    #[inline(always)]
     pub fn text(&self, alloc: Global) -> Result<CowSlice<'a, u8>, AllocError>
         ensures spelled { (spelled : List ℕ) (ending : Ending) → SpellsValue self.now.raw.now spelled ending
             → IfOk result (λ text. cow_slice_items text ≡ spelled) }
         ensures borrowed { ¬ (Contains self.now.raw.now double_quote) → ¬ (Contains self.now.raw.now backslash)
             → MatchResult result IsBorrowedSlice (λ _. ⊥) }
     {
-        match plain_text(self.raw) {
-            Some(text) => Ok(CowSlice::Borrowed(text)),
-            None => Ok(CowSlice::Owned(self.to_vec(alloc)?)),
+        if is_unmarked_run(self.raw) {
+            return Ok(CowSlice::Borrowed(self.trimmed()));
         }
+        Ok(CowSlice::Owned(self.to_vec(alloc)?))
+    }
+
+    /// What stands between the first and the last blanks of these bytes. Without a quote and a backslash they spell
+    /// this text.
+    pub(crate) fn trimmed(&self) -> &'a [u8]
+        ensures { list_all is_unmarked self.now.raw.now ≡ true → (spelled : List ℕ) (ending : Ending)
+            → SpellsValue self.now.raw.now spelled ending → result.now ≡ spelled }
+    {
+        let (_, start) = run(self.raw, Class::Blank);
+        &start[..start.len() - last_blanks(start)]
     }
 
     /// The text that these bytes spell, as a new vector. It fails only if memory is refused.
@@ -124,7 +139,6 @@ fn is_unmarked(text: &[u8]) -> bool
 
 /// Does the same as [`is_unmarked`].
 // Most texts are plain to the end.
-#[inline(always)]
 fn is_unmarked_run(text: &[u8]) -> bool
     ensures { result ≡ list_all is_unmarked text.now }
 {
@@ -141,20 +155,6 @@ fn last_blanks(text: &[u8]) -> usize
         .rev()
         .take_while(|byte| is_blank(**byte))
         .count()
-}
-
-/// The text of a value as a slice of its bytes, or `None` if quotes or backslashes may change it.
-#[inline(always)]
-fn plain_text(raw: &[u8]) -> Option<&[u8]>
-    ensures spelled { (spelled : List ℕ) (ending : Ending) → SpellsValue raw.now spelled ending
-        → IfSome result (λ text. text.now ≡ spelled) }
-    ensures plain { ¬ (Contains raw.now double_quote) → ¬ (Contains raw.now backslash) → IsSome result }
-{
-    let (_, start) = run(raw, Class::Blank);
-    if !is_unmarked_run(start) {
-        return None;
-    }
-    Some(&start[..start.len() - last_blanks(start)])
 }
 
 /// Whether this byte is a blank outside quotes, which counts only if a byte of the value follows it.
@@ -209,12 +209,12 @@ fn after_escape(text: &[u8]) -> Option<&[u8]>
     if letter == b'\r' { Some(after) } else { None }
 }
 
-/// Whether the text begins with a letter that a backslash before it escapes.
-fn begins_with_letter(text: &[u8]) -> bool
-    ensures { result ≡ begins_with_letter text.now }
+/// Whether the text begins with a quote or a backslash.
+fn begins_with_mark(text: &[u8]) -> bool
+    ensures { result ≡ begins_with_mark text.now }
 {
     match split(text) {
-        Some((letter, _)) => escape(letter).is_some(),
+        Some((byte, _)) => byte == b'"' || byte == b'\\',
         None => false,
     }
 }
@@ -227,70 +227,83 @@ fn goes_on(quoted: bool, byte: u8) -> bool
 }
 
 /// Reads a value after its `=`, up to the end of its line or to a comment.
-#[inline(always)]
-pub(crate) fn read_value(text: &[u8]) -> Result<Taken<'_>, Stop>
-    ensures { MatchResult result (λ taken. TakesValue text.now taken.value.raw.now taken.lines taken.rest.now)
-        (λ stop. ValueStops text.now stop.lines stop.fault) }
+pub(crate) fn read_value(text: &[u8]) -> ValueEnd<'_>
+    ensures { IsValueEnd text.now result }
 {
-    let mut at = text;
+    let (raw, rest) = run(text, Class::Plain);
+    if begins_with_mark(rest) {
+        return read_marked(text, rest);
+    }
+    match fault_at(rest) {
+        FileFault::Nul => ValueEnd {
+            raw,
+            lines: 0,
+            rest,
+            form: EntryForm::Refused,
+        },
+        FileFault::BadLine => ValueEnd {
+            raw,
+            lines: 0,
+            rest,
+            form: EntryForm::Plain,
+        },
+    }
+}
+
+/// Reads a value from its first quote or backslash on.
+fn read_marked<'a>(text: &'a [u8], first: &'a [u8]) -> ValueEnd<'a>
+    requires { PassedValue text.now false first.now }
+    ensures { IsValueEnd text.now result }
+{
+    let mut at = first;
     let mut quoted = false;
-    let mut continued = false;
     'pieces: while let Some((byte, rest)) = split(at) {
         if byte == b'"' {
             quoted = !quoted;
             at = rest;
         } else if byte == b'\\' {
             match after_escape(rest) {
-                Some(after) => {
-                    continued |= !begins_with_letter(rest);
-                    at = after;
-                }
+                Some(after) => at = after,
                 None => return end_after_backslash(text, at, rest, quoted),
             }
         } else if goes_on(quoted, byte) {
             at = run(rest, Class::Plain).1;
         } else {
-            return end(text, at, quoted, continued);
+            return end(text, at, quoted);
         }
     }
-    end(text, at, quoted, continued)
-}
-
-/// How many line ends these bytes of a value have. If it is not continued they have none, and are not counted.
-fn line_ends(raw: &[u8], continued: bool) -> usize
-    requires one_line { continued ≡ false → line_feeds raw.now ≡ 0 }
-    ensures { result ≡ line_feeds raw.now }
-{
-    if continued { line_feeds(raw) } else { 0 }
+    end(text, at, quoted)
 }
 
 /// Ends a value before LF, a comment, a NUL or the end of the text. In quotes or before a NUL it is refused.
-#[inline(always)]
-fn end<'a>(text: &'a [u8], at: &'a [u8], quoted: bool, continued: bool) -> Result<Taken<'a>, Stop>
+fn end<'a>(text: &'a [u8], at: &'a [u8], quoted: bool) -> ValueEnd<'a>
     requires passed { PassedValue text.now quoted at.now }
-    requires one_line { continued ≡ false → OnOneLine text.now at.now }
     requires ends { EndsScan quoted at.now }
-    ensures { MatchResult result (λ taken. TakesValue text.now taken.value.raw.now taken.lines taken.rest.now)
-        (λ stop. ValueStops text.now stop.lines stop.fault) }
+    ensures { IsValueEnd text.now result }
 {
     let raw = before(text, at);
-    let lines = line_ends(raw, continued);
+    let lines = line_feeds(raw);
     if quoted {
-        return Err(Stop {
-            lines,
-            fault: fault_at(at),
-        });
-    }
-    match fault_at(at) {
-        FileFault::Nul => Err(Stop {
-            lines,
-            fault: FileFault::Nul,
-        }),
-        FileFault::BadLine => Ok(Taken {
-            value: Value { raw },
+        return ValueEnd {
+            raw,
             lines,
             rest: at,
-        }),
+            form: EntryForm::Refused,
+        };
+    }
+    match fault_at(at) {
+        FileFault::Nul => ValueEnd {
+            raw,
+            lines,
+            rest: at,
+            form: EntryForm::Refused,
+        },
+        FileFault::BadLine => ValueEnd {
+            raw,
+            lines,
+            rest: at,
+            form: EntryForm::Marked,
+        },
     }
 }
 
@@ -298,31 +311,36 @@ fn end<'a>(text: &'a [u8], at: &'a [u8], quoted: bool, continued: bool) -> Resul
 /// over the end of the text. Otherwise it is refused.
 fn end_after_backslash<'a>(
     text: &'a [u8],
-    at: &[u8],
+    at: &'a [u8],
     rest: &'a [u8],
     quoted: bool,
-) -> Result<Taken<'a>, Stop>
+) -> ValueEnd<'a>
     requires passed { PassedValue text.now quoted at.now }
     requires backslash { at.now ≡ 92 ∷ rest.now }
     requires stops { rest.now ≢ [] → IsNoEscape rest.now }
-    ensures { MatchResult result (λ taken. TakesValue text.now taken.value.raw.now taken.lines taken.rest.now)
-        (λ stop. ValueStops text.now stop.lines stop.fault) }
+    ensures { IsValueEnd text.now result }
 {
+    let raw = before(text, at);
     if !rest.is_empty() {
-        return Err(Stop {
-            lines: line_feeds(before(text, at)),
-            fault: fault_at(rest),
-        });
+        return ValueEnd {
+            raw,
+            lines: line_feeds(raw),
+            rest,
+            form: EntryForm::Refused,
+        };
     }
     if quoted {
-        return Err(Stop {
-            lines: line_feeds(before(text, at)) + 1,
-            fault: FileFault::BadLine,
-        });
+        return ValueEnd {
+            raw,
+            lines: line_feeds(raw) + 1,
+            rest,
+            form: EntryForm::Refused,
+        };
     }
-    Ok(Taken {
-        value: Value { raw: text },
+    ValueEnd {
+        raw: text,
         lines: line_feeds(text) + 1,
         rest,
-    })
+        form: EntryForm::Marked,
+    }
 }

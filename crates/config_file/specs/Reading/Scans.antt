@@ -1,15 +1,15 @@
 -- What the scans of the reader have passed, and where they go on.
 use Rattle.std.specs.Prelude.{◌≡◌, ℕ, Bool, true, false, not, List, [], ◌∷◌, ◌++◌, Option, Some, None, ⊤}
-use Rattle.std.specs.Prelude.{◌&&◌, ◌==◌, if◌then◌else◌, is_some, take, drop}
+use Rattle.std.specs.Prelude.{◌&&◌, ◌||◌, ◌==◌, if◌then◌else◌, is_some, take, drop}
 use Rattle.std.specs.Int.{w64, trailing_zeros}
 use Rattle.config_file.specs.declared.bytes.Class.{Class}
 use Rattle.config_file.specs.declared.bytes.Class.TheVariants.{Name, Key, Blank, Space, Comment, Unescaped}
-use Rattle.config_file.specs.declared.bytes.Class.TheVariants.{Word, Plain}
+use Rattle.config_file.specs.declared.bytes.Class.TheVariants.{Word, Plain, InQuotes}
 use Rattle.config_file.specs.Bytes.{line_feed, carriage_return, double_quote, backslash, is_name_byte}
 use Rattle.config_file.specs.Bytes.{is_key_byte, is_blank, is_space, is_comment_byte, is_comment_sign}
-use Rattle.config_file.specs.Bytes.{is_text_byte}
+use Rattle.config_file.specs.Bytes.{is_text_byte, is_plain_in_quotes}
 use Rattle.config_file.specs.Subsection.{SpellsSubsection, IsSubsection}
-use Rattle.config_file.specs.Value.{Ending, Spells, SpellsValue, itself, escape, line_feeds}
+use Rattle.config_file.specs.Value.{Ending, Spells, SpellsValue, itself, escape}
 
 -- the scan of a subsection has come to this rest of the text
 pub record PassedSubsection (text at : List ℕ) : Type 0 where
@@ -25,10 +25,6 @@ pub record PassedValue (text : List ℕ) (quoted : Bool) (at : List ℕ) : Type 
   pub joined : text ≡ raw ++ at
   pub extends : (more spelled : List ℕ) (ending : Ending)
       → Spells itself quoted value held more spelled ending → SpellsValue (raw ++ more) spelled ending
-
--- no LF precedes this rest of the text
-abbrev pub OnOneLine : List ℕ → List ℕ → Type 0
-OnOneLine text at = (raw : List ℕ) × (text ≡ raw ++ at) × (line_feeds raw ≡ 0)
 
 -- whether the scan of a value goes on after this byte, unless it is a quote or a backslash
 abbrev pub goes_on : Bool → ℕ → Bool
@@ -62,6 +58,7 @@ passes Comment = is_comment_byte
 passes Unescaped = is_unescaped
 passes Word = is_word_byte
 passes Plain = is_plain_byte
+passes InQuotes = is_plain_in_quotes
 
 -- the sixteen bytes at this place, or those that are left there
 abbrev pub block : ℕ → List ℕ → List ℕ
@@ -84,10 +81,10 @@ pub data Escapes : List ℕ → List ℕ → Type 0 where
       → text ≡ e ∷ f ∷ rest → e ≡ carriage_return → f ≡ line_feed
       → Escapes text rest
 
--- whether the text begins with a byte that a backslash before it escapes
-abbrev pub begins_with_letter : List ℕ → Bool
-begins_with_letter [] = false
-begins_with_letter (e ∷ rest) = is_some (escape e)
+-- whether the text begins with a quote or a backslash
+abbrev pub begins_with_mark : List ℕ → Bool
+begins_with_mark [] = false
+begins_with_mark (b ∷ rest) = b == double_quote || b == backslash
 
 -- the byte that a backslash before this text spells, unless it continues the line, and what follows
 abbrev pub unescape : List ℕ → Option ℕ × List ℕ

@@ -1,8 +1,8 @@
 use Rattle.std.proofs.Common.{arith, rules, length, ap, ◌∙◌, []}
 use Rattle.config_file.specs.File as file
 use Rattle.config_file.proofs.Bounds.{header_shortens, header_stops_soon, run_shortens}
-use Rattle.config_file.proofs.Readings.{refused_as, no_item, none_left, gives_from, begins_none}
-use Rattle.config_file.proofs.reader.EntriesIterator.next.Goals as goal
+use Rattle.config_file.proofs.Readings.{refused_as, no_item, none_left, advances_from, begins_none}
+use Rattle.config_file.proofs.reader.Entries.advance.Goals as goal
 
 pub items-preserved-then-is_blank : goal.items-preserved-then-is_blank
 items-preserved-then-is_blank c =
@@ -49,28 +49,34 @@ items-preserved c =
       shorter = omega arith;
     }
 
-pub refused-requires : goal.refused-requires
-refused-requires c = omega (arith, header_stops_soon c.in-Err.ensures, c.items.self.line_fits)
+pub refuse-requires : goal.refuse-requires
+refuse-requires c =
+    omega (arith, header_stops_soon c.in-Err.ensures, ap length c.in-Some.ensures, c.items.self.line_fits)
 
-pub returns-in-Err-clause-steps : goal.returns-in-Err-clause-steps
-returns-in-Err-clause-steps c = (
-  c.items.invariant.same _ _ (refused_as _ c.refused.ensures.line c.refused.ensures.fault
+pub returns-in-Err-clause-advances : goal.returns-in-Err-clause-advances
+returns-in-Err-clause-advances c = rw c.refuse.ensures.form (
+  c.items.invariant.same _ _ (refused_as _ c.refuse.ensures.line c.refuse.ensures.fault
       (rw c.in-Some.ensures (file.header_refused c.if-byte-eq91.true c.in-Err.ensures))),
-  c.refused.ensures.left,
+  c.refuse.ensures.left,
 )
 
-pub returns-then-is_ascii_alphabetic-clause-steps : goal.returns-then-is_ascii_alphabetic-clause-steps
-returns-then-is_ascii_alphabetic-clause-steps c =
-    gives_from c.args.self.now c.items.self c.entry_here.result c.entry_here.new.self c.items.invariant.same c.entry_here.ensures.gives
+pub returns-then-is_ascii_alphabetic-clause-advances : goal.returns-then-is_ascii_alphabetic-clause-advances
+returns-then-is_ascii_alphabetic-clause-advances c =
+    advances_from c.advance_here.result c.args.self.now c.items.self c.advance_here.new.self c.items.invariant.same
+    c.advance_here.ensures.advances
 
-pub returns-else-is_ascii_alphabetic-clause-steps : goal.returns-else-is_ascii_alphabetic-clause-steps
-returns-else-is_ascii_alphabetic-clause-steps c =
+pub returns-else-is_ascii_alphabetic-clause-advances : goal.returns-else-is_ascii_alphabetic-clause-advances
+returns-else-is_ascii_alphabetic-clause-advances c =
     let other =
     begins_none c.in-Some.byte (search rules) c.if-byte-eq10.false (search rules) c.if-byte-eq91.false (search rules) in
-    let error = c.refused-else-is_ascii_alphabetic in
-    (c.items.invariant.same _ _ (no_item _ _ c.in-Some.ensures other error.ensures.line (error.ensures.fault ∙ c.fault_at-fault.ensures)), error.ensures.left)
+    let refused = c.refuse-else-is_ascii_alphabetic in
+    rw refused.ensures.form (
+      c.items.invariant.same _ _ (no_item _ _ c.in-Some.ensures other refused.ensures.line
+          (refused.ensures.fault ∙ c.fault_at-fault.ensures)),
+      refused.ensures.left,
+    )
 
-pub returns-clause-steps : goal.returns-clause-steps
-returns-clause-steps c =
+pub returns-clause-advances : goal.returns-clause-advances
+returns-clause-advances c =
     let empty = none_left c.items.self.rest.now c.in_default.ensures in
     (c.items.invariant.same [] _ empty, empty)

@@ -2,7 +2,7 @@ use Rattle.std.proofs.Common.{◌≤◌, length, List, Option}
 use Rattle.config_file.specs.declared.errors.FileError.{FileError}
 use Rattle.config_file.specs.File.{Entry}
 use Rattle.config_file.specs.Left.{HasLeft}
-use Rattle.config_file.proofs.reader.EntriesIterator.next.Given as goal
+use Rattle.config_file.proofs.reader.Entries.advance.Given as goal
 
 abbrev pub invariant-items : goal.invariant-items
 invariant-items l =

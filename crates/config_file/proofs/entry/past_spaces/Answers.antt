@@ -1,0 +1,2 @@
+use Rattle.config_file.proofs.Runs.{one_space}
+use Rattle.config_file.proofs.entry.past_spaces.Goals as goal
