@@ -8,7 +8,7 @@ use Rattle.config_file.specs.declared.errors.FileFault.{FileFault}
 use Rattle.config_file.specs.declared.entry.Entry as code
 use Rattle.config_file.specs.declared.reader.Entries as reader
 use Rattle.config_file.specs.Bytes.{is_blank, is_comment_sign}
-use Rattle.config_file.specs.Header.{Section, HeaderStops, fault_at}
+use Rattle.config_file.specs.Header.{Section, fault_at}
 use Rattle.config_file.specs.File as file
 use Rattle.config_file.specs.File.{Entry, TakesEntry, EntryStops, Reads, begins_item, entry_at}
 use Rattle.config_file.specs.Left.{Advances, HasLeft, GivesEntry, last_entry}
