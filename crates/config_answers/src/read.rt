@@ -1,5 +1,6 @@
 //! Hands on what is asked for in a text and in the files that it includes.
 ghost use Rattle.std.specs.Prelude.{◌≡◌, ◌++◌, ◌∷◌, [], OnOk, IfOk, IfErr};
+ghost use Rattle.config_file.specs.Reading.Ends.{FitsEntry};
 ghost use Rattle.config_file.specs.Views.{entry_of};
 ghost use Rattle.config_file.specs.declared.settings.Setting as code;
 ghost use Rattle.config_answers.specs.Choices.{choice_of};
@@ -7,6 +8,7 @@ ghost use Rattle.config_answers.specs.Given.{Gives, Reads};
 ghost use Rattle.config_answers.specs.Reading.{GivesNext, GivesPlain, GivesValue, IsOfSystem, in_one};
 
 use crate::choice::{Choice, bytes_of};
+use config_file::entry::EntryForm;
 use config_file::walk::include_of;
 use config_file::{
     AddError, Entries, Entry, FilePlace, Files, Frame, Include, IncludeFault, Known, Next, Scope,
@@ -116,7 +118,7 @@ fn no_memory<'t>() -> Stopped<'t>
 }
 
 impl Choice<'_, '_> {
-    /// Hands on the setting of an entry whose key is asked for, if its value is.
+    /// Hands on the setting of an entry of this form whose key is asked for, if its value is.
     #[inline(always)]
     fn give_value<'t, R: Receiver<'t>>(
         &mut self,
@@ -124,18 +126,19 @@ impl Choice<'_, '_> {
         scope: Scope,
         file: &'t [u8],
         entry: Entry<'t>,
+        form: EntryForm,
         receiver: &mut R,
     ) -> Result<(), Stopped<'t>>
+        requires fits { FitsEntry form (entry_of entry.entry) }
         ensures gives { OnOk result (GivesValue R.receives (choice_of self.old) scope
             (file.now, entry_of entry.entry) receiver.old receiver.new) }
         ensures same { choice_of self.new ≡ choice_of self.old }
         ensures system { IfErr result IsOfSystem }
     {
-        let mut setting = match Setting::of_entry(alloc, file, entry) {
+        let setting = match Setting::of_form(alloc, scope, file, entry, form) {
             Ok(setting) => setting,
             Err(_) => return Err(no_memory()),
         };
-        setting.scope = scope;
         if !self.has_value(bytes_of(&setting)) {
             return Ok(());
         }
@@ -145,7 +148,7 @@ impl Choice<'_, '_> {
         }
     }
 
-    /// Hands on the setting of an entry, if it is asked for.
+    /// Hands on the setting of an entry of this form, if it is asked for.
     #[inline(always)]
     fn give<'t, R: Receiver<'t>>(
         &mut self,
@@ -153,15 +156,17 @@ impl Choice<'_, '_> {
         scope: Scope,
         file: &'t [u8],
         entry: &Entry<'t>,
+        form: EntryForm,
         receiver: &mut R,
     ) -> Result<(), Stopped<'t>>
+        requires fits { FitsEntry form (entry_of entry.now) }
         ensures gives { OnOk result
             (Gives R.receives (choice_of self.old) scope (file.now, entry_of entry.now) receiver.old receiver.new) }
         ensures same { choice_of self.new ≡ choice_of self.old }
         ensures system { IfErr result IsOfSystem }
     {
         match self.has_key(entry) {
-            Ok(true) => self.give_value(alloc, scope, file, *entry, receiver),
+            Ok(true) => self.give_value(alloc, scope, file, *entry, form, receiver),
             Ok(false) => Ok(()),
             Err(_) => Err(no_memory()),
         }
@@ -186,16 +191,20 @@ impl Choice<'_, '_> {
         let mut left = entries;
         'plain: for _ in 0..u64::MAX {
             let (section, line, rest) = left.parts();
-            if let Some(Ok(entry)) = left.next() {
-                match include_of(alloc, known, place, &entry) {
-                    Ok(Include::NotFollowed) => {
-                        match self.give(alloc, scope, place.name, &entry, receiver) {
-                            Ok(()) => continue 'plain,
-                            Err(error) => return Err(error),
+            match left.advance() {
+                None | Some(EntryForm::Refused) => {}
+                Some(form) => {
+                    let entry = left.entry(form);
+                    match include_of(alloc, known, place, &entry) {
+                        Ok(Include::NotFollowed) => {
+                            match self.give(alloc, scope, place.name, &entry, form, receiver) {
+                                Ok(()) => continue 'plain,
+                                Err(error) => return Err(error),
+                            }
                         }
+                        Ok(_) => {}
+                        Err(_) => return Err(no_memory()),
                     }
-                    Ok(_) => {}
-                    Err(_) => return Err(no_memory()),
                 }
             }
             match Entries::resume(section, line, rest) {

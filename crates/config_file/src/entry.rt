@@ -55,6 +55,16 @@ pub struct EntryParts<'a> {
 }
 
 /// How an entry is written, as far as that decides how the text of its value is found.
+///
+/// ```rust
+/// use config_file::entry::EntryForm;
+/// use config_file::reader::Entries;
+///
+/// let mut entries = Entries::new(b"[a]b = c\n\td = \"e\"\n\tf");
+/// assert!(rt; matches!(entries.advance(), Some(EntryForm::Plain)));
+/// assert!(rt; matches!(entries.advance(), Some(EntryForm::Marked)));
+/// assert!(rt; matches!(entries.advance(), Some(EntryForm::Alone)));
+/// ```
 #[derive(Clone, Copy, Debug)]
 pub enum EntryForm {
     /// A key alone.

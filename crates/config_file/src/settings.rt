@@ -307,11 +307,12 @@ impl<'t> Setting<'t> {
         ensures entry { IfOk result (IsSettingOf (file.now, entry_of entry.entry)) }
         ensures scope { IfOk result (λ setting. setting.scope ≡ Command) }
     {
-        Self::with_scope(alloc, Scope::Command, file, entry)
+        Self::of_form(alloc, Scope::Command, file, entry, EntryForm::Marked)
     }
 
     /// The setting of an entry of a file of this scope, which was read in this form: [`Entries::advance`]. A plain value
-    /// need not be looked at for its marks again. It fails only if memory is refused.
+    /// is not looked at for marks again. If the form is not known, `Marked` fits each entry. It fails only if memory is
+    /// refused.
     ///
     /// ```rust
     /// use config_file::{Entries, Scope, Setting};
@@ -329,34 +330,12 @@ impl<'t> Setting<'t> {
         entry: Entry<'t>,
         form: EntryForm,
     ) -> Result<Self, AllocError>
-        ensures entry { FitsEntry form (entry_of entry.entry) → IfOk result (IsSettingOf (file.now, entry_of entry.entry)) }
-        ensures scope { IfOk result (λ setting. setting.scope ≡ scope) }
-    {
-        let value = match (&entry.value, form) {
-            (None, _) => None,
-            (Some(value), EntryForm::Plain) => Some(CowSlice::Borrowed(value.trimmed())),
-            (Some(value), _) => Some(CowSlice::Owned(value.to_vec(alloc)?)),
-        };
-        Ok(Self {
-            scope,
-            file,
-            entry,
-            value,
-        })
-    }
-
-    /// The setting of an entry of a file of this scope.
-    fn with_scope(
-        alloc: Global,
-        scope: Scope,
-        file: &'t [u8],
-        entry: Entry<'t>,
-    ) -> Result<Self, AllocError>
-        ensures entry { IfOk result (IsSettingOf (file.now, entry_of entry.entry)) }
+        ensures entry { FitsEntry form (entry_of entry.entry)
+            → IfOk result (IsSettingOf (file.now, entry_of entry.entry)) }
         ensures scope { IfOk result (λ setting. setting.scope ≡ scope) }
     {
         let value = match &entry.value {
-            Some(value) => Some(value.text(alloc)?),
+            Some(value) => Some(value.text_as(alloc, form)?),
             None => None,
         };
         Ok(Self {
@@ -591,7 +570,7 @@ impl<'t> Settings<'t> {
             result }
         ensures scope { AddsInScope scope self.old.entries.items self.new.entries.items }
     {
-        let setting = Setting::with_scope(alloc, scope, file, entry)?;
+        let setting = Setting::of_form(alloc, scope, file, entry, EntryForm::Marked)?;
         match self.entries.push(setting) {
             Ok(()) => Ok(()),
             Err(_) => Err(AllocError),

@@ -7,7 +7,7 @@ ghost use Rattle.std.specs.List.{Contains, list_all, prefix_len};
 ghost use Rattle.config_file.specs.Bytes.{backslash, double_quote, is_blank};
 ghost use Rattle.config_file.specs.Value as spec;
 ghost use Rattle.config_file.specs.Value.{IsNoEscape, SpellsValue, kept, Ending};
-ghost use Rattle.config_file.specs.Reading.Ends.{IsValueEnd};
+ghost use Rattle.config_file.specs.Reading.Ends.{FitsForm, IsValueEnd};
 ghost use Rattle.config_file.specs.Reading.Scans.{PassedValue, EndsScan, Escapes, begins_with_mark, goes_on};
 ghost use Rattle.config_file.specs.Reading.Scans.{is_held_back, is_unmarked, unescape};
 
@@ -80,6 +80,23 @@ impl<'a> Value<'a> {
             return Ok(CowSlice::Borrowed(self.trimmed()));
         }
         Ok(CowSlice::Owned(self.to_vec(alloc)?))
+    }
+
+    /// The same text, of an entry that is written in this form.
+    #[inline(always)]
+    pub(crate) fn text_as(
+        &self,
+        alloc: Global,
+        form: EntryForm,
+    ) -> Result<CowSlice<'a, u8>, AllocError>
+        ensures { FitsForm form self.now.raw.now → (spelled : List ℕ) (ending : Ending)
+            → SpellsValue self.now.raw.now spelled ending
+            → IfOk result (λ text. cow_slice_items text ≡ spelled) }
+    {
+        match form {
+            EntryForm::Plain => Ok(CowSlice::Borrowed(self.trimmed())),
+            _ => self.text(alloc),
+        }
     }
 
     /// What stands between the first and the last blanks of these bytes. Without a quote and a backslash they spell

@@ -22,9 +22,9 @@ abbrev pub FitsForm : EntryForm → List ℕ → Type 0
 FitsForm Plain raw = list_all is_unmarked raw ≡ true
 FitsForm _ raw = ⊤
 
--- an entry of this form has a value, unless it is a key alone, and that fits
+-- if the entry has a value, that fits this form
 abbrev pub FitsEntry : EntryForm → Entry → Type 0
-FitsEntry form entry = (raw : List ℕ) × (entry.value ≡ value_as form raw) × FitsForm form raw
+FitsEntry form entry = (raw : List ℕ) → entry.value ≡ Some raw → FitsForm form raw
 
 -- after its `=`, the text has a value of this form with these bytes, which continues over this many line ends, and then
 -- this rest; or it is refused where this rest begins
