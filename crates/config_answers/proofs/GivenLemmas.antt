@@ -3,15 +3,19 @@ use Rattle.std.proofs.Common.{arith, ap, inl, inr, refl, sym, true≢false, get_
 use Rattle.std.proofs.Common.{true, false, List, [], ◌∷◌}
 use Rattle.std.specs.Prelude.{Ok, Err, OnOk, Some, None, Result, map}
 use Rattle.std.proofs.lemmas.List.{append_assoc, append-nil, map-append}
+use Rattle.std.proofs.lemmas.Option.{same_Some}
 use Rattle.config_file.specs.File.{Entry}
-use Rattle.config_file.specs.Left.{GivesEntry}
+use Rattle.config_file.specs.Left.{Advances, GivesEntry, last_entry}
 use Rattle.config_file.specs.Listing.{IsListed}
 use Rattle.config_file.specs.Reading.Adds.{Comes}
+use Rattle.config_file.specs.Reading.Ends.{FitsEntry}
 use Rattle.config_file.specs.Reading.Walks.{Enters, LeftOf, Passes, Said, goes_on, is_cut}
 use Rattle.config_file.specs.Settings.{found_item}
 use Rattle.config_file.specs.Views.{entry_of}
 use Rattle.config_file.specs.Walk.{Content, IsInclude, Item, Stops}
 use Rattle.config_file.specs.declared.entry.Entry as code
+use Rattle.config_file.specs.declared.entry.EntryForm.{EntryForm}
+use Rattle.config_file.specs.declared.entry.EntryForm.TheVariants.{Alone, Plain, Marked, Refused}
 use Rattle.config_file.specs.declared.reader.Entries.{Entries}
 use Rattle.config_file.specs.declared.settings.Setting.{Setting}
 use Rattle.config_file.specs.declared.scope.Scope.{Scope}
@@ -48,6 +52,15 @@ given_ok receives choice now scope found old new (Ok u) same fits is = λ listed
       | inl both ↦ (Some setting, (of, at, fits listed lists, both.0), both.1)
       | inr both ↦ (None, inr (setting, of, both.0), both.1)
     ]
+
+-- the value of an entry that the reader has come to fits the form of the entry
+pub fits_entry : (form : EntryForm) (old new : Entries) (entry : code.Entry) → ¬ (form ≡ Refused)
+    → entry_of entry ≡ last_entry new form → Advances old (Some form) new → FitsEntry form (entry_of entry)
+fits_entry Alone old new entry some is advances = λ raw has. tt
+fits_entry Plain old new entry some is (fits, more) = λ raw has.
+    let same : Some new.raw.now ≡ Some raw = rw is at has in rw (same_Some new.raw.now raw same) at fits
+fits_entry Marked old new entry some is advances = λ raw has. tt
+fits_entry Refused old new entry some is advances = absurd (some refl)
 
 -- an entry that includes no file is taken off the walk of one file
 pub plain_step : (known : Known) (place : FilePlace) (a b : Entries) (entry : code.Entry)

@@ -287,7 +287,9 @@ impl Choice<'_, '_> {
             Ok(next) => next,
             Err(_) => return Err(no_memory()),
         };
-        match self.give(alloc, scope, file, &entry, receiver) {
+        // A walk does not tell how an entry is written. This fits each.
+        let form = EntryForm::Marked;
+        match self.give(alloc, scope, file, &entry, form, receiver) {
             Ok(()) => {}
             Err(error) => return Err(error),
         }

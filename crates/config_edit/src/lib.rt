@@ -39,6 +39,7 @@ use config_file::key::{Key, KeyError, is_name};
 use config_file::reader::{Entries, after_mark};
 use config_file::spelling::{is_section, is_spellable};
 use std::alloc::{AllocError, Global};
+use thiserror::Error;
 
 /// Why a text is not edited.
 ///
@@ -50,24 +51,34 @@ use std::alloc::{AllocError, Global};
 /// assert!(rt; matches!(unset(alloc, text, b"core.bare"), Err(EditError::Absent)));
 /// assert!(rt; matches!(set(alloc, text, b"core.bare", b"a\0b"), Err(EditError::Value)));
 /// assert!(rt; matches!(set(alloc, b"[core", b"core.bare", b"true"), Err(EditError::File(_))));
+/// let error = unset(alloc, b"[core", b"core.bare").unwrap_err();
+/// assert_eq!(rt; error.to_string(alloc)?.as_str(), "2: bad config line");
 /// ```
-#[derive(Drop, Debug)]
+#[derive(Drop, Debug, Error)]
 pub enum EditError {
     /// Memory was refused.
+    #[error("{0}")]
     Memory(AllocError),
     /// Git refuses the key.
+    #[error("{0}")]
     Key(KeyError),
     /// No header has the section of the key, or the new name of a section.
+    #[error("no header can have this section")]
     Section,
     /// No bytes spell the value: it has a NUL.
+    #[error("the value has a NUL")]
     Value,
     /// The comment has a line end, or comes without a value.
+    #[error("the comment has a line end, or comes without a value")]
     Comment,
     /// The text is not a configuration file.
+    #[error("{0}")]
     File(FileError),
     /// Several entries have the key.
+    #[error("several entries have this key")]
     Several,
     /// No entry has the key, or no header has the section.
+    #[error("nothing has this name")]
     Absent,
 }
 

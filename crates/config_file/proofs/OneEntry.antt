@@ -1,5 +1,5 @@
 -- At the start of a text there is at most one entry or place at which the reading stops.
-use Rattle.std.proofs.Common.{◌≡◌, ◌∙◌, ◌==◌, ℕ, false, List, [], ◌∷◌, Option, Some, None, Result, Ok, Err}
+use Rattle.std.proofs.Common.{◌≡◌, ◌∙◌, ◌==◌, ℕ, List, [], ◌∷◌, Option, Some, None, Result, Ok, Err}
 use Rattle.std.proofs.Common.{sym, ap, take, drop, if◌then◌else◌, arith, inl, inr}
 use Rattle.std.specs.List.{prefix_len}
 use Rattle.config_file.proofs.OneRun.{run_only}

@@ -1,5 +1,5 @@
 -- The scopes of settings that are added.
-use Rattle.std.proofs.Common.{◌≡◌, ◌++◌, ◌∙◌, List, [], sym}
+use Rattle.std.proofs.Common.{◌≡◌, ◌++◌, List, [], sym}
 use Rattle.std.proofs.lemmas.List.{append_assoc, append-nil}
 use Rattle.std.proofs.lemmas.List.Elements.{All-nil, All-append}
 use Rattle.config_file.specs.Settings.{AddsInScope}

@@ -1,13 +1,9 @@
 -- Sets of bytes in patterns: their classes, their members, and what they match.
-use Rattle.std.proofs.Common.{◌≡◌, ◌≢◌, ℕ, ◌<◌, ◌≤◌, ◌⊎◌, Bool, true, false, ◌||◌, ◌&&◌, ◌==◌, if◌then◌else◌}
+use Rattle.std.proofs.Common.{◌≡◌, ◌≢◌, ℕ, ◌<◌, ◌≤◌, ◌⊎◌, Bool, true, false, ◌||◌, ◌==◌}
 use Rattle.std.proofs.Common.{List, [], ◌∷◌, ◌++◌, Option, None, Some, length, drop, get_or, codes}
 use Rattle.std.proofs.Common.{option_map, eqb-true, refl, sym, ap, ◌∙◌, subst, arith, inl, inr, append_assoc}
 use Rattle.std.proofs.Common.{length-append}
 use Rattle.std.specs.List.{list_all}
-use Rattle.std.specs.Str.{bytes_eq}
-use Rattle.std.specs.Char.{is_ascii_alphanumeric, is_ascii_alphabetic, is_ascii_digit, is_ascii_control}
-use Rattle.std.specs.Char.{is_ascii_graphic, is_ascii_punctuation, is_ascii_hexdigit, is_ascii_lowercase}
-use Rattle.std.specs.Char.{is_ascii_uppercase}
 use Rattle.std.proofs.lemmas.List.{append_cancel_left, append_cancel_right}
 use Rattle.std.proofs.lemmas.Option.{same_Some}
 use Rattle.std.proofs.lemmas.Bool.{eqb-false, cases_Bool, true≢false, and_parts}
@@ -16,9 +12,9 @@ use Rattle.std.proofs.Math.Bool.{or_assoc, or-false}
 use Rattle.config_text.specs.Bytes.{LacksFront}
 use Rattle.config_file.specs.Runs.{Run, StopsRun}
 use Rattle.config_file.specs.Reading.Places.{Closing}
-use Rattle.config_file.specs.Bytes.{right_bracket, backslash, dash, is_blank, is_space}
+use Rattle.config_file.specs.Bytes.{right_bracket}
 use Rattle.config_file.proofs.OneRun.{run_only}
-use Rattle.config_file.specs.Set.{is_negation, is_wanted, opened, is_unclosed, IsClass, IsNoClass, IsNoRange}
+use Rattle.config_file.specs.Set.{is_negation, is_wanted, opened, is_unclosed, IsClass, IsNoClass}
 use Rattle.config_file.specs.Set.{StandsForByte, SetByte, bare, after_backslash, RangeEnd, to, Member, class}
 use Rattle.config_file.specs.Set.{single, range, SetHas, closes, has, Class, alnum, alpha, blank, cntrl}
 use Rattle.config_file.specs.Set.{digit, graph, lower, print, punct, spaces, upper, xdigit}

@@ -14,7 +14,7 @@ use Rattle.config_file.specs.Runs.{StopsRun}
 pub passed_none : (text : List ℕ) → PassedSubsection text text
 passed_none text = record { raw = []; joined = refl; extends = λ more spelled h. (spelled, h) }
 
-passed_plain : {text rest : List ℕ} {b : ℕ} (at : List ℕ) → PassedSubsection text at → at ≡ b ∷ rest
+pub passed_plain : {text rest : List ℕ} {b : ℕ} (at : List ℕ) → PassedSubsection text at → at ≡ b ∷ rest
     → is_plain_in_quotes b ≡ true → PassedSubsection text rest
 passed_plain {rest = rest} {b = b} at passed e is_plain =
     record {
@@ -68,3 +68,7 @@ pub ends_here : {at rest : List ℕ} {b : ℕ} → at ≡ b ∷ rest → StopsRu
     → EndsText at
 ends_here {b = b} e longest not_quote not_backslash =
     rw e (ends_text b (rw e at longest) not_quote not_backslash)
+
+-- a byte other than LF, NUL, a quote and a backslash spells itself
+pub plain_byte : (b : ℕ) → is_text_byte b ≡ true → b ≢ 34 → b ≢ 92 → is_plain_in_quotes b ≡ true
+plain_byte b text quote backslash = grind (arith, nat_tests)
