@@ -1,5 +1,6 @@
 //! Keys, as Git lists them, of entries that follow each other.
-ghost use Rattle.std.specs.Prelude.{◌≡◌, ◌++◌, ℕ, List, IsTrue, IfSome, OnOk};
+ghost use Rattle.std.specs.Prelude.{◌≡◌, ◌++◌, ◌+◌, ◌≤◌, ℕ, List, IsTrue, IfSome, OnOk, drop, length, map, take};
+ghost use Rattle.std.specs.Char.{to_ascii_lowercase};
 ghost use Rattle.std.proofs.Props.{props};
 ghost use Rattle.config_file.specs.Listing.{IsListed, IsListedSection};
 ghost use Rattle.config_file.specs.Views.{entry_of, section_of};
@@ -8,6 +9,7 @@ use config_file::Entry;
 use config_file::entry::push_lower;
 use config_file::section::Section;
 use std::alloc::{AllocError, Global};
+use std::simd::prelude::*;
 
 /// Lists keys one after the other. What Git lists of a section before a key is built once for all entries that follow
 /// each other in it.
@@ -33,14 +35,79 @@ pub struct KeyList<'t> {
         → front.items ≡ listed) } by { Prim.hlevel props },
 }
 
+/// Whether two texts are the same, of which a block at the start and one at the end leave nothing out.
+#[inline(always)]
+fn have_equal_ends<const N: usize>(one: &[u8], other: &[u8]) -> bool
+    requires { (N ≤ 64) × (length one.now ≡ length other.now) × (N ≤ length one.now) × (length one.now ≤ N + N) }
+    ensures { IsTrue result → one.now ≡ other.now }
+{
+    let back = one.len() - N;
+    Simd::<u8, N>::from_slice(one) == Simd::<u8, N>::from_slice(other)
+        && Simd::<u8, N>::from_slice(&one[back..]) == Simd::<u8, N>::from_slice(&other[back..])
+}
+
+/// Whether two texts are the same. Names and most subsections are short, and then two blocks take less time than `==`.
+fn are_equal(one: &[u8], other: &[u8]) -> bool
+    ensures { IsTrue result → one.now ≡ other.now }
+{
+    if one.len() != other.len() {
+        return false;
+    }
+    match one.len() {
+        2..=3 => have_equal_ends::<2>(one, other),
+        4..=7 => have_equal_ends::<4>(one, other),
+        8..=16 => have_equal_ends::<8>(one, other),
+        17..=32 => have_equal_ends::<16>(one, other),
+        _ => one == other,
+    }
+}
+
 /// Whether two sections are written in the same way.
 fn are_same(one: &Section<'_>, other: &Section<'_>) -> bool
     ensures { IsTrue result → section_of one.now ≡ section_of other.now }
 {
     match (&one.subsection, &other.subsection) {
-        (Some(first), Some(second)) => first.raw == second.raw && one.name == other.name,
-        (None, None) => one.name == other.name,
+        (Some(first), Some(second)) => are_equal(first.raw, second.raw)
+            && are_equal(one.name, other.name),
+        (None, None) => are_equal(one.name, other.name),
         _ => false,
+    }
+}
+
+/// A block of a name, in lower case.
+#[inline(always)]
+fn lower_block<const N: usize>(name: &[u8], at: usize) -> [u8; N]
+    requires { at + N ≤ length name.now }
+    ensures { result ≡ map to_ascii_lowercase (take N (drop at name.now)) }
+{
+    let bytes = Simd::<u8, N>::from_slice(&name[at..]);
+    let is_upper = (bytes - Simd::splat(b'A')).simd_lt(Simd::splat(26));
+    (bytes + is_upper.select(Simd::splat(32), Simd::splat(0))).to_array()
+}
+
+/// Appends in lower case a name of which a block at the start and one at the end leave nothing out.
+#[inline(always)]
+fn push_lower_ends<const N: usize>(text: &mut Vec<u8>, name: &[u8]) -> Result<(), AllocError>
+    requires { (N ≤ length name.now) × (length name.now ≤ N + N) }
+    ensures { OnOk result (text.new.items ≡ text.old.items ++ map to_ascii_lowercase name.now) }
+{
+    let back = name.len() - N;
+    let end = text.len() + back;
+    text.extend_from_slice(&lower_block::<N>(name, 0))?;
+    text.truncate(end);
+    text.extend_from_slice(&lower_block::<N>(name, back))
+}
+
+/// Appends the name of a key in lower case, as [`push_lower`] does. Most are short, and then two blocks of fixed lengths
+/// take less time than a copy and a loop over it.
+fn push_lower_key(text: &mut Vec<u8>, key: &[u8]) -> Result<(), AllocError>
+    ensures { OnOk result (text.new.items ≡ text.old.items ++ map to_ascii_lowercase key.now) }
+{
+    match key.len() {
+        2..=3 => push_lower_ends::<2>(text, key),
+        4..=7 => push_lower_ends::<4>(text, key),
+        8..=16 => push_lower_ends::<8>(text, key),
+        _ => push_lower(text, key),
     }
 }
 
@@ -90,12 +157,12 @@ impl<'t> KeyList<'t> {
             → OnOk result (text.new.items ≡ text.old.items ++ listed) }
     {
         let Some(section) = entry.section else {
-            return push_lower(text, entry.key);
+            return push_lower_key(text, entry.key);
         };
         if !self.is_in(&section) {
             self.enter(section)?;
         }
         text.extend_from_slice(&self.front)?;
-        push_lower(text, entry.key)
+        push_lower_key(text, entry.key)
     }
 }

@@ -13,7 +13,7 @@ returns c = λ listed lists.
       | then-not-is_in+in_ok-enter w ↦ rw w.self-is w.in_ok-enter.ensures
       | else-not-is_in w ↦ rw w.self-is (c.is_in.ensures w.if-not-is_in.false)
     ] in
-    front_and_key c.push_lower-2.result (option_map section_of c.args.entry.now.section) (section_of c.in-Some.section)
+    front_and_key c.push_lower_key-2.result (option_map section_of c.args.entry.now.section) (section_of c.in-Some.section)
     c.args.entry.now.key.now c.args.text.now.items front c.extend_from_slice.new.self.items
-    c.push_lower-2.new.text.items listed (ap (option_map section_of) c.in-Some.is) is (search rules)
-    c.push_lower-2.ensures lists
+    c.push_lower_key-2.new.text.items listed (ap (option_map section_of) c.in-Some.is) is (search rules)
+    c.push_lower_key-2.ensures lists
