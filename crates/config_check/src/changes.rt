@@ -149,20 +149,75 @@ fn given_twice(
     Ok((once, twice))
 }
 
-/// Adds the key of an entry, as Git lists it, to those that are there, if it is one of the wanted ones.
-fn meet(
+/// The most last parts of keys that an entry is compared with. If there are more, its key costs less to make and to look
+/// up.
+const FEW_NAMES: usize = 8;
+
+/// The last parts of these keys, each once, or `None` if they are more than a few.
+fn few_names<'k>(
     alloc: Global,
-    entry: &Entry<'_>,
-    wanted: &BTreeSet<Vec<u8>>,
-    key: &mut Vec<u8>,
-    there: &mut BTreeSet<Vec<u8>>,
-) -> Result<(), AllocError> {
-    key.clear();
-    entry.push_key(key)?;
-    if wanted.contains(&*key) {
-        there.insert(key.to_vec(alloc)?)?;
+    keys: &'k BTreeSet<Vec<u8>>,
+) -> Result<Option<Vec<&'k [u8]>>, AllocError> {
+    let mut names = Vec::new(alloc);
+    for key in keys {
+        let Some(key) = Key::split(key) else {
+            return Ok(None);
+        };
+        if names.contains(&key.name()) {
+            continue;
+        }
+        if names.len() == FEW_NAMES {
+            return Ok(None);
+        }
+        names.push(key.name())?;
     }
-    Ok(())
+    Ok(Some(names))
+}
+
+/// The keys that entries are to get.
+#[derive(Drop)]
+struct Wanted<'k> {
+    keys: &'k BTreeSet<Vec<u8>>,
+    /// Their last parts, if those are few.
+    names: Option<Vec<&'k [u8]>>,
+}
+
+impl<'k> Wanted<'k> {
+    /// These keys.
+    fn new(alloc: Global, keys: &'k BTreeSet<Vec<u8>>) -> Result<Wanted<'k>, AllocError> {
+        Ok(Wanted {
+            keys,
+            names: few_names(alloc, keys)?,
+        })
+    }
+
+    /// Whether one of the keys may be that of an entry, which costs less to tell than to make its key.
+    fn may_have(&self, entry: &Entry<'_>) -> bool {
+        match &self.names {
+            Some(names) => names.iter().any(|name| entry.has_key(name)),
+            None => true,
+        }
+    }
+
+    /// Adds the key of an entry, as Git lists it, to those that are there, if it is one of these. It writes each key
+    /// that it makes to `key`.
+    fn meet(
+        &self,
+        alloc: Global,
+        entry: &Entry<'_>,
+        key: &mut Vec<u8>,
+        there: &mut BTreeSet<Vec<u8>>,
+    ) -> Result<(), AllocError> {
+        if !self.may_have(entry) {
+            return Ok(());
+        }
+        key.clear();
+        entry.push_key(key)?;
+        if self.keys.contains(&*key) {
+            there.insert(key.to_vec(alloc)?)?;
+        }
+        Ok(())
+    }
 }
 
 /// Adds those of the wanted keys that entries of this file, or of what it includes, have.
@@ -172,7 +227,7 @@ fn meet_all<'t>(
     surroundings: &Surroundings<'t>,
     file: &[u8],
     text: &'t [u8],
-    wanted: &BTreeSet<Vec<u8>>,
+    wanted: &Wanted<'_>,
     there: &mut BTreeSet<Vec<u8>>,
 ) -> Result<(), AllocError> {
     let mut key = Vec::new(alloc);
@@ -181,14 +236,14 @@ fn meet_all<'t>(
             let Ok(entry) = entry else {
                 break;
             };
-            meet(alloc, &entry, wanted, &mut key, there)?;
+            wanted.meet(alloc, &entry, &mut key, there)?;
         }
         return Ok(());
     }
     let mut walk = Walk::new(disk.place(file)?, text);
     for _ in 0..u64::MAX {
         match next_entry(disk, &surroundings.known(), &mut walk) {
-            Ok(Some(taken)) => meet(alloc, &taken.entry, wanted, &mut key, there)?,
+            Ok(Some(taken)) => wanted.meet(alloc, &taken.entry, &mut key, there)?,
             Err(HereError::Host(_)) => return Err(AllocError),
             _ => break,
         }
@@ -210,7 +265,8 @@ pub(crate) fn heed_rivals<'t>(
     if once.is_empty() {
         return Ok(());
     }
-    meet_all(alloc, disk, surroundings, file, text, &once, &mut rivals)?;
+    let wanted = Wanted::new(alloc, &once)?;
+    meet_all(alloc, disk, surroundings, file, text, &wanted, &mut rivals)?;
     for proposal in proposals.iter_mut() {
         if let Some(key) = given(alloc, proposal)? {
             proposal.is_guess = rivals.contains(&key);
