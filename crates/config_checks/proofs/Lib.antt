@@ -19,6 +19,9 @@ mod OneReport
 mod OneLine
 mod FixLemmas
 mod RenamedLemmas
+mod EachSetting
 mod MendLemmas
+mod SameSettings
+mod EntryMends
 mod MendedAgain
 mod StandardFacts

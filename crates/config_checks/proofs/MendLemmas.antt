@@ -4,13 +4,12 @@ use Rattle.std.proofs.Common.{None, Some}
 use Rattle.std.proofs.Common.{Ok, refl, sym, ap, subst, ◌∙◌, inl, inr, append_assoc, append-nil}
 use Rattle.std.proofs.Common.{option_copied, MatchOption}
 use Rattle.std.proofs.Common.{if◌then◌else◌, ◌+◌}
-use Rattle.std.proofs.lemmas.List.{length-append}
-use Rattle.std.proofs.lemmas.Slice.Zip.{all_zipped_more}
+use Rattle.std.proofs.lemmas.List.{length-append, map-append}
 use Rattle.std.specs.List.{slice_get, AllByRecursion, AllZip}
 use Rattle.config_file.specs.declared.entry.Entry as code
 use Rattle.config_file.specs.declared.errors.FileError as errors
 use Rattle.config_file.specs.declared.reader.Entries.{Entries}
-use Rattle.config_file.specs.File.{Entry, Begins}
+use Rattle.config_file.specs.File.{Entry, IsFile, Begins}
 use Rattle.config_file.specs.Left.{GivesEntry, HasLeft}
 use Rattle.config_file.specs.Settings.{IsValueOf}
 use Rattle.config_file.specs.Views.{entry_of}
@@ -91,33 +90,28 @@ all_both : {A B : Type 0} (f : A → B) (P : A → Type 0) (Q : B → Type 0) (R
 all_both f P Q R so [] p q = tt
 all_both f P Q R so (x ∷ xs) p q = (so x p.0 q.0, all_both f P Q R so xs p.1 q.1)
 
--- ---- the settings of a text
+-- ---- the entries of a text
 
-module _ (file text : List ℕ) where
-  -- the entries that were read have these settings, and the reader still has the others
-  pub record AreRead (reader : Entries) (settings : List Setting) : Type 0 where
-    pub entries : List Entry
-    pub read : HasRead text entries reader
-    pub are : AllZip (IsSettingOf file) entries settings
+module _ (text : List ℕ) where
+  -- these entries were read, and the reader still has the others
+  pub record AreRead (reader : Entries) (entries : List code.Entry) : Type 0 where
+    pub read : HasRead text (map entry_of entries) reader
 
   pub read_start : (reader : Entries) → reader.section ≡ None → Begins text reader.line reader.rest.now
       → AreRead reader []
-  read_start reader none begins =
-      record { entries = []; read = λ left error has. file_begins reader text left error none begins has; are = tt }
+  read_start reader none begins = record { read = λ left error has. file_begins reader text left error none begins has }
 
-  module _ (reader : Entries) (settings : List Setting) (so_far : AreRead reader settings) where
-    pub read_more : (reader' : Entries) (entry : code.Entry) (setting : Setting)
-        → GivesEntry reader (Some (Ok entry)) reader'
-        → IsSettingOf file (entry_of entry) setting → AreRead reader' (settings ++ setting ∷ [])
-    read_more reader' entry setting gives is = record {
-      entries = so_far.entries ++ entry_of entry ∷ [];
-      read = λ left error h. rw append_assoc (so_far.read (entry_of entry ∷ left) error (gives left error h));
-      are = all_zipped_more (IsSettingOf file) so_far.entries settings (entry_of entry) setting so_far.are is;
+  module _ (reader : Entries) (entries : List code.Entry) (so_far : AreRead reader entries) where
+    pub read_more : (reader' : Entries) (entry : code.Entry) → GivesEntry reader (Some (Ok entry)) reader'
+        → AreRead reader' (entries ++ entry ∷ [])
+    read_more reader' entry gives = record {
+      read = λ left error h. rw (map-append entry_of entries (entry ∷ []), append_assoc)
+          (so_far.read (entry_of entry ∷ left) error (gives left error h));
     }
 
     pub read_all : (error : Option errors.FileError) → HasLeft reader [] error
-        → HasSettings file text settings error
-    read_all error left = (so_far.entries, rw append-nil at (so_far.read [] error left), so_far.are)
+        → IsFile text (map entry_of entries) error
+    read_all error left = rw append-nil at (so_far.read [] error left)
 
 -- ---- which changes are wanted
 
@@ -146,7 +140,7 @@ module _ (rows : List Row) (options : Options) (guesses : Bool) (settings : List
   IsOne mend = IsMend rows options guesses settings proposal mend
 
   module _ (entry : ℕ) (about : proposal.finding.entry ≡ Some entry) where
-    same_entry : (mend : Mend) → IsOne mend → mend.entry ≡ entry
+    pub same_entry : (mend : Mend) → IsOne mend → mend.entry ≡ entry
     same_entry mend is = let both : Some mend.entry ≡ Some entry = sym is.entry ∙ about in cc
 
     module _ (setting : Setting) (stands : slice_get settings entry ≡ Some setting) where
@@ -154,7 +148,7 @@ module _ (rows : List Row) (options : Options) (guesses : Bool) (settings : List
       same_setting mend is = get_same settings entry is.setting setting
           (rw (same_entry mend is) at is.stands) stands
 
-      own_mends : (mend : Mend) → IsOne mend → Mends rows options setting (finding_of proposal.finding) mend.fix
+      pub own_mends : (mend : Mend) → IsOne mend → Mends rows options setting (finding_of proposal.finding) mend.fix
       own_mends mend is = rw (same_setting mend is) at is.mends
 
       module _ (fix : Fix) (own safety : Safety)

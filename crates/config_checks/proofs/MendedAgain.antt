@@ -14,9 +14,7 @@ use Rattle.config_edit.specs.Cut.{part_bytes, parts_bytes, Part, Cuts, IsSplit, 
 use Rattle.config_edit.specs.Cut as cut
 use Rattle.config_edit.specs.Edit.{Content, content, ChangesEach, ChangesPart}
 use Rattle.config_edit.specs.Edit as edit
-use Rattle.config_checks.specs.declared.code.Code.{Code}
 use Rattle.config_checks.specs.declared.fix.Fix.{Fix}
-use Rattle.config_checks.specs.declared.fix.Fix.TheVariants.{Name, Value}
 use Rattle.config_checks.specs.declared.fix.Safety.{Safety}
 use Rattle.config_checks.specs.declared.fix.Safety.TheVariants.{Safe, Unsafe}
 use Rattle.config_checks.specs.declared.mending.Mend.{Mend}
@@ -24,14 +22,13 @@ use Rattle.config_checks.specs.declared.mending.Proposal.{Proposal}
 use Rattle.config_checks.specs.declared.options.Options.{Options}
 use Rattle.config_checks.specs.declared.row.Row.{Row}
 use Rattle.config_checks.specs.declared.setting.Setting.{Setting}
-use Rattle.config_checks.specs.Findings.{Finding, finding_of}
-use Rattle.config_checks.specs.Fixes.{IsSafe, IsSafeValue, Mends}
-use Rattle.config_checks.specs.Fixes as fixes
+use Rattle.config_checks.specs.Findings.{finding_of}
 use Rattle.config_checks.specs.Mending.{change_of, IsAsSafe, IsMend, HasMends, IsLeftOver, IsMended}
 use Rattle.config_checks.specs.Mending as mending
 use Rattle.config_checks.specs.Settings.{IsSettingOf, value_of}
 use Rattle.config_checks.proofs.MendLemmas.{get_mapped, get_zipped, get_one, all_weaker, as_many}
 use Rattle.config_checks.proofs.RenamedLemmas.{same_key, same_value}
+use Rattle.config_checks.proofs.SameSettings.{same_mends, is_safe}
 
 -- ---- no change
 
@@ -104,41 +101,7 @@ kept_at (edit.changed change x y {changes = changes} {old = old} {new = new} eac
     (kept_at each i (all_front (λ change. change.entry ≢ i) changes (change ∷ []) others))
     (λ e. absurd ((all_back (λ change. change.entry ≢ i) changes (change ∷ []) others).0 (place ∙ sym e)))
 
--- ---- the same proposal about the same setting
-
-module _ (rows : List Row) (options : Options) (s s' : Setting) (keys : s'.key.items ≡ s.key.items)
-    (values : value_of s' ≡ value_of s)
-    (f f' : Finding) (codes : f'.code ≡ f.code) (wanted : f'.suggested_key ≡ f.suggested_key)
-    (meant : f'.suggested_value ≡ f.suggested_value) where
-  same_mends : (fix : Fix) → Mends rows options s' f' fix → Mends rows options s f fix
-  same_mends (Value new) (is, mends) = (
-    sym meant ∙ is,
-    record {
-      clean = record { row = mends.clean.row; decides = rw keys at mends.clean.decides; clean = mends.clean.clean };
-      only = rw (codes, values) at mends.only;
-    },
-  )
-  same_mends (Name name) (key, is, none, code, renamed, mends) = (
-    key,
-    sym wanted ∙ is,
-    sym meant ∙ none,
-    sym codes ∙ code,
-    rw keys at renamed,
-    record { clean = rw values at mends.clean; only = rw keys at mends.only },
-  )
-
 -- ---- safety of the same change of the same setting
-
-module _ (s s' : Setting) (keys : s'.key.items ≡ s.key.items) (values : value_of s' ≡ value_of s)
-    (code code' : Code) (codes : code' ≡ code) where
-  value_safe : (new : List ℕ) → IsSafeValue s' code' new → IsSafeValue s code new
-  value_safe new (fixes.spelled is) = fixes.spelled (sym codes ∙ is)
-  value_safe new (fixes.asked is) = fixes.asked (sym codes ∙ is)
-  value_safe new (fixes.mistyped value held typed) = fixes.mistyped value (sym values ∙ held) typed
-
-  is_safe : (fix : Fix) → IsSafe s' code' fix → IsSafe s code fix
-  is_safe (Value new) safe = value_safe new.now safe
-  is_safe (Name name) safe = record { key = safe.key; is = rw keys at safe.is; mistyped = safe.mistyped }
 
 as_safe_too : (s s' : Setting) (keys : s'.key.items ≡ s.key.items) (values : value_of s' ≡ value_of s)
     (p p' : Proposal)

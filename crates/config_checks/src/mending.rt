@@ -1,10 +1,11 @@
 //! A text in which findings are mended.
-ghost use Rattle.std.specs.Prelude.{◌≡◌, ◌↔◌, map, if◌then◌else◌, IsTrue, IfOk, IfSome, MatchOption, MatchResult};
+ghost use Rattle.std.specs.Prelude.{◌≡◌, ◌↔◌, List, map, if◌then◌else◌, IsTrue, IfOk, IfSome, MatchOption};
+ghost use Rattle.std.specs.Prelude.{MatchResult};
 ghost use Rattle.config_checks.specs.declared.fix.Safety.TheVariants.{Unsafe};
 ghost use Rattle.config_checks.specs.declared.mending.Mend.{Mend};
+ghost use Rattle.config_checks.specs.declared.setting.Setting.{Setting};
 ghost use Rattle.config_checks.specs.Mending.{change_of, IsWanted, IsMend, HasMends, IsMended, RefusesMending};
-ghost use Rattle.config_checks.specs.Reading.Steps.{IsSection};
-ghost use Rattle.config_checks.specs.Report.{HasSettings};
+ghost use Rattle.config_checks.specs.Reading.Steps.{IsSection, HasEntries, AreSettings};
 ghost use Rattle.config_checks.specs.Rows.{rows_of};
 
 use crate::finding::Finding;
@@ -14,6 +15,7 @@ use crate::row::Row;
 use crate::setting::Setting;
 use crate::suggestion::SectionFacts;
 use config_edit::{Change, EditError, change_entries};
+use config_file::entry::Entry;
 use config_file::errors::FileError;
 use config_file::reader::Entries;
 use std::alloc::{AllocError, Global};
@@ -47,22 +49,29 @@ pub struct MendedText<'f> {
     pub mends: Vec<Mend<'f>>,
 }
 
-/// The settings of a text, up to its end or to the line that Git cannot read.
-fn settings_of<'t>(
+/// The entries of the file with this name.
+#[derive(Drop)]
+pub(crate) struct FileEntries<'t> {
+    file: &'t str,
+    entries: Vec<Entry<'t>>,
+}
+
+/// The entries of a file with this name and text, up to its end or to the line that Git cannot read.
+fn entries_of<'t>(
     alloc: Global,
     file: &'t str,
-    text: &[u8],
-) -> Result<(Vec<Setting<'t>>, Option<FileError>), AllocError>
-    ensures { IfOk result (λ read. HasSettings file.now text.now read.0.items read.1) }
+    text: &'t [u8],
+) -> Result<(FileEntries<'t>, Option<FileError>), AllocError>
+    ensures { IfOk result (λ read. HasEntries file.now text.now read.0 read.1) }
 {
-    let mut settings = Vec::new(alloc);
+    let mut entries = Vec::new(alloc);
     for entry in Entries::new(text) {
         match entry {
-            Ok(entry) => settings.push(Setting::of_entry(alloc, file, &entry)?)?,
-            Err(error) => return Ok((settings, Some(error))),
+            Ok(entry) => entries.push(entry)?,
+            Err(error) => return Ok((FileEntries { file, entries }, Some(error))),
         }
     }
-    Ok((settings, None))
+    Ok((FileEntries { file, entries }, None))
 }
 
 /// How safe a proposed change is whose own safety is this one.
@@ -82,32 +91,33 @@ fn is_wanted(guesses: bool, safety: Safety) -> bool
     }
 }
 
-/// The change that mends what is proposed for one of these settings, if it is wanted. `last` is what is known of
+/// The change that mends what is proposed for one of these entries, if it is wanted. `last` is what is known of
 /// the last section.
 fn mend_of<'f>(
     alloc: Global,
     judge: &Judge<'_, '_>,
     options: &Options<'_>,
     guesses: bool,
-    settings: &[Setting<'_>],
+    read: &FileEntries<'_>,
     proposal: &Proposal<'f>,
     last: &mut Option<SectionFacts>,
 ) -> Result<Option<Mend<'f>>, AllocError>
     requires { IfSome last.old (IsSection judge.now.backwards.items) }
-    ensures change { IfOk result (λ r. MatchOption r
+    ensures change { (settings : List Setting) → AreSettings read.now settings → IfOk result (λ r. MatchOption r
         ((change : Mend)
-        → ¬ (IsMend (rows_of judge.now.runs.items) options.now guesses settings.now proposal.now change))
-        (IsMend (rows_of judge.now.runs.items) options.now guesses settings.now proposal.now)) }
+        → ¬ (IsMend (rows_of judge.now.runs.items) options.now guesses settings proposal.now change))
+        (IsMend (rows_of judge.now.runs.items) options.now guesses settings proposal.now)) }
     ensures last { IfSome last.new (IsSection judge.now.backwards.items) }
 {
     let Some(before) = proposal.finding.entry else {
         return Ok(None);
     };
     let entry = before as usize;
-    let Some(setting) = settings.get(entry) else {
+    let Some(found) = read.entries.get(entry) else {
         return Ok(None);
     };
-    let Some((fix, safety)) = mend_after(alloc, judge, options, setting, &proposal.finding, last)?
+    let setting = Setting::of_entry(alloc, read.file, found)?;
+    let Some((fix, safety)) = mend_after(alloc, judge, options, &setting, &proposal.finding, last)?
     else {
         return Ok(None);
     };
@@ -118,24 +128,23 @@ fn mend_of<'f>(
     Ok(None)
 }
 
-/// The wanted changes that mend what is proposed for these settings, in the order of the proposals.
+/// The wanted changes that mend what is proposed for these entries, in the order of the proposals.
 fn mends_of<'f>(
     alloc: Global,
     judge: &Judge<'_, '_>,
     options: &Options<'_>,
     guesses: bool,
-    settings: &[Setting<'_>],
+    read: &FileEntries<'_>,
     proposals: &[Proposal<'f>],
 ) -> Result<Vec<Mend<'f>>, AllocError>
-    ensures { IfOk result (λ mends. HasMends (rows_of judge.now.runs.items) options.now guesses settings.now
+    ensures { (settings : List Setting) → AreSettings read.now settings
+        → IfOk result (λ mends. HasMends (rows_of judge.now.runs.items) options.now guesses settings
         proposals.now mends.items) }
 {
     let mut mends = Vec::new(alloc);
     let mut last = None;
     for proposal in proposals {
-        if let Some(change) = mend_of(
-            alloc, judge, options, guesses, settings, proposal, &mut last,
-        )? {
+        if let Some(change) = mend_of(alloc, judge, options, guesses, read, proposal, &mut last)? {
             mends.push(change)?;
         }
     }
@@ -227,12 +236,12 @@ pub fn mend_text<'f>(
         mended.text.items)
         (RefusesMending rows.now options.now guesses file.now text.now proposals.now) }
 {
-    let (settings, refused) = settings_of(alloc, file, text)?;
+    let (read, refused) = entries_of(alloc, file, text)?;
     if let Some(error) = refused {
         return Err(EditError::File(error));
     }
     let judge = Judge::new(alloc, rows)?;
-    let mends = mends_of(alloc, &judge, options, guesses, &settings, proposals)?;
+    let mends = mends_of(alloc, &judge, options, guesses, &read, proposals)?;
     let changes = changes_of(alloc, &mends)?;
     match change_entries(alloc, text, &changes) {
         Ok(text) => Ok(MendedText { text, mends }),

@@ -2,7 +2,7 @@
 use Rattle.std.specs.Prelude.{◌≡◌, ◌≢◌, ⊤, ℕ, ◌+◌, ◌^◌, ◌<◌, ◌≤◌, List, [], ◌∷◌, ◌++◌, Option, None, Some}
 use Rattle.std.specs.Prelude.{option_map}
 use Rattle.std.specs.Prelude.{Bool, true, false, not, IsTrue, ◌↔◌, IfSome, ◌==◌, ◌*◌, ◌%◌, slice_index_or}
-use Rattle.std.specs.Prelude.{All, codes}
+use Rattle.std.specs.Prelude.{All, codes, map}
 use Rattle.std.specs.List.{AllZip, list_any, fold}
 use Rattle.std.specs.Char.{to_ascii_lowercase}
 use denote.Ref.{Bor}
@@ -10,6 +10,8 @@ use Rattle.config_text.specs.SameWord.{SameWord}
 use Rattle.config_file.specs.Key.{Key, IsCut}
 use Rattle.config_file.specs.KeyView.{key_of}
 use Rattle.config_file.specs.declared.errors.FileError as errors
+use Rattle.config_file.specs.File.{IsFile}
+use Rattle.config_file.specs.Views.{entry_of}
 use Rattle.config_checks.specs.declared.options.Options.{Options}
 use Rattle.config_checks.specs.declared.code.Code.TheVariants as kind
 use Rattle.config_checks.specs.declared.row.Row.{Row}
@@ -22,9 +24,11 @@ use Rattle.config_checks.specs.declared.suggestion.UnknownKey.{UnknownKey}
 use Rattle.config_checks.specs.declared.suggestion.Relation.{Relation}
 use Rattle.config_checks.specs.declared.suggestion.Relation.TheVariants as relations
 use Rattle.config_checks.specs.declared.suggestion.SectionFacts.{SectionFacts}
+use Rattle.config_checks.specs.declared.mending.FileEntries.{FileEntries}
 use Rattle.config_checks.specs.declared.row.Run.{Run}
 use Rattle.config_checks.specs.Rows.{rows_of}
 use Rattle.config_checks.specs.Nearest.{FewEdits}
+use Rattle.config_checks.specs.Settings.{IsSettingOf}
 use Rattle.config_checks.specs.Suggestions.{AreAlike, IsOtherWord, IsPassed, IsUnknownKey, unknown_severity}
 use Rattle.config_checks.specs.Suggestions.{unknown_text, SectionEdits, HasSection}
 use Rattle.config_checks.specs.Report.{ReportsSetting, Report, EndsReport, HasSettings, Receives, key_meant}
@@ -215,3 +219,15 @@ pub record IsSection (runs : List Run) (s : SectionFacts) : Type 0 where
 -- what is said of a key, and what is known of a section if something is
 abbrev pub IsKept : List Run → Said → Type 0
 IsKept runs said = IsSaid (rows_of runs) said × IfSome said.section (IsSection runs)
+
+-- ---- the entries in which findings are mended
+
+-- the file of this name and text has these entries up to its end, or up to this error
+abbrev pub HasEntries : List ℕ → List ℕ → FileEntries → Option errors.FileError → Type 0
+HasEntries file text read error =
+    (read.file.now ≡ file) × IsFile text (map entry_of read.entries.items) error
+
+-- these are the settings of the entries of a file that is read to its end
+abbrev pub AreSettings : FileEntries → List Setting → Type 0
+AreSettings read settings = (text : List ℕ) × IsFile text (map entry_of read.entries.items) None
+    × AllZip (IsSettingOf read.file.now) (map entry_of read.entries.items) settings
