@@ -1,5 +1,5 @@
 -- A loop over the steps of a walk, of which it is handed on what is asked for.
-use Rattle.std.proofs.Common.{arith, ap, inl, inr, refl, sym, true≢false, get_or, length, ◌≡◌, ◌≤◌, ◌<◌, ◌++◌, ℕ, Bool}
+use Rattle.std.proofs.Common.{arith, ap, ◌∙◌, subst, inl, inr, refl, sym, true≢false, get_or, length, ◌≡◌, ◌≤◌, ◌<◌, ◌++◌, ℕ, Bool}
 use Rattle.std.proofs.Common.{true, false, List, [], ◌∷◌}
 use Rattle.std.specs.Prelude.{Ok, Err, OnOk, Some, None, Result, map}
 use Rattle.std.proofs.lemmas.List.{append_assoc, append-nil, map-append}
@@ -8,7 +8,7 @@ use Rattle.config_file.specs.File.{Entry}
 use Rattle.config_file.specs.Left.{Advances, GivesEntry, last_entry}
 use Rattle.config_file.specs.Listing.{IsListed}
 use Rattle.config_file.specs.Reading.Adds.{Comes}
-use Rattle.config_file.specs.Reading.Ends.{FitsEntry}
+use Rattle.config_file.specs.Reading.Ends.{FitsEntry, FitsForm}
 use Rattle.config_file.specs.Reading.Walks.{Enters, LeftOf, Passes, Said, goes_on, is_cut}
 use Rattle.config_file.specs.Settings.{found_item}
 use Rattle.config_file.specs.Views.{entry_of}
@@ -58,7 +58,8 @@ pub fits_entry : (form : EntryForm) (old new : Entries) (entry : code.Entry) →
     → entry_of entry ≡ last_entry new form → Advances old (Some form) new → FitsEntry form (entry_of entry)
 fits_entry Alone old new entry some is advances = λ raw has. tt
 fits_entry Plain old new entry some is (fits, more) = λ raw has.
-    let same : Some new.raw.now ≡ Some raw = rw is at has in rw (same_Some new.raw.now raw same) at fits
+    let same : new.raw.now ≡ raw = same_Some new.raw.now raw (sym (ap (λ e. e.value) is) ∙ has) in
+    subst (FitsForm Plain) same fits
 fits_entry Marked old new entry some is advances = λ raw has. tt
 fits_entry Refused old new entry some is advances = absurd (some refl)
 

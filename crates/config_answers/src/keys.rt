@@ -46,7 +46,7 @@ fn have_equal_ends<const N: usize>(one: &[u8], other: &[u8]) -> bool
         && Simd::<u8, N>::from_slice(&one[back..]) == Simd::<u8, N>::from_slice(&other[back..])
 }
 
-/// Whether two texts are the same. Names and most subsections are short, and then two blocks take less time than `==`.
+/// Whether two texts are the same. Names and most subsections are short, and then two blocks cost fewer instructions than `==`.
 fn are_equal(one: &[u8], other: &[u8]) -> bool
     ensures { IsTrue result → one.now ≡ other.now }
 {
@@ -99,7 +99,7 @@ fn push_lower_ends<const N: usize>(text: &mut Vec<u8>, name: &[u8]) -> Result<()
 }
 
 /// Appends the name of a key in lower case, as [`push_lower`] does. Most are short, and then two blocks of fixed lengths
-/// take less time than a copy and a loop over it.
+/// cost fewer instructions than a copy and a loop over it.
 fn push_lower_key(text: &mut Vec<u8>, key: &[u8]) -> Result<(), AllocError>
     ensures { OnOk result (text.new.items ≡ text.old.items ++ map to_ascii_lowercase key.now) }
 {

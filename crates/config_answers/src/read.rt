@@ -129,7 +129,7 @@ impl Choice<'_, '_> {
         form: EntryForm,
         receiver: &mut R,
     ) -> Result<(), Stopped<'t>>
-        requires fits { FitsEntry form (entry_of entry.entry) }
+        requires fits { FitsEntry form (entry_of entry) }
         ensures gives { OnOk result (GivesValue R.receives (choice_of self.old) scope
             (file.now, entry_of entry.entry) receiver.old receiver.new) }
         ensures same { choice_of self.new ≡ choice_of self.old }
@@ -191,19 +191,21 @@ impl Choice<'_, '_> {
         let mut left = entries;
         'plain: for _ in 0..u64::MAX {
             let (section, line, rest) = left.parts();
-            match left.advance() {
-                None | Some(EntryForm::Refused) => {}
-                Some(form) => {
-                    let entry = left.entry(form);
-                    match include_of(alloc, known, place, &entry) {
-                        Ok(Include::NotFollowed) => {
-                            match self.give(alloc, scope, place.name, &entry, form, receiver) {
-                                Ok(()) => continue 'plain,
-                                Err(error) => return Err(error),
+            if let Some(form) = left.advance() {
+                match form {
+                    EntryForm::Refused => {}
+                    form => {
+                        let entry = left.entry(form);
+                        match include_of(alloc, known, place, &entry) {
+                            Ok(Include::NotFollowed) => {
+                                match self.give(alloc, scope, place.name, &entry, form, receiver) {
+                                    Ok(()) => continue 'plain,
+                                    Err(error) => return Err(error),
+                                }
                             }
+                            Ok(_) => {}
+                            Err(_) => return Err(no_memory()),
                         }
-                        Ok(_) => {}
-                        Err(_) => return Err(no_memory()),
                     }
                 }
             }
