@@ -46,7 +46,8 @@ fn have_equal_ends<const N: usize>(one: &[u8], other: &[u8]) -> bool
         && Simd::<u8, N>::from_slice(&one[back..]) == Simd::<u8, N>::from_slice(&other[back..])
 }
 
-/// Whether two texts are the same. Names and most subsections are short, and then two blocks cost fewer instructions than `==`.
+/// Whether two texts are the same. Names and most subsections are short, and then two blocks cost fewer instructions
+/// than `==`.
 fn are_equal(one: &[u8], other: &[u8]) -> bool
     ensures { IsTrue result → one.now ≡ other.now }
 {
