@@ -4,7 +4,7 @@ ghost use Rattle.config_text.specs.Orders.{Equates, IsCopied};
 ghost use Rattle.config_file.specs.Include.{IsSameCondition};
 
 use crate::bytes::Class;
-use crate::entry::{Entry, EntryParts};
+use crate::entry::{Entry, EntryForm, EntryParts};
 use crate::errors::{FileError, FileFault, Stop};
 use crate::files::Content;
 use crate::include::{Condition, Includes, Repository, Urls};
@@ -63,6 +63,7 @@ pub fn entries()
     ensures values { IsCopied ⟦<Value<'static> as Clone>⟧.is_clone ⟦<Value<'static> as Clone>⟧.is_infallible }
     ensures parts { IsCopied ⟦<EntryParts<'static> as Clone>⟧.is_clone
         ⟦<EntryParts<'static> as Clone>⟧.is_infallible }
+    ensures forms { IsCopied ⟦<EntryForm as Clone>⟧.is_clone ⟦<EntryForm as Clone>⟧.is_infallible }
 {}
 
 /// A clone of a class of bytes, or of where the reading of an item stops, is the same, and never fails.
