@@ -167,9 +167,10 @@ def has_hit(answer):
     return (b"hit.k", b"1") in [one for _, one in answer[0]]
 
 
-def is_of_git_alone(text, ours, git):
-    """Whether Git stops first, in a file with white space at which it cuts no color."""
-    return git is not None and (ours is None or git < ours) and FOREIGN.search(text) is not None
+def is_of_git_alone(entries, ours, git):
+    """Whether Git stops first, and a value has white space at which it cuts no color."""
+    stops_first = git is not None and (ours is None or git < ours)
+    return stops_first and any(value and FOREIGN.search(value) for _, value in entries)
 
 
 def with_spaces(ours, git):
@@ -398,7 +399,7 @@ class Comparison:
         told = [name for name, one in zip(names, given) if one.entries and one.refused is None]
         for name, line, other in zip(told, ours.all(ours.line, told), git.all(git.line, told)):
             self.counts["lines of entries"] += other is not None
-            if line != other and not is_of_git_alone(texts[int(name)], line, other):
+            if line != other and not is_of_git_alone(given[int(name)].entries, line, other):
                 self.faults.append((texts[int(name)], line, other))
 
     def follow(self, name, tree, difference=None):
