@@ -1,16 +1,13 @@
 -- The lines of settings, one by one.
-use Rattle.std.proofs.Common.{◌≡◌, ◌≢◌, ◌<◌, ◌+◌, ◌++◌, ◌∙◌, ℕ, zero, suc, Bool, true, false, List, [], ◌∷◌}
-use Rattle.std.proofs.Common.{Option, Some, None, refl, sym, ap, subst, length, take, append_assoc, append-nil, get_or}
-use Rattle.std.proofs.Common.{if◌then◌else◌, arith}
-use Rattle.std.specs.Prelude.{unwrap_or, MatchBool}
+use Rattle.std.proofs.Common.{◌≡◌, ◌≢◌, ◌++◌, ◌∙◌, ℕ, Bool, true, false, List, [], ◌∷◌}
+use Rattle.std.proofs.Common.{Option, Some, None, refl, sym, ap, append_assoc, append-nil}
+use Rattle.std.proofs.Common.{if◌then◌else◌}
+use Rattle.std.specs.Prelude.{unwrap_or}
 use Rattle.std.specs.List.{concat, last_or}
-use Rattle.std.proofs.Math.Seq.{take-suc}
-use Rattle.config_file.specs.Listing.{IsListed}
-use Rattle.config_file.specs.Settings.{AreListed, value_text}
-use Rattle.config_file.specs.Views.{entry_of}
+use Rattle.config_file.specs.Settings.{value_text}
 use Rattle.config_file.specs.declared.settings.Setting.{Setting}
 use Rattle.config_answers.specs.declared.answer.Answer.{Answer}
-use Rattle.config_answers.specs.declared.answer.Answer.TheVariants.{Written, Absent, NoDefault}
+use Rattle.config_answers.specs.declared.answer.Answer.TheVariants.{Written, Absent, Refused, NoDefault}
 use Rattle.config_answers.specs.declared.typed.Outcome.{Outcome}
 use Rattle.config_answers.specs.declared.typed.Outcome.TheVariants as outcome
 use Rattle.config_answers.specs.declared.line.Form.{Form}
@@ -37,28 +34,6 @@ pub chosen_none : (all : Bool) → chosen all [] ≡ []
 chosen_none true = refl
 chosen_none false = refl
 
--- the elements before one, that one, and the others
-pub split_here : {X : Type 0} (xs : List X) (i : ℕ) (x : X) → i < length xs → x ≡ get_or xs i x
-    → (after : List X) × (xs ≡ take i xs ++ x ∷ after)
-split_here [] i x within is = absurd (omega (arith, within))
-split_here (y ∷ ys) zero x within is = (ys, ap (λ z. z ∷ ys) (sym is))
-split_here (y ∷ ys) (suc i) x within is =
-    let (after, rest) = split_here ys i x (omega (arith, within)) is in (after, ap (λ zs. y ∷ zs) rest)
-
--- one of the settings is listed
-pub listed_here : (settings : List Setting) (i : ℕ) (setting : Setting) → i < length settings
-    → setting ≡ get_or settings i setting → AreListed settings
-    → (text : List ℕ) × IsListed (entry_of setting.entry).section (entry_of setting.entry).key text
-listed_here settings i setting within is listed =
-    subst (λ s. (text : List ℕ) × IsListed (entry_of s.entry).section (entry_of s.entry).key text) (sym is)
-    (listed i setting within)
-
-pub take_next : {X : Type 0} (xs : List X) (i : ℕ) (x : X) → i < length xs → x ≡ get_or xs i x
-    → take i xs ++ x ∷ [] ≡ take (i + 1) xs
-take_next xs i x within is =
-    let one : suc i ≡ i + 1 = omega arith in
-    ap (λ s. take i xs ++ s ∷ []) is ∙ sym (take-suc xs i x within) ∙ ap (λ n. take n xs) one
-
 pub has_line : (o : Outcome) → o ≢ outcome.Missing → o ≢ outcome.Refused → HasLine o
 has_line outcome.AsWritten no_file no_value = tt
 has_line outcome.Typed no_file no_value = tt
@@ -75,72 +50,88 @@ puts_line IsOne Line all old new outcome.Alone has one is same = (one, is, same)
 puts_line IsOne Line all old new outcome.Missing has one is same = absurd has
 puts_line IsOne Line all old new outcome.Refused has one is same = absurd has
 
--- whether no line is written yet, before and after one more setting
-abbrev pub StaysAbsent : Outcome → Bool → Bool → Type 0
-StaysAbsent outcome.Missing was is = is ≡ was
-StaysAbsent outcome.Refused was is = ⊥
-StaysAbsent _ was is = is ≡ false
-
-pub stays_written : (o : Outcome) (was is : Bool) → o ≢ outcome.Missing → o ≢ outcome.Refused → is ≡ false
-    → StaysAbsent o was is
-stays_written outcome.AsWritten was is no_file no_value same = same
-stays_written outcome.Typed was is no_file no_value same = same
-stays_written outcome.Alone was is no_file no_value same = same
-stays_written outcome.Missing was is no_file no_value same = absurd (no_file refl)
-stays_written outcome.Refused was is no_file no_value same = absurd (no_value refl)
-
 not_empty : {X : Type 0} (xs : List X) (x : X) → xs ++ x ∷ [] ≢ []
 not_empty [] x same = absurd (cc)
 not_empty (y ∷ ys) x same = absurd (cc)
 
--- what is written for the first settings: their lines, if one of them has a line
-abbrev pub IsSoFar : (Option (List ℕ) → Outcome → List ℕ → Type 0) → Unfiled → Form → List Setting
-    → List ℕ → Bool → Type 0
-IsSoFar Shows unfiled form settings output is_absent = (lines : List (List ℕ)) × Lines Shows unfiled form settings lines
-    × (output ≡ chosen form.all lines) × MatchBool is_absent (lines ≡ []) (lines ≢ [])
-
-one_line : (Shows : Option (List ℕ) → Outcome → List ℕ → Type 0) (unfiled : Unfiled) (form : Form)
-    (settings : List Setting) (setting : Setting) (old new : List ℕ) (was is : Bool) (one : List ℕ)
-    → IsSoFar Shows unfiled form settings old was → IsLineOf Shows unfiled form setting one
-    → new ≡ (if form.all then old else []) ++ one → is ≡ false
-    → IsSoFar Shows unfiled form (settings ++ setting ∷ []) new is
-one_line Shows unfiled form settings setting old new was is one (lines, are, out, none) line same absent = (
-  lines ++ one ∷ [],
-  written are line,
-  same ∙ ap (λ o. (if form.all then o else []) ++ one) out ∙ chosen_next form.all lines one,
-  subst (λ b. MatchBool b (lines ++ one ∷ [] ≡ []) (lines ++ one ∷ [] ≢ [])) (sym absent) (not_empty lines one),
-)
-
-pub one_more : (Shows : Option (List ℕ) → Outcome → List ℕ → Type 0) (unfiled : Unfiled) (form : Form)
-    (settings : List Setting) (setting : Setting) (old new : List ℕ) (was is : Bool) (o : Outcome)
-    → StaysAbsent o was is → IsSoFar Shows unfiled form settings old was
-    → Puts (Becomes Shows (value_text setting)) (IsLineOf Shows unfiled form setting) form.all old new o
-    → IsSoFar Shows unfiled form (settings ++ setting ∷ []) new is
-one_more Shows unfiled form settings setting old new was is outcome.AsWritten same so_far (one, line, out) =
-    one_line Shows unfiled form settings setting old new was is one so_far line out same
-one_more Shows unfiled form settings setting old new was is outcome.Typed same so_far (one, line, out) =
-    one_line Shows unfiled form settings setting old new was is one so_far line out same
-one_more Shows unfiled form settings setting old new was is outcome.Alone same so_far (one, line, out) =
-    one_line Shows unfiled form settings setting old new was is one so_far line out same
-one_more Shows unfiled form settings setting old new was is outcome.Missing same (lines, are, out, none) (kept, becomes) = (
-  lines,
-  missing setting are becomes,
-  kept ∙ out,
-  subst (λ b. MatchBool b (lines ≡ []) (lines ≢ [])) (sym same) none,
-)
-one_more Shows unfiled form settings setting old new was is outcome.Refused same so_far puts = absurd same
-
-pub answers : (Shows : Option (List ℕ) → Outcome → List ℕ → Type 0) (unfiled : Unfiled) (form : Form)
-    (settings : List Setting) (output : List ℕ) (is_absent : Bool) (answer : Answer)
-    → MatchBool is_absent (answer ≡ Absent) (answer ≡ Written) → IsSoFar Shows unfiled form settings output is_absent
+-- the lines of the settings so far, if none of them is refused
+so_far : (Shows : Option (List ℕ) → Outcome → List ℕ → Type 0) (unfiled : Unfiled) (form : Form)
+    (settings : List Setting) (output : List ℕ) (answer : Answer) → ((setting : Setting) → answer ≢ Refused setting)
     → Answers Shows unfiled form settings output answer
-answers Shows unfiled form settings output true answer is (lines, are, out, none) =
-    subst (Answers Shows unfiled form settings output) (sym is) (
-      subst (Lines Shows unfiled form settings) none are,
-      out ∙ ap (chosen form.all) none ∙ chosen_none form.all,
+    → (lines : List (List ℕ)) × Lines Shows unfiled form settings lines × (output ≡ chosen form.all lines)
+so_far Shows unfiled form settings output Written goes_on (lines, are, some, out) = (lines, are, out)
+so_far Shows unfiled form settings output Absent goes_on (are, none) = ([], are, none ∙ sym (chosen_none form.all))
+so_far Shows unfiled form settings output (Refused setting) goes_on is = absurd (goes_on setting refl)
+so_far Shows unfiled form settings output NoDefault goes_on is = absurd is
+
+-- the answer from one more setting: behind a refused one
+pub later : (Shows : Option (List ℕ) → Outcome → List ℕ → Type 0) (unfiled : Unfiled) (form : Form)
+    (settings : List Setting) (refused setting : Setting) (output : List ℕ)
+    → Answers Shows unfiled form settings output (Refused refused)
+    → Answers Shows unfiled form (settings ++ setting ∷ []) output (Refused refused)
+later Shows unfiled form settings refused setting output (before, after, lines, split, are, becomes, out) = (
+  before,
+  after ++ setting ∷ [],
+  lines,
+  ap (λ all. all ++ setting ∷ []) split ∙ append_assoc before (refused ∷ after) (setting ∷ []),
+  are,
+  becomes,
+  out,
+)
+
+-- one that counts as not set
+pub missing_next : (Shows : Option (List ℕ) → Outcome → List ℕ → Type 0) (unfiled : Unfiled) (form : Form)
+    (settings : List Setting) (setting : Setting) (old new : List ℕ) (answer : Answer)
+    → ((refused : Setting) → answer ≢ Refused refused) → Answers Shows unfiled form settings old answer
+    → (new ≡ old) × Becomes Shows (value_text setting) outcome.Missing
+    → Answers Shows unfiled form (settings ++ setting ∷ []) new answer
+missing_next Shows unfiled form settings setting old new Written goes_on (lines, are, some, out) (same, becomes) =
+    (lines, missing setting are becomes, some, same ∙ out)
+missing_next Shows unfiled form settings setting old new Absent goes_on (are, none) (same, becomes) =
+    (missing setting are becomes, same ∙ none)
+missing_next Shows unfiled form settings setting old new (Refused refused) goes_on is puts = absurd (goes_on refused refl)
+missing_next Shows unfiled form settings setting old new NoDefault goes_on is puts = absurd is
+
+-- one that is none of its type
+pub refused_next : (Shows : Option (List ℕ) → Outcome → List ℕ → Type 0) (unfiled : Unfiled) (form : Form)
+    (settings : List Setting) (setting : Setting) (old mid : List ℕ) (answer : Answer)
+    → ((refused : Setting) → answer ≢ Refused refused) → Answers Shows unfiled form settings old answer
+    → (mid ≡ old) × Becomes Shows (value_text setting) outcome.Refused
+    → (new : List ℕ) → new ≡ [] → Answers Shows unfiled form (settings ++ setting ∷ []) new (Refused setting)
+refused_next Shows unfiled form settings setting old mid answer goes_on is (same, becomes) new empty =
+    let (lines, are, out) = so_far Shows unfiled form settings old answer goes_on is in
+    (settings, [], lines, refl, are, becomes, empty)
+
+-- one that has a line
+line_next : (Shows : Option (List ℕ) → Outcome → List ℕ → Type 0) (unfiled : Unfiled) (form : Form)
+    (settings : List Setting) (setting : Setting) (old new : List ℕ) (answer : Answer)
+    → ((refused : Setting) → answer ≢ Refused refused) → Answers Shows unfiled form settings old answer
+    → (one : List ℕ) × IsLineOf Shows unfiled form setting one × (new ≡ (if form.all then old else []) ++ one)
+    → Answers Shows unfiled form (settings ++ setting ∷ []) new Written
+line_next Shows unfiled form settings setting old new answer goes_on is (one, line, same) =
+    let (lines, are, out) = so_far Shows unfiled form settings old answer goes_on is in (
+      lines ++ one ∷ [],
+      written are line,
+      not_empty lines one,
+      same ∙ ap (λ o. (if form.all then o else []) ++ one) out ∙ chosen_next form.all lines one,
     )
-answers Shows unfiled form settings output false answer is (lines, are, out, some) =
-    subst (Answers Shows unfiled form settings output) (sym is) (lines, are, some, out)
+
+pub written_next : (Shows : Option (List ℕ) → Outcome → List ℕ → Type 0) (unfiled : Unfiled) (form : Form)
+    (settings : List Setting) (setting : Setting) (old new : List ℕ) (answer : Answer) (o : Outcome)
+    → o ≢ outcome.Missing → o ≢ outcome.Refused
+    → ((refused : Setting) → answer ≢ Refused refused) → Answers Shows unfiled form settings old answer
+    → Puts (Becomes Shows (value_text setting)) (IsLineOf Shows unfiled form setting) form.all old new o
+    → Answers Shows unfiled form (settings ++ setting ∷ []) new Written
+written_next Shows unfiled form settings setting old new answer outcome.AsWritten some no_value goes_on is puts =
+    line_next Shows unfiled form settings setting old new answer goes_on is puts
+written_next Shows unfiled form settings setting old new answer outcome.Typed some no_value goes_on is puts =
+    line_next Shows unfiled form settings setting old new answer goes_on is puts
+written_next Shows unfiled form settings setting old new answer outcome.Alone some no_value goes_on is puts =
+    line_next Shows unfiled form settings setting old new answer goes_on is puts
+written_next Shows unfiled form settings setting old new answer outcome.Missing some no_value goes_on is puts =
+    absurd (some refl)
+written_next Shows unfiled form settings setting old new answer outcome.Refused some no_value goes_on is puts =
+    absurd (no_value refl)
 
 -- the answer that the outcome of a default gives
 abbrev pub IsAnswerOf : Outcome → Answer → Type 0

@@ -78,8 +78,8 @@ Answers Shows unfiled form settings output Written = (lines : List (List ℕ)) �
     × (lines ≢ []) × (output ≡ chosen form.all lines)
 Answers Shows unfiled form settings output Absent = Lines Shows unfiled form settings [] × (output ≡ [])
 Answers Shows unfiled form settings output (Refused setting) = (before : List Setting) × (after : List Setting)
-    × (lines : List (List ℕ)) × (settings ≡ before ++ setting.now ∷ after) × Lines Shows unfiled form before lines
-    × Becomes Shows (value_text setting.now) outcome.Refused × (output ≡ [])
+    × (lines : List (List ℕ)) × (settings ≡ before ++ setting ∷ after) × Lines Shows unfiled form before lines
+    × Becomes Shows (value_text setting) outcome.Refused × (output ≡ [])
 Answers Shows unfiled form settings output NoDefault = ⊥
 
 -- where a default is, which is no entry

@@ -1,8 +1,9 @@
 //! What is answered from the settings that are asked for.
-ghost use Rattle.std.specs.Prelude.{◌≡◌, [], ℕ, List, IfOk, option_map, option_copied};
+ghost use Rattle.std.specs.Prelude.{◌≡◌, ◌++◌, ◌∷◌, [], ℕ, List, IfOk, OnOk, option_map, option_copied};
 ghost use Rattle.config_file.specs.Listing.{IsListed};
 ghost use Rattle.config_file.specs.Settings.{AreListed, value_text};
 ghost use Rattle.config_file.specs.Views.{entry_of};
+ghost use Rattle.config_file.specs.declared.settings.Setting as code;
 ghost use Rattle.config_answers.specs.Answers.{value_of, IsLine, IsLineOf, Becomes, Puts, Answers, AnswersOr};
 ghost use Rattle.config_answers.specs.Answers.{ending_of, status_of};
 ghost use Rattle.config_answers.specs.Lines.{IsName};
@@ -98,21 +99,21 @@ pub struct Writer<'t> {
     pub output: Vec<u8>,
 }
 
-/// What is answered.
+/// What is answered, or answered so far.
 ///
 /// ```rust
 /// use config_answers::answer::{Answer, Ending};
 ///
 /// assert!(rt; matches!(Answer::NoDefault.ending(), Ending::Refused));
 /// ```
-#[derive(Clone, Copy)]
-pub enum Answer<'s, 't> {
+#[derive(Drop)]
+pub enum Answer<'t> {
     /// The lines of settings, or that of the default.
     Written,
     /// Nothing, as no setting has a line.
     Absent,
     /// Nothing, as the value of this setting is none of its type.
-    Refused(&'s Setting<'t>),
+    Refused(Setting<'t>),
     /// Nothing, as the default is none of its type.
     NoDefault,
 }
@@ -138,7 +139,7 @@ fn value_of<'v>(outcome: Outcome, value: Option<&'v [u8]>, typed: &'v [u8]) -> O
     }
 }
 
-impl Answer<'_, '_> {
+impl Answer<'_> {
     /// How the run ends.
     pub fn ending(&self) -> Ending
         ensures { result ≡ ending_of self.now }
@@ -226,54 +227,55 @@ impl<'t> Writer<'t> {
         self.put(values, text_of(setting), &place, Name::Of(&setting.entry))
     }
 
-    /// Answers from the settings that are asked for. Nothing is written yet. It fails only if memory or the
-    /// system refuses it.
-    pub fn answer<'s, H: Host>(
+    /// Answers from one more setting that is asked for. `answer` is what is answered so far: `Absent` from none. A setting
+    /// behind a refused one changes nothing. It fails only if memory or the system refuses it.
+    #[inline(always)]
+    pub fn answer<H: Host>(
         &mut self,
         values: &Values<'_, H>,
-        settings: &'s [Setting<'t>],
-    ) -> io::Result<Answer<'s, 't>>
-        requires { self.old.output.items ≡ [] }
-        ensures answers { AreListed settings.now → IfOk result
-            (Answers (Shows (H.dates values.now.host) (H.is_there values.now.host) values.now.homes
-            values.now.shown) self.old.unfiled self.old.form settings.now self.new.output.items) }
+        setting: Setting<'t>,
+        answer: &mut Answer<'t>,
+    ) -> io::Result<()>
+        ensures answers { AreListed (setting.entry ∷ []) → (settings : List code.Setting)
+            → (let shows = Shows (H.dates values.now.host) (H.is_there values.now.host) values.now.homes
+            values.now.shown in
+            Answers shows self.old.unfiled self.old.form settings self.old.output.items answer.old
+            → OnOk result (Answers shows self.old.unfiled self.old.form (settings ++ setting.entry ∷ [])
+            self.new.output.items answer.new)) }
         ensures form { self.new.form ≡ self.old.form }
+        ensures unfiled { self.new.unfiled ≡ self.old.unfiled }
     {
-        let mut is_absent = true;
-        for setting in settings {
-            match self.put_setting(values, setting)? {
-                Outcome::Missing => {}
-                Outcome::Refused => {
-                    self.output.clear();
-                    return Ok(Answer::Refused(setting));
-                }
-                _ => is_absent = false,
-            }
+        if let Answer::Refused(_) = answer {
+            return Ok(());
         }
-        Ok(if is_absent {
-            Answer::Absent
-        } else {
-            Answer::Written
-        })
+        match self.put_setting(values, &setting)? {
+            Outcome::Missing => {}
+            Outcome::Refused => {
+                self.output.clear();
+                *answer = Answer::Refused(setting);
+            }
+            _ => *answer = Answer::Written,
+        }
+        Ok(())
     }
 
-    /// Answers from the settings that are asked for, or from this default, if there is one and no setting has a line.
-    /// It is written under this key. Nothing is written yet. It fails only if memory or the system refuses it.
-    pub fn answer_or<'s, H: Host>(
+    /// Answers with the line of this default under this key, if there is one and no setting has a line. `answer` is what is
+    /// answered from all settings. It fails only if memory or the system refuses it.
+    pub fn answer_or<H: Host>(
         &mut self,
         values: &Values<'_, H>,
-        settings: &'s [Setting<'t>],
+        answer: Answer<'t>,
         key: &[u8],
         default: Option<&[u8]>,
-    ) -> io::Result<Answer<'s, 't>>
-        requires { self.old.output.items ≡ [] }
-        ensures { AreListed settings.now → IfOk result
-            (AnswersOr (Shows (H.dates values.now.host) (H.is_there values.now.host) values.now.homes
-            values.now.shown) self.old.unfiled self.old.form settings.now key.now (option_copied default.entry)
-            self.new.output.items) }
+    ) -> io::Result<Answer<'t>>
+        ensures { (settings : List code.Setting)
+            → (let shows = Shows (H.dates values.now.host) (H.is_there values.now.host) values.now.homes
+            values.now.shown in
+            Answers shows self.old.unfiled self.old.form settings self.old.output.items answer.entry
+            → IfOk result (AnswersOr shows self.old.unfiled self.old.form settings key.now
+            (option_copied default.entry) self.new.output.items)) }
     {
-        let answer = self.answer(values, settings)?;
-        let (Answer::Absent, Some(default)) = (answer, default) else {
+        let (Answer::Absent, Some(default)) = (&answer, default) else {
             return Ok(answer);
         };
         let place = Place {

@@ -1,7 +1,7 @@
 //! What `clone` returns.
 ghost use Rattle.config_text.specs.Orders.{IsCopied};
 
-use crate::answer::{Answer, Ending};
+use crate::answer::Ending;
 use crate::line::{Form, Name, Origin, Place, Unfiled};
 use crate::read::Text;
 use crate::typed::{Homes, Outcome, Shown};
@@ -14,7 +14,6 @@ pub fn copies()
     ensures unfiled { IsCopied ⟦<Unfiled as Clone>⟧.is_clone ⟦<Unfiled as Clone>⟧.is_infallible }
     ensures outcomes { IsCopied ⟦<Outcome as Clone>⟧.is_clone ⟦<Outcome as Clone>⟧.is_infallible }
     ensures endings { IsCopied ⟦<Ending as Clone>⟧.is_clone ⟦<Ending as Clone>⟧.is_infallible }
-    ensures answers { IsCopied ⟦<Answer<'static, 'static> as Clone>⟧.is_clone ⟦<Answer<'static, 'static> as Clone>⟧.is_infallible }
     ensures origins { IsCopied ⟦<Origin as Clone>⟧.is_clone ⟦<Origin as Clone>⟧.is_infallible }
     ensures forms { IsCopied ⟦<Form as Clone>⟧.is_clone ⟦<Form as Clone>⟧.is_infallible }
     ensures names { IsCopied ⟦<Name<'static, 'static> as Clone>⟧.is_clone ⟦<Name<'static, 'static> as Clone>⟧.is_infallible }

@@ -20,17 +20,40 @@ use std::mem;
 /// How many bytes of output are kept before they are written.
 const ROOM: usize = 65536;
 
+/// What becomes of the settings that are asked for.
+#[derive(Clone, Copy)]
+enum Use {
+    /// They are listed.
+    Listed,
+    /// The answer is made from one after the other.
+    Answered,
+    /// They are kept, if they are of the URL that is asked for.
+    Kept,
+}
+
+impl Use {
+    /// What becomes of the settings of a request.
+    fn of(request: &Request<'_>) -> Use {
+        match request.chosen.subject {
+            Subject::Entries => Use::Listed,
+            Subject::Key(_) | Subject::Pattern(_) => Use::Answered,
+            _ => Use::Kept,
+        }
+    }
+}
+
 /// What gets the settings that are asked for, and what is to be written of them.
 #[derive(Drop)]
 pub struct Collector<'r, 't> {
     /// How values are shown, by the system.
     pub values: Values<'t, System<'t>>,
-    /// Whether settings are listed at once.
-    lists: bool,
-    /// The URL of which they have to be, if one is asked for.
+    uses: Use,
+    /// The URL of which settings have to be, if one is asked for.
     pub for_url: Option<ForUrl<'r, 't>>,
-    /// The settings that are kept, if they are not listed.
+    /// The settings that are kept.
     settings: Vec<Setting<'t>>,
+    /// What is answered so far.
+    answer: Answer<'t>,
     /// How many settings were received.
     received: usize,
     /// How many of them this reading has come to.
@@ -59,15 +82,20 @@ impl<'t> Collector<'_, 't> {
             .put(&self.values, value, &place, Name::Text(key))
     }
 
-    /// Appends the values of these settings, or the default under this key, and nothing if one is refused.
-    fn answer_or<'s>(
-        &mut self,
-        settings: &'s [Setting<'t>],
-        key: &[u8],
-        default: Option<&[u8]>,
-    ) -> io::Result<Answer<'s, 't>> {
-        self.writer.output.clear();
-        self.writer.answer_or(&self.values, settings, key, default)
+    /// What is answered, which may be the default under this key.
+    fn answer_or(&mut self, key: &[u8], default: Option<&[u8]>) -> io::Result<Answer<'t>> {
+        let answer = mem::replace(&mut self.answer, Answer::Absent);
+        self.writer.answer_or(&self.values, answer, key, default)
+    }
+
+    /// Lists a setting. As in Git, a list leaves out what is none of its type.
+    #[inline(always)]
+    fn list(&mut self, setting: &Setting<'t>) -> io::Result<()> {
+        self.writer.put_setting(&self.values, setting)?;
+        if self.writer.output.len() >= ROOM {
+            self.write()?;
+        }
+        Ok(())
     }
 
     /// Writes the output so far.
@@ -81,7 +109,7 @@ impl<'t> Collector<'_, 't> {
 impl<'t> Receiver<'t> for Collector<'_, 't> {
     ghost receives = { λ _ _ _. ⊤ };
 
-    /// Lists a setting, or keeps it, once. As in Git, a list leaves out what is none of its type.
+    /// Lists a setting, answers from it, or keeps it, once.
     #[inline(always)]
     fn receive(&mut self, setting: Setting<'t>) -> io::Result<()> {
         self.passed = self.passed.saturating_add(1);
@@ -89,14 +117,11 @@ impl<'t> Receiver<'t> for Collector<'_, 't> {
             return Ok(());
         }
         self.received = self.passed;
-        if !self.lists {
-            return self.keep(setting);
+        match self.uses {
+            Use::Listed => self.list(&setting),
+            Use::Answered => self.writer.answer(&self.values, setting, &mut self.answer),
+            Use::Kept => self.keep(setting),
         }
-        self.writer.put_setting(&self.values, &setting)?;
-        if self.writer.output.len() >= ROOM {
-            self.write()?;
-        }
-        Ok(())
     }
 }
 
@@ -111,8 +136,8 @@ pub struct Reading<'r, 't> {
     pub collector: Collector<'r, 't>,
 }
 
-/// Reads the texts that are opened, up to where Git stops, which is told. Returns `None` if it is not known what a
-/// condition asks about.
+/// Reads the texts that are opened, up to where Git stops, which is told, unless it stopped before at a value. Returns
+/// `None` if it is not known what a condition asks about.
 fn read_all<'t>(
     rt: &HostRuntime,
     opened: &Opened<'t>,
@@ -135,6 +160,9 @@ fn read_all<'t>(
         ) {
             Ok(()) => {}
             Err(Stopped::System(error)) => return Err(HostError::from(error)),
+            Err(Stopped::Git(_)) if matches!(collector.answer, Answer::Refused(_)) => {
+                return Ok(Some(Ending::Done));
+            }
             Err(Stopped::Git(stop)) if is_unknown(&stop) => return Ok(None),
             Err(Stopped::Git(stop)) => {
                 tell_stop(rt, &opened.sources, source.scope, HereError::Stops(stop));
@@ -190,15 +218,12 @@ impl<'t> Reading<'_, 't> {
         mem::replace(&mut self.collector.settings, Vec::new(self.rt.alloc()))
     }
 
-    /// Appends the values of the key, or of the keys of a pattern, or the default under it as it was asked for. If one
-    /// is refused, there is no output.
+    /// Answers with the values of the key, or of the keys of a pattern, or with the default under it as it was asked
+    /// for. If one is refused, there is no output.
     fn answer_key(&mut self, key: &str) -> Result<Ending, HostError> {
-        let settings = self.kept_settings();
         let default = self.request.default.map(str::as_bytes);
-        let answer = self
-            .collector
-            .answer_or(&settings, key.as_bytes(), default)?;
-        match answer {
+        let answer = self.collector.answer_or(key.as_bytes(), default)?;
+        match &answer {
             Answer::Written | Answer::Absent => {}
             Answer::NoDefault => self.tell_default(key, self.request.default.unwrap_or("")),
             Answer::Refused(setting) => {
@@ -239,12 +264,13 @@ fn new_collector<'r, 't>(
             homes: homes_of(&opened.disk, shown)?,
             shown,
         },
-        lists: request.lists(),
+        uses: Use::of(request),
         for_url: match request.chosen.subject {
             Subject::Url(text, url) => ForUrl::new(alloc, text, url)?,
             _ => None,
         },
         settings: Vec::new(alloc),
+        answer: Answer::Absent,
         received: 0,
         passed: 0,
         writer: Writer::new(alloc, form_of(request), unfiled(&opened.sources)),
@@ -273,6 +299,8 @@ fn answer_in<'r, 't>(
     };
     if matches!(ending, Ending::Done) {
         ending = reading.answer()?;
+    } else if !request.lists() {
+        reading.collector.writer.output.clear();
     }
     reading.collector.write()?;
     Ok(ending)

@@ -5,14 +5,13 @@ use Rattle.config_answers.proofs.answer.Writer.answer_or.Goals.{in-Missing, in-R
 use Rattle.config_answers.proofs.answer.Writer.answer_or.Goals as goal
 
 pub returns : goal.returns
-returns g c = λ listed.
+returns g c = λ settings so_far.
     let values = c.args.values.now in
     let shows = Shows (g.H.Host.dates values.host) (g.H.Host.is_there values.host) values.homes values.shown in
-    let answer = c.match-branch-3.result in
+    let answer = c.match-branch-2.result in
     let outcome = c.in_ok-put.field-0 in
-    let absent = rw c.in-Absent-Some.is-0 at (c.in_ok-answer.ensures.answers listed) in
-    let puts = rw c.in_ok-answer.ensures.form at (c.in_ok-put.ensures.puts c.args.key.now refl) in
-    let is : IsAnswerOf outcome answer = elim c.match-branch-3.branch [
+    let absent = rw c.in-Absent-Some.is-0 at so_far in
+    let is : IsAnswerOf outcome answer = elim c.match-branch-2.branch [
       | in-Missing w ↦ rw w.in-Missing.is w.result-is
       | in-Refused w ↦ rw w.in-Refused.is w.result-is
       | in_default-2 w ↦
@@ -21,6 +20,6 @@ returns g c = λ listed.
     rw c.in-Absent-Some.is-1 (inr (
       absent.0,
       default_answer shows c.args.self.now.form c.args.key.now
-          c.in-Absent-Some.default.now c.answer.new.self.output.items c.put.new.self.output.items _ answer outcome
-          (refl, refl, refl, refl) absent.1 is puts,
+          c.in-Absent-Some.default.now c.args.self.now.output.items c.put.new.self.output.items _ answer outcome
+          (refl, refl, refl, refl) absent.1 is (c.in_ok-put.ensures.puts c.args.key.now refl),
     ))
