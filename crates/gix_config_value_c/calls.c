@@ -1,6 +1,7 @@
 /* The calls of the header. Most of them call one that is proved, which takes no null pointer. */
 #define _DEFAULT_SOURCE
 #include "raw.h"
+#include "plain.h"
 
 #include <errno.h>
 #include <stdio.h>
@@ -518,6 +519,15 @@ static gcv_raw_known given_of(const gcv_known *known)
     return raw;
 }
 
+/* Puts the step to an entry whose texts are at the front of this buffer. */
+static void put_step(const gcv_raw_step *raw, char *buffer, gcv_step *out)
+{
+    gcv_step step = {raw->name, raw->name_length, raw->line, buffer, NULL, NULL, raw->include, raw->role, raw->size};
+    step.value = raw->has_value == 1 ? buffer + raw->value : NULL;
+    step.included = raw->include == GCV_OK ? buffer + raw->included : NULL;
+    *out = step;
+}
+
 gcv_status gcv_next(gcv_walk *GCV_TO walk, const gcv_known *known, char *GCV_TO buffer,
                     size_t capacity, gcv_step *GCV_TO out)
 {
@@ -528,20 +538,30 @@ gcv_status gcv_next(gcv_walk *GCV_TO walk, const gcv_known *known, char *GCV_TO 
         status = gcv_raw_next(walk->frames, walk->count, &walk->count, &given, room_of(buffer, capacity), capacity,
                               &step);
     }
-    if (status == GCV_OK || status == GCV_SHORT_BUFFER) {
+    if (status == GCV_SHORT_BUFFER) {
         out->size = step.size;
     }
-    if (status == GCV_OK || status == GCV_BAD_LINE || status == GCV_NUL) {
+    if (status == GCV_BAD_LINE || status == GCV_NUL) {
         out->file = step.name;
         out->file_length = step.name_length;
         out->line = step.line;
     }
     if (status == GCV_OK) {
-        out->key = buffer;
-        out->value = step.has_value == 1 ? buffer + step.value : NULL;
-        out->included = step.include == GCV_OK ? buffer + step.included : NULL;
-        out->include = step.include;
-        out->role = step.role;
+        put_step(&step, buffer, out);
+    }
+    return status;
+}
+
+gcv_status next_plain(gcv_walk *walk, const gcv_known *known, char *buffer, size_t capacity, gcv_step *steps,
+                      size_t *count)
+{
+    gcv_raw_known given = given_of(known);
+    gcv_raw_step raw[MOST_PLAIN];
+    gcv_status status = gcv_raw_next_plain(&walk->frames[walk->count - 1], &given, room_of(buffer, capacity), capacity,
+                                           raw, MOST_PLAIN, count);
+    for (size_t at = 0; at < *count; at++) {
+        put_step(&raw[at], buffer, &steps[at]);
+        buffer += raw[at].size;
     }
     return status;
 }

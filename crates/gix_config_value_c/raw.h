@@ -11,7 +11,7 @@ typedef GCV_ENUM(gcv_edit) {
     GCV_EDIT_RENAME_SECTION = 5, GCV_EDIT_REMOVE_SECTION = 6
 } gcv_edit;
 
-/* What gcv_raw_next takes for a gcv_known. */
+/* What a walk takes for a gcv_known. */
 typedef struct gcv_raw_known {
     const char *install_dir;
     size_t install_dir_length;
@@ -36,7 +36,7 @@ typedef struct gcv_raw_known {
     uint32_t seeks_urls;
 } gcv_raw_known;
 
-/* What gcv_raw_next writes. */
+/* What a walk writes of a step. */
 typedef struct gcv_raw_step {
     const char *name;
     size_t name_length;
@@ -187,6 +187,8 @@ gcv_status gcv_raw_enter(size_t *count, gcv_frame *frame, const char *name, size
                          size_t real_dir_length, const char *text, size_t length);
 gcv_status gcv_raw_next(gcv_frame *frames, size_t frames_count, size_t *count, const gcv_raw_known *known, char *buffer,
                         size_t capacity, gcv_raw_step *out);
+gcv_status gcv_raw_next_plain(gcv_frame *frame, const gcv_raw_known *known, char *buffer, size_t capacity,
+                              gcv_raw_step *steps, size_t steps_count, size_t *count);
 gcv_status gcv_raw_search(const char *folder, size_t folder_length, const gcv_fact *facts, size_t count, char *buffer,
                           size_t capacity, gcv_raw_found *out);
 gcv_status gcv_raw_list_key(const char *key, size_t length, char *buffer, size_t capacity, size_t *size);

@@ -1,6 +1,6 @@
 /* The settings of files: a list, its texts, and a table in which a key leads to its last setting. */
 #define _DEFAULT_SOURCE
-#include "gix_config_value.h"
+#include "plain.h"
 #include "system.h"
 
 #include <stdlib.h>
@@ -325,6 +325,18 @@ static gcv_status next(reading *to, gcv_step *step)
     return status;
 }
 
+/* Keeps the texts of an entry, which lie somewhere behind those that are kept. */
+static void keep_texts(block *texts, gcv_step *step)
+{
+    char *end = texts->bytes + texts->size;
+    if (step->key != end) {
+        memmove(end, step->key, step->size);
+        step->value = step->value ? end + (step->value - step->key) : NULL;
+        step->key = end;
+    }
+    texts->size += step->size;
+}
+
 /* Takes the key away from the texts of an entry, which has that of a setting instead, so that it is kept once. */
 static void share_key(block *texts, gcv_step *step, const char *key)
 {
@@ -403,6 +415,34 @@ static gcv_status take(reading *to, gcv_step *step)
     return enter(to, step->included);
 }
 
+/* Takes entries that include no file, many at once, unless URLs of remotes may be forbidden in their file. */
+static gcv_status take_plain(reading *to, gcv_step *last)
+{
+    const gcv_walk *walk = &to->walk;
+    gcv_step steps[MOST_PLAIN];
+    size_t count = MOST_PLAIN;
+    if (walk->count == 0 || (walk->count > 1 && walk->frames[walk->count - 2].forbids_urls)) {
+        return GCV_OK;
+    }
+    while (count == MOST_PLAIN) {
+        block *texts = block_with(to->memory, 1);
+        if (!texts) {
+            return GCV_NO_MEMORY;
+        }
+        gcv_status status = next_plain(&to->walk, to->known, texts->bytes + texts->size,
+                                       texts->capacity - texts->size, steps, &count);
+        for (size_t at = 0; status == GCV_OK && at < count; at++) {
+            *last = steps[at];
+            keep_texts(texts, last);
+            status = take(to, last);
+        }
+        if (status != GCV_OK) {
+            return status;
+        }
+    }
+    return GCV_OK;
+}
+
 /* Reads a file, or for null the settings of the command, and what it includes. */
 static gcv_status read_file(reading *to, const char *name)
 {
@@ -411,7 +451,7 @@ static gcv_status read_file(reading *to, const char *name)
     to->walk.count = 0;
     gcv_status status = !own ? GCV_NO_MEMORY : name ? enter(to, own) : enter_command(to);
     step.file = own;
-    while (status == GCV_OK && (status = next(to, &step)) == GCV_OK) {
+    while (status == GCV_OK && (status = take_plain(to, &step)) == GCV_OK && (status = next(to, &step)) == GCV_OK) {
         status = take(to, &step);
     }
     if (status != GCV_ABSENT) {

@@ -1,14 +1,20 @@
 -- The frames of a walk in C, one more at a time.
 use Rattle.std.proofs.Common.{arith, ◌≡◌, ◌<◌, ◌≤◌, ◌+◌, ◌++◌, ℕ, zero, suc, List, [], ◌∷◌, Option, None, Some}
-use Rattle.std.proofs.Common.{length, take, drop, sym, ap, ◌∙◌, slice_index_or, slice_set}
+use Rattle.std.proofs.Common.{length, take, drop, sym, ap, subst, ◌∙◌, slice_index_or, slice_set}
 use Rattle.std.specs.List.{AllZip}
 use Rattle.std.proofs.lemmas.List.{take_more, take_more_set, length-take-le}
+use Rattle.std.proofs.Math.Seq.{take-append-add, take-append_seam}
 use Rattle.std.proofs.lemmas.Slice.Zip.{AllZip-long, all_zipped_more}
 use Rattle.config_file.specs.declared.section.Section.{Section}
 use Rattle.config_file.specs.declared.section.Subsection.{Subsection}
 use Rattle.config_file.specs.declared.walk.Frame.{Frame}
+use Rattle.config_file.specs.declared.walk.Known.{Known}
 use Rattle.gix_config_value_c.specs.declared.walk.GcvFrame.{GcvFrame}
+use Rattle.gix_config_value_c.specs.declared.walk.GcvStep.{GcvStep}
+use Rattle.gix_config_value_c.specs.declared.walk.Texts.{Texts}
 use Rattle.gix_config_value_c.specs.Numbers.{flag_number}
+use Rattle.gix_config_value_c.specs.Plain.{Tells, TellsEntry}
+use Rattle.gix_config_value_c.specs.Plain.Tells.{one_more as told_more}
 use Rattle.gix_config_value_c.specs.Walks.{HoldsFrame, HoldsSection}
 use Rattle.gix_config_value_c.specs.Walks.HoldsSection.{plain, within}
 
@@ -82,3 +88,27 @@ holds_frame {held = held} section line rest name dir forbids = record {
 pub put_text : (copied text buffer : List ℕ) (size : ℕ) → copied ≡ text → size ≡ length text
     → copied ++ drop size buffer ≡ text ++ drop (length text) buffer
 put_text copied text buffer size same long = cc
+
+-- the texts of an entry are behind the first bytes of the buffer
+pub put_behind : (buffer copied text rest : List ℕ) (size : ℕ) → copied ≡ text → size ≤ length buffer
+    → take (size + length text) (take size buffer ++ (copied ++ rest)) ≡ take size buffer ++ text
+put_behind buffer copied text rest size same fits =
+    rw same (subst (λ n. take (n + length text) (take size buffer ++ (text ++ rest)) ≡ take size buffer ++ text)
+    (length-take-le size buffer fits) (take-append-add (take size buffer) (text ++ rest) (length text)
+    ∙ ap (λ l. take size buffer ++ l) (take-append_seam text rest)))
+
+-- the size that is told of an entry is that of its texts
+pub told_size : {known : Known} {frame new : GcvFrame} {texts : Texts} {step : GcvStep}
+    → TellsEntry known frame texts step new → step.size ≡ length texts.bytes.items
+told_size tells = ap (λ step. step.size) tells.is_step
+
+-- one more entry is told
+pub tells_more : (known : Known) (frame mid new : GcvFrame) (steps : List GcvStep) (buffer buffer' : List ℕ)
+    (told size : ℕ) (step : GcvStep) (texts : Texts) → told < length steps
+    → Tells known frame (take told steps) (take size buffer) mid → TellsEntry known mid texts step new
+    → take (size + length texts.bytes.items) buffer' ≡ take size buffer ++ texts.bytes.items
+    → Tells known frame (take (told + 1) (slice_set steps told step)) (take (size + step.size) buffer') new
+tells_more known frame mid new steps buffer buffer' told size step texts less so_far tells put =
+    subst (λ n. Tells known frame (take (told + 1) (slice_set steps told step)) (take (size + n) buffer') new)
+    (sym (told_size tells))
+    (rw (take_more_set steps told step less, put) (told_more texts step so_far tells))

@@ -12,6 +12,7 @@ pub mod Files
 pub mod Roles
 pub mod Keys
 pub mod Paths
+pub mod Plain
 pub mod Terminals
 pub mod Walks
 pub mod Answers

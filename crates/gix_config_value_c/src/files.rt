@@ -20,8 +20,23 @@ pub(crate) struct Setting<'t> {
     pub line: usize,
 }
 
+/// Returns how many bytes the key and the value of an entry take at most, with their NULs.
+fn room_for(entry: &Entry<'_>) -> usize {
+    let mut room = entry.key.len().saturating_add(4);
+    if let Some(section) = &entry.section {
+        room = room.saturating_add(section.name.len());
+        if let Some(subsection) = &section.subsection {
+            room = room.saturating_add(subsection.raw.len());
+        }
+    }
+    if let Some(value) = &entry.value {
+        room = room.saturating_add(value.raw.len());
+    }
+    room
+}
+
 impl<'t> Setting<'t> {
-    /// Returns the setting of an entry. It fails only if memory is refused.
+    /// Returns the setting of an entry, whose key has room for the value behind it. It fails only if memory is refused.
     pub(crate) fn of_entry(alloc: Global, entry: &Entry<'t>) -> Result<Self, AllocError>
         ensures { IfOk result (IsSettingOf (entry_of entry.now)) }
     {
@@ -29,8 +44,10 @@ impl<'t> Setting<'t> {
             Some(value) => Some(value.text(alloc)?),
             None => None,
         };
+        let mut key = Vec::with_capacity(alloc, room_for(entry))?;
+        entry.push_key(&mut key)?;
         Ok(Self {
-            key: entry.key_text(alloc)?,
+            key,
             value,
             line: entry.line,
         })

@@ -15,6 +15,7 @@ mod keys;
 pub mod laws;
 mod numbers;
 mod paths;
+mod plain;
 mod products;
 mod readers;
 mod roles;

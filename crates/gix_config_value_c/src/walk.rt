@@ -110,8 +110,8 @@ pub struct GcvStep<'t> {
 /// The texts of an entry: its key as Git lists it, its value, and the name of the file that it includes; and its
 /// role.
 #[derive(Drop)]
-struct Texts {
-    bytes: Vec<u8>,
+pub(crate) struct Texts {
+    pub(crate) bytes: Vec<u8>,
     value: usize,
     included: usize,
     has_value: u32,
@@ -142,7 +142,7 @@ fn section_of<'t>(frame: &GcvFrame<'t>) -> Option<Option<Section<'t>>>
 }
 
 /// Returns the frame of a walk that this one holds, or `None` if it holds none.
-fn frame_of<'t>(frame: &GcvFrame<'t>) -> Option<Frame<'t>>
+pub(crate) fn frame_of<'t>(frame: &GcvFrame<'t>) -> Option<Frame<'t>>
     ensures { MatchOption result ((f : held_frame) → ¬ (HoldsFrame frame.now f)) (HoldsFrame frame.now) }
 {
     let section = section_of(frame)?;
@@ -160,7 +160,7 @@ fn frame_of<'t>(frame: &GcvFrame<'t>) -> Option<Frame<'t>>
 }
 
 /// Returns the frame that holds this one of a walk.
-fn held<'t>(frame: &Frame<'t>) -> GcvFrame<'t>
+pub(crate) fn held<'t>(frame: &Frame<'t>) -> GcvFrame<'t>
     ensures { HoldsFrame result frame.now }
 {
     let FilePlace { name, real_dir } = frame.place;
@@ -257,7 +257,7 @@ fn urls_of<'k>(seeks: u32, urls: &'k [&'k [u8]]) -> Option<Urls<'k>>
 }
 
 /// Returns what is known, or `None` if a flag is neither 0 nor 1.
-fn known_of<'k>(known: &GcvKnown<'k>) -> Option<Known<'k>>
+pub(crate) fn known_of<'k>(known: &GcvKnown<'k>) -> Option<Known<'k>>
     ensures { MatchOption result (HasBadFlag (flags known.now)) (IsKnown known.now) }
 {
     let install_dir = given(known.has_install_dir, known.install_dir)?;
@@ -292,7 +292,11 @@ fn push_included(bytes: &mut Vec<u8>, include: &Include) -> Result<(), AllocErro
 }
 
 /// Returns the texts of an entry, which includes this, and its role.
-fn texts_of(alloc: Global, entry: &Entry<'_>, include: &Include) -> Result<Texts, AllocError>
+pub(crate) fn texts_of(
+    alloc: Global,
+    entry: &Entry<'_>,
+    include: &Include,
+) -> Result<Texts, AllocError>
     ensures { IfOk result (AreTextsOf (entry_of entry.now) include.now) }
 {
     let Setting {
@@ -328,7 +332,7 @@ fn include_status(include: &Include) -> u32
 }
 
 /// Returns what the step to an entry tells.
-fn step_struct<'t>(
+pub(crate) fn step_struct<'t>(
     place: FilePlace<'t>,
     entry: &Entry<'_>,
     include: &Include,

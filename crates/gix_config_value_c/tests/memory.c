@@ -368,7 +368,7 @@ int main(void)
     ASKS(read_and_show, "red bold", 0);
     ASKS(normalize, "16k", 0);
     ASKS(list_key, "a.B.c", 0);
-    ASKS(read_files, "a.b", 37);
+    ASKS(read_files, "a.b", 53);
     int made = mkstemp(file_name);
     count(made >= 0 && write(made, "[a]\n", 4) == 4, "a file");
     ASKS(open_file, "[a]\n", 4);
