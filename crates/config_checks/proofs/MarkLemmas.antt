@@ -12,7 +12,7 @@ use Rattle.config_text.specs.SameWord.{SameWord}
 use Rattle.config_file.specs.Key.{Key}
 use Rattle.config_checks.specs.declared.row.Row.{Row}
 use Rattle.config_checks.specs.Suggestions.{HasNone, IsMovedRow}
-use Rattle.config_checks.specs.Rows.{CoversNone, IsUnknown}
+use Rattle.config_checks.specs.Rows.{CoversNone}
 use Rattle.config_checks.specs.Reading.Steps.{number_of, HasMark, IsMarked, AreMarked, LacksMarks}
 use Rattle.config_checks.proofs.NearestLemmas.{take_more}
 
@@ -37,18 +37,12 @@ none_moved rows marks key marked lacks k d inside moved =
     lacks (marked_same marks _ _ moved.name (marked k d inside).name)
 
 -- no row covers a key that lacks marks
-none_covers : (rows : List Row) (marks : List Bool) (t : List ℕ) → AreMarked rows marks
-    → (lacks : LacksMarks marks t)
-    → CoversNone rows lacks.key
-none_covers rows marks t marked lacks k d inside covers = elim covers.name [
+pub none_covers : (rows : List Row) (marks : List Bool) (key : Key) → AreMarked rows marks → LacksMarks marks key
+    → CoversNone rows key
+none_covers rows marks key marked lacks k d inside covers = elim covers.name [
   | inl star ↦ lacks.section (marked_same marks _ _ covers.section ((marked k d inside).section star))
   | inr same ↦ lacks.name (marked_same marks _ _ same (marked k d inside).name)
 ]
-
-pub unknown_by_marks : (rows : List Row) (marks : List Bool) (t : List ℕ) → AreMarked rows marks
-    → LacksMarks marks t
-    → IsUnknown rows t
-unknown_by_marks rows marks t marked lacks = inr (lacks.key, lacks.cut, none_covers rows marks t marked lacks)
 
 -- one more number is marked
 pub mark_kept : (marks : List Bool) (number n : ℕ) → number < length marks → get_or marks n true ≡ true

@@ -1,6 +1,6 @@
 -- Rows in runs of one section.
 use Rattle.std.proofs.Common.{Option, None, Some, MatchOption, Bor}
-use Rattle.std.proofs.Common.{◌≡◌, ◌+◌, ◌<◌, ℕ, List, [], ◌∷◌, ◌++◌, length, take, drop, get_or, arith, refl}
+use Rattle.std.proofs.Common.{◌≡◌, ◌+◌, ◌<◌, ℕ, suc, List, [], ◌∷◌, ◌++◌, length, take, drop, get_or, arith, refl}
 use Rattle.std.proofs.Common.{sym, ap, subst, ◌∙◌, codes, true, false}
 use Rattle.std.proofs.lemmas.List.{flat_map_more, take-append-drop}
 use Rattle.std.proofs.lemmas.List.Elements.{All-append}
@@ -10,12 +10,13 @@ use Rattle.std.specs.List.{All, Any}
 use Rattle.std.proofs.lemmas.Bool.{false≢true}
 use Rattle.std.specs.Option.{is_some}
 use Rattle.config_text.specs.SameWord.{SameWord}
-use Rattle.config_file.specs.Key.{Key, IsCut}
+use Rattle.config_file.specs.Key.{Key}
 use Rattle.config_file.specs.KeyView.{key_of}
 use Rattle.config_checks.specs.declared.row.Row.{Row}
 use Rattle.config_checks.specs.declared.row.Run.{Run}
 use Rattle.config_checks.specs.Keys.{Covers}
-use Rattle.config_checks.specs.Rows.{CoversNone, Decides, IsFirstCovering, rows_of}
+use Rattle.config_checks.specs.Reading.Steps.{LacksSection}
+use Rattle.config_checks.specs.Rows.{CoversNone, IsFirstCovering, rows_of}
 use Rattle.config_checks.specs.Suggestions.{HasSection, HasSlots, HasNone, IsFirstSuch, IsMovedRow, IsNowhere}
 use Rattle.config_checks.specs.Suggestions.{IsElsewhere}
 use Rattle.config_checks.proofs.FirstLemmas.{IsFirst, first_within, any_within}
@@ -51,16 +52,20 @@ module _ (key : Key) where
       → IsFirst (λ row. Covers (key_of row.key) key) rows row
   covering_first f = record { place = f.place; inside = f.inside; stands = f.stands; is = f.covers; first = f.first }
 
-  pub decides : (t : List ℕ) (runs : List Run) (i : ℕ) (run : Run) (row : Row) → IsCut t key → i < length runs
-      → get_or runs i run ≡ run → CoversNone (rows_of (take i runs)) key → IsFirstCovering run.rows.now key row
-      → Decides (rows_of runs) t row
-  decides t runs i run row cut below here none first =
+  pub covering_in : (runs : List Run) (i : ℕ) (run : Run) (row : Row) → i < length runs → get_or runs i run ≡ run
+      → CoversNone (rows_of (take i runs)) key → IsFirstCovering run.rows.now key row
+      → IsFirstCovering (rows_of runs) key row
+  covering_in runs i run row below here none first =
       let f = first_at (λ row. Covers (key_of row.key) key) runs i run row below here none (covering_first first) in
-      record {
-        key = key;
-        cut = cut;
-        covering = record { place = f.place; inside = f.inside; stands = f.stands; covers = f.is; first = f.first };
-      }
+      record { place = f.place; inside = f.inside; stands = f.stands; covers = f.is; first = f.first }
+
+  -- no row covers the key if no run is of its section
+  pub none_covering : (runs : List Run) → LacksSection runs key.section → CoversNone (rows_of runs) key
+  none_covering [] lacks = λ k d inside. absurd (omega (arith, inside))
+  none_covering (run ∷ runs) lacks =
+      All-append (λ row. ¬ (Covers (key_of row.key) key)) run.rows.now (rows_of runs)
+      (other_section run (lacks 0 run (omega arith)))
+      (none_covering runs (λ k d inside. lacks (suc k) d (omega (arith, inside))))
 
 -- what holds for the rows of the first runs and for those of one more run
 pub all_more : (P : Row → Type 0) (runs : List Run) (i : ℕ) (run : Run) → i < length runs → get_or runs i run ≡ run

@@ -9,6 +9,7 @@ ghost use Rattle.config_checks.specs.Report.{Completes, Fails};
 ghost use Rattle.config_checks.specs.Rows.{rows_of, IsUnknown};
 ghost use Rattle.config_checks.specs.Reading.Steps.{HasRoom, HasRoomForFinding, Reports, IsKept, IsSection, AreMarked};
 ghost use Rattle.config_checks.specs.Reading.Steps.{said_findings, is_reported, ReportsError, ReportsEntries};
+ghost use Rattle.config_checks.specs.Reading.Steps.{IsFirstRun};
 
 use crate::code::Code;
 use crate::finding::{
@@ -324,11 +325,13 @@ fn give_said<'f, R: Receiver>(
     Ok(true)
 }
 
-/// How far a check has come: its counts, and what it said last of an unknown key.
+/// How far a check has come: its counts, what it said last of an unknown key, and the place of the first run of the last
+/// section.
 #[derive(Drop)]
 struct Progress {
     counts: Counts,
     last: Option<Said>,
+    near: usize,
 }
 
 /// Counts a setting, and hands on its finding if it has one.
@@ -344,18 +347,24 @@ fn report<R: Receiver>(
     requires marked { AreMarked (rows_of runs.now) marks.now }
     requires room { HasRoom progress.counts }
     requires last { IfSome progress.last (IsKept runs.now) }
+    requires near { IsFirstRun runs.now progress.near }
     ensures ok { IfOk result (λ after. Reports (rows_of runs.now) options.now setting.now
         progress.counts after.counts (R.received receiver.old) (R.received receiver.new)) }
     ensures last { IfOk result (λ after. IfSome after.last (IsKept runs.now)) }
+    ensures near { IfOk result (λ after. IsFirstRun runs.now after.near) }
     ensures err { OnErr result (Receives (R.received receiver.old) (R.received receiver.new) []) }
 {
-    let Progress { counts, last } = progress;
+    let Progress {
+        counts,
+        last,
+        mut near,
+    } = progress;
     let before = counts.entries;
     let mut counts = Counts {
         entries: counts.entries + 1,
         ..counts
     };
-    let Some(row) = marked_row_for(runs, marks, &setting.key) else {
+    let Some(row) = marked_row_for(runs, marks, &mut near, &setting.key) else {
         counts.unknown += 1;
         let said = match recalled(alloc, runs, marks, &setting.key, last) {
             Ok(said) => said,
@@ -368,6 +377,7 @@ fn report<R: Receiver>(
         return Ok(Progress {
             counts,
             last: Some(said),
+            near,
         });
     };
     let value = value_of(setting);
@@ -375,9 +385,9 @@ fn report<R: Receiver>(
         Ok(Some(reason)) => {
             give_reason(alloc, before, setting, row, &reason, receiver)?;
             let counts = counts.with(reason.severity(row.goes_on));
-            Ok(Progress { counts, last })
+            Ok(Progress { counts, last, near })
         }
-        Ok(None) => Ok(Progress { counts, last }),
+        Ok(None) => Ok(Progress { counts, last, near }),
         Err(error) => Err(CheckError::Memory(error)),
     }
 }
@@ -403,6 +413,7 @@ fn report_entries<R: Receiver>(
     let mut progress = Progress {
         counts: Counts::default(),
         last: None,
+        near: 0,
     };
     for entry in Entries::new(text) {
         let entry = match entry {

@@ -1,10 +1,12 @@
 //! Marks of names: without one a name is no row's, which takes no search through all rows to tell.
 ghost use Rattle.std.specs.Prelude.{◌≡◌, ◌↔◌, ℕ, IsTrue, IfOk, MatchOption, true, slice_index_or};
+ghost use Rattle.config_file.specs.KeyView.{key_of};
 ghost use Rattle.config_checks.specs.Reading.Steps.{next_number, number_of, HasMark, IsMarked, AreMarked, LacksMarks};
+ghost use Rattle.config_checks.specs.Reading.Steps.{IsFirstRun};
 ghost use Rattle.config_checks.specs.Rows.{Decides, IsUnknown, rows_of};
 
 use crate::key::ANY;
-use crate::lookup::row_for;
+use crate::lookup::{place_of, row_from};
 use crate::row::{Row, Run};
 use config_file::key::Key;
 use std::alloc::{AllocError, Global};
@@ -74,28 +76,32 @@ pub(crate) fn marks_of(alloc: Global, rows: &[Row<'_>]) -> Result<Vec<bool>, All
 }
 
 /// Whether neither the name nor the section of a key is marked.
-fn lacks_marks(marks: &[bool], key: &[u8]) -> bool
-    ensures { IsTrue result → LacksMarks marks.now key.now }
+fn lacks_marks(marks: &[bool], key: &Key<'_>) -> bool
+    ensures { IsTrue result → LacksMarks marks.now (key_of key.now) }
 {
-    match Key::split(key) {
-        Some(key) => !has_mark(marks, key.name()) && !has_mark(marks, key.section()),
-        None => false,
-    }
+    !has_mark(marks, key.name()) && !has_mark(marks, key.section())
 }
 
-/// Does the same as [`row_for`]. `marks` are those of the rows.
-// Most unknown keys have no mark, so no row is looked at.
+/// Does the same as [`row_for`](crate::lookup::row_for). `marks` are those of the rows, and `near` is the place of the
+/// first run of the last section that was asked for, or 0.
+// Most unknown keys have no mark, so no row is looked at, and most keys are of the section of the one before.
 pub(crate) fn marked_row_for<'r, 't>(
     runs: &[Run<'r, 't>],
     marks: &[bool],
+    near: &mut usize,
     key: &[u8],
 ) -> Option<&'r Row<'t>>
-    requires { AreMarked (rows_of runs.now) marks.now }
-    ensures { MatchOption result (IsUnknown (rows_of runs.now) key.now)
+    requires marked { AreMarked (rows_of runs.now) marks.now }
+    requires near { IsFirstRun runs.now near.old }
+    ensures row { MatchOption result (IsUnknown (rows_of runs.now) key.now)
         (λ row. Decides (rows_of runs.now) key.now row.now) }
+    ensures near { IsFirstRun runs.now near.new }
 {
-    if lacks_marks(marks, key) {
+    let key = Key::split(key)?;
+    if lacks_marks(marks, &key) {
         return None;
     }
-    row_for(runs, key)
+    let place = place_of(runs, key.section(), *near);
+    *near = place;
+    row_from(runs, place, &key)
 }

@@ -2,12 +2,12 @@
 use Rattle.std.specs.Prelude.{◌≡◌, ◌≢◌, ⊤, ℕ, ◌+◌, ◌^◌, ◌<◌, ◌≤◌, List, [], ◌∷◌, ◌++◌, Option, None, Some}
 use Rattle.std.specs.Prelude.{option_map}
 use Rattle.std.specs.Prelude.{Bool, true, false, not, IsTrue, ◌↔◌, IfSome, ◌==◌, ◌*◌, ◌%◌, slice_index_or}
-use Rattle.std.specs.Prelude.{All, codes, map}
+use Rattle.std.specs.Prelude.{All, codes, map, length, take}
 use Rattle.std.specs.List.{AllZip, list_any, fold}
 use Rattle.std.specs.Char.{to_ascii_lowercase}
 use denote.Ref.{Bor}
 use Rattle.config_text.specs.SameWord.{SameWord}
-use Rattle.config_file.specs.Key.{Key, IsCut}
+use Rattle.config_file.specs.Key.{Key}
 use Rattle.config_file.specs.KeyView.{key_of}
 use Rattle.config_file.specs.declared.errors.FileError as errors
 use Rattle.config_file.specs.File.{IsFile}
@@ -193,11 +193,20 @@ abbrev pub AreMarked : List Row → List Bool → Type 0
 AreMarked rows marks = All (IsMarked marks) rows
 
 -- neither the name nor the section of the key is marked
-pub record LacksMarks (marks : List Bool) (t : List ℕ) : Type 0 where
-  pub key : Key
-  pub cut : IsCut t key
+pub record LacksMarks (marks : List Bool) (key : Key) : Type 0 where
   pub name : ¬ (HasMark marks key.name)
   pub section : ¬ (HasMark marks key.section)
+
+-- ---- runs of a section
+
+-- no run is of the section
+abbrev pub LacksSection : List Run → List ℕ → Type 0
+LacksSection runs section = All (λ run. ¬ (SameWord run.section.now section)) runs
+
+-- no run before this one is of its section
+abbrev pub IsFirstRun : List Run → ℕ → Type 0
+IsFirstRun runs place = (run : Run) → place < length runs → slice_index_or runs place run ≡ run
+    → LacksSection (take place runs) run.section.now
 
 -- ---- what is known of a section
 

@@ -13,7 +13,7 @@ returns-in_default-clause-ok g c =
     let s = c.args.progress.counts in
     let text = option_map (λ t. t.items) c.in-Ok.said.reason in
     let meant = option_map (λ t. t.items) c.in-Ok.said.meant in
-    let is = rw c.deref.ensures.value at c.in_default.ensures in
+    let is = rw c.deref.ensures.value at c.in_default.ensures.row in
     let said = rw (c.in-Ok.ensures.0 ∙ c.deref-in_default.ensures.value) at c.in-Ok.ensures.1.0 in
     let reported = c.in_ok-give_said.ensures.reported in
     elim c.if-branch.branch [
@@ -37,7 +37,7 @@ returns-in_ok-give_reason-in-Ok-Some-clause-ok g c =
     let s = c.args.progress.counts in
     let bad = rw c.in-Ok-Some.field-0-is at c.in-Ok-Some.ensures in (
       reason_finding s.entries c.args.setting.now row reason ∷ [],
-      found row reason (rw c.deref.ensures.value at c.in-Some.ensures) (rw c.value_of-value.ensures at bad) refl
+      found row reason (rw c.deref.ensures.value at c.in-Some.ensures.row) (rw c.value_of-value.ensures at bad) refl
           (c.with-counts-in-Ok-Some.ensures
           ∙ ap (λ v. counted v (record s { entries = s.entries + 1 })) c.severity.ensures),
       c.in_ok-give_reason-in-Ok-Some.ensures.ok,
@@ -48,6 +48,6 @@ returns-in-Ok-None-clause-ok g c =
     let row = c.in-Some.row.now in
     let good = rw c.in-Ok-None.field-0-is at c.in-Ok-None.ensures in (
       [],
-      right row (rw c.deref.ensures.value at c.in-Some.ensures) (rw c.value_of-value.ensures at good) refl refl,
+      right row (rw c.deref.ensures.value at c.in-Some.ensures.row) (rw c.value_of-value.ensures at good) refl refl,
       receives-nil _,
     )
