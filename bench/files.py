@@ -21,7 +21,7 @@ import sys
 import tempfile
 
 from compare import HERE, head, load, run
-from program import usage
+from program import system_calls, usage
 
 SECTION = """[branch "topic-%06d"]
 \tremote = origin
@@ -61,6 +61,9 @@ CALLS = [
     ("300,000 entries below comments", "[s]\n", "# a comment\n\n\tk%d = v ; why\n", 300_000, "--list"),
     ("1,000 keys below a name of 1,000,000 bytes", f'[s "{"x" * MILLION}"]\n', "\tk%d = v\n", 1000, "--list"),
 ]
+
+# the words of a call in a new repository
+KEY = ["--get", "core.bare"]
 
 
 def listed(*command):
@@ -133,7 +136,13 @@ def calls(measuring, arguments, folder):
         yield name, f"`{words[2]}`", *call(measuring, arguments.git_settings, words, arguments.runs)
     run("git", "init", "--quiet", f"{folder}/repository")
     with contextlib.chdir(f"{folder}/repository"):
-        yield "a new repository", "`--get`", *call(measuring, arguments.git_settings, ["--get", "core.bare"], 100)
+        yield "a new repository", "`--get`", *call(measuring, arguments.git_settings, KEY, 100)
+
+
+def traces(git_settings, folder):
+    """How often Git and git_settings call the system for a key of a repository."""
+    with contextlib.chdir(f"{folder}/repository"):
+        return system_calls([shutil.which("git"), "config", *KEY]), system_calls([git_settings, *KEY])
 
 
 def lookups(folder, prefix, file, runs):
@@ -165,6 +174,7 @@ def main():
         table = list(rows(f"{folder}/usage", asked, f"{folder}/config", arguments))
         found = list(lookups(folder, arguments.prefix, f"{folder}/config", arguments.runs))
         beside = list(calls(f"{folder}/usage", arguments, folder))
+        of_git, own = traces(arguments.git_settings, folder)
     print(head(before))
     print("| File | Program | Processor time, ms | Million entries in a second | Of Git's time |")
     print("|---|---|---|---|---|")
@@ -174,6 +184,7 @@ def main():
     print("|---|---|---|---|---|---|---|")
     for row in beside:
         print("| " + " | ".join(row) + " |")
+    print(f"\nFor the key of the new repository Git calls the system {of_git} times, and git_settings {own}.")
     for name, nanoseconds, value in found:
         print(f"\nA lookup among {SIZES[-1]:,} entries by {name}: {nanoseconds:.0f} ns, {value}")
 

@@ -48,15 +48,15 @@ def usage(measuring, *command, file=os.devnull):
     return float(seconds), int(memory)
 
 
-def writes(program, file):
-    """How often a program writes, or `-` if strace is not there or may not trace."""
+def system_calls(command, file=os.devnull, only="all"):
+    """How often a program calls the system, or `-` if strace is not there or may not trace."""
     if not shutil.which("strace"):
         return "-"
     with open(file, "rb") as given, tempfile.NamedTemporaryFile() as trace:
-        command = ["strace", "-f", "-qq", "-e", "trace=write,writev", "-o", trace.name, program]
+        traced = ["strace", "-f", "-qq", "-e", f"trace={only}", "-o", trace.name, *command]
         quiet = subprocess.DEVNULL
-        ran = subprocess.run(command, stdin=given, stdout=quiet, stderr=quiet, check=False)
-        count = len(re.findall(rb"writev?\(", trace.read()))
+        ran = subprocess.run(traced, stdin=given, stdout=quiet, stderr=quiet, check=False)
+        count = len(re.findall(rb"^\d+ +\w+\(", trace.read(), re.MULTILINE))
     return f"{count:,}" if ran.returncode in (0, 1) else "-"
 
 
@@ -67,7 +67,8 @@ def rows(measuring, programs, file, runs):
         times = [runs_of[place][0] for runs_of in measured]
         ratios = [runs_of[place][0] / max(runs_of[0][0], 1e-6) for runs_of in measured]
         peak = max(runs_of[place][1] for runs_of in measured) / 1024
-        yield f"{min(times) * 1000:.1f}", f"{statistics.median(ratios):.2f}", writes(program, file), f"{peak:.1f}"
+        written = system_calls([program], file, "write,writev")
+        yield f"{min(times) * 1000:.1f}", f"{statistics.median(ratios):.2f}", written, f"{peak:.1f}"
 
 
 def main():
