@@ -13,7 +13,8 @@ pub(crate) const ANY: &[u8] = b"*";
 pub(crate) fn is_same_word(row: &[u8], text: &[u8]) -> bool
     ensures { IsTrue result ↔ SameWord row.now text.now }
 {
-    row.eq_ignore_ascii_case(text)
+    // mostly they are written alike, which is told faster
+    row == text || row.eq_ignore_ascii_case(text)
 }
 
 /// Whether the subsection of a row's key covers the subsection of a key, or neither has a subsection.
