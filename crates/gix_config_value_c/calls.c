@@ -241,8 +241,10 @@ static const char *or_true(const char *text)
 
 gcv_status gcv_parse_bool(const char *text, int *GCV_TO out, gcv_fault *fault)
 {
+    gcv_fault unused;
     uint32_t value = 0;
-    gcv_status status = gcv_read_boolean(or_true(text), strlen(or_true(text)), &value, fault);
+    const char *read = or_true(text);
+    gcv_status status = gcv_raw_read_boolean(read, strlen(read), &value, fault ? fault : &unused);
     if (status == GCV_OK) {
         *out = value == 1;
     }
@@ -267,7 +269,9 @@ gcv_status gcv_parse_int32(const char *text, int32_t *GCV_TO out, gcv_fault *fau
 
 gcv_status gcv_parse_int64(const char *text, int64_t *GCV_TO out, gcv_fault *fault)
 {
-    return gcv_read_amount(or_true(text), strlen(or_true(text)), out, fault);
+    gcv_fault unused;
+    const char *read = or_true(text);
+    return gcv_raw_read_amount(read, strlen(read), out, fault ? fault : &unused);
 }
 
 gcv_status gcv_parse_color(const char *text, gcv_color *GCV_TO out, gcv_fault *fault)
