@@ -29,6 +29,7 @@ pub record TellsEntry (known : Known) (frame : GcvFrame) (texts : Texts) (step :
   pub holds : HoldsFrame frame held
   pub gives : GivesEntry held.entries (Some (Ok entry)) held'.entries
   pub place : held'.place ≡ held.place
+  pub forbids : held'.forbids_urls ≡ held.forbids_urls
   pub plain : IsInclude known held.place (entry_of entry) NotFollowed
   pub are_texts : AreTextsOf (entry_of entry) NotFollowed texts
   pub is_step : step ≡ step_struct held.place entry NotFollowed texts

@@ -49,6 +49,7 @@ returns-clause-ok c = (
     holds = c.in-Some.ensures;
     gives = rw c.in-Some-Ok.field-0-is at c.in-Some-Ok.ensures.steps;
     place = refl;
+    forbids = refl;
     plain = rw c.in-NotFollowed.is at c.in_ok-include.ensures;
     are_texts = rw c.in-NotFollowed.is at c.in_ok-texts.ensures;
     is_step = rw c.in-NotFollowed.is at c.step_struct.ensures;
