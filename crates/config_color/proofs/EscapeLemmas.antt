@@ -1,14 +1,14 @@
 -- Lemmas for the sequences of colors: decimal numbers below 256, and the codes of a text that goes on.
 use Rattle.std.proofs.Common.{◌≡◌, ◌≢◌, ℕ, ◌+◌, ◌-◌, ◌/◌, ◌%◌, ◌^◌, ◌<◌, ◌≤◌, Bool, true, false, cond, not}
 use Rattle.std.proofs.Common.{List, [], ◌∷◌, ◌++◌, length, map, filter, take, drop, codes, decimal, bit_and}
-use Rattle.std.proofs.Common.{refl, sym, ap, get_or, ◌∙◌, arith, ◌==◌, append_assoc, length-append}
+use Rattle.std.proofs.Common.{◌*◌, refl, sym, ap, get_or, ◌∙◌, arith, ◌==◌, append_assoc, length-append}
 use Rattle.std.proofs.lemmas.Bool.{le-ltb, lt-ltb}
 use Rattle.std.proofs.lemmas.Fmt.{decimal_digit, decimal_step, length-decimal-le}
 use Rattle.std.proofs.lemmas.List.{append-nil, map-append, take-append-drop, take_more}
 use Rattle.std.proofs.lemmas.List.Elements.{filter-append}
 use Rattle.std.specs.List.{join_with_byte}
 use Rattle.config_color.specs.declared.escape.AttributeCode.{AttributeCode}
-use Rattle.config_color.specs.declared.escape.TheConstants.{LONGEST_ESCAPE}
+use Rattle.config_color.specs.declared.escape.TheConstants.{LONGEST_ESCAPE, LONGEST_PART}
 use Rattle.config_color.specs.Escape.{attribute_codes, palette_codes, row_codes, sequence_of}
 use Rattle.config_color.specs.Reading.Escape.{Continues, code_row, opened, size}
 
@@ -93,8 +93,8 @@ pub size_append : (xs ys : List (ℕ × List ℕ)) → size (xs ++ ys) ≡ size 
 size_append [] ys = omega arith
 size_append (x ∷ xs) ys = let h = size_append xs ys in omega (arith, h)
 
--- the whole table
-pub size_all : size attribute_codes ≡ 33
+-- the longest sequence: the first byte, the whole table, two names and the last byte
+pub size_all : 1 + size attribute_codes + 2 * LONGEST_PART + 1 ≡ LONGEST_ESCAPE
 unfolding attribute_codes
 size_all = refl
 
@@ -126,8 +126,9 @@ of_three n small one = digits 3 n (omega arith) (omega arith) small one
 
 -- there is room for one more number
 pub room_after : {cs : List (List ℕ)} {most : ℕ} {a b : List ℕ} → Continues cs most a b → most ≤ 13
-    → length a + 17 < LONGEST_ESCAPE → length b + 5 ≤ LONGEST_ESCAPE
-room_after one few room = let short = one.short 51 (omega arith) (omega arith) in omega arith
+    → length a + LONGEST_PART < LONGEST_ESCAPE → length b + 5 ≤ LONGEST_ESCAPE
+room_after one few room =
+    let short = one.short (LONGEST_ESCAPE - LONGEST_PART - 1) (omega arith) (omega arith) in omega arith
 
 -- the codes of a number of the palette
 pub palette_basic : (black number : ℕ) → number < 8 → palette_codes black number ≡ (black + number) ∷ []

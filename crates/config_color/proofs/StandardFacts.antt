@@ -1,7 +1,7 @@
 -- What git-config(1) says about colors, with its own examples, what ECMA-48, xterm and terminals say about
 -- them, and what Unicode says about white space. A definition with a wrong rule, number or spelling fails
 -- here.
-use Rattle.std.proofs.Common.{◌≡◌, ◌≤◌, ℕ, ◌+◌, ◌*◌, Bool, true, false, ◌==◌, eqb, List, [], ◌∷◌, ◌++◌, map, codes}
+use Rattle.std.proofs.Common.{◌≡◌, ◌≤◌, ℕ, ◌+◌, ◌*◌, true, false, ◌==◌, eqb, List, [], ◌∷◌, ◌++◌, map, codes}
 use Rattle.std.proofs.Common.{Option, Some, None, refl, inl, inr, arith, length, length-append}
 use Prim.Native.String.{String}
 use Rattle.std.specs.Bool.{⊤}

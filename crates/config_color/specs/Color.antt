@@ -2,7 +2,8 @@
 --
 -- Look for: `WordsRead`: each word is a name or an attribute. `Placed`: the last line is `⊥`, so a third
 -- name is refused. `Chosen` says "some, in order".
-use Rattle.std.specs.Prelude.{◌≡◌, ℕ, ◌≤◌, ◌⊎◌, List, [], ◌∷◌, ◌++◌, length, zero, suc, Option, None, Some}
+use Rattle.std.specs.Prelude.{◌≡◌, ℕ, ◌≤◌, ◌⊎◌, List, [], ◌∷◌, ◌++◌, length, map, Option, None, Some}
+use Rattle.std.specs.Prelude.{zero, suc}
 use Rattle.std.specs.Bool.{⊤}
 use Rattle.std.specs.Int.{bit_at}
 use Rattle.std.specs.Int.RustNames.{bit_or}
@@ -11,7 +12,7 @@ use Rattle.config_color.specs.declared.color.Color.{Color}
 use Rattle.config_word.specs.declared.attribute.Attribute.{Attribute}
 use Rattle.config_word.specs.declared.name.Name.{Name}
 use Rattle.config_text.specs.Bytes.{space}
-use Rattle.config_word.specs.Attribute.{AttributeText, IsKnownBit, attribute_shown, rising_words}
+use Rattle.config_word.specs.Attribute.{AttributeText, IsKnownBit, attribute_shown, attributes, shown_word}
 use Rattle.config_word.specs.Name.{NameText, CanonicalName, NameFits, name_shown}
 use Rattle.config_color.specs.Words.{Words}
 
@@ -78,7 +79,7 @@ pub record CanonicalColor (t : List ℕ) : Type 0 where
   pub words : List (List ℕ)
   pub at_most_two : length names ≤ 2
   pub named : AllByRecursion CanonicalName names
-  pub chosen : Chosen rising_words words
+  pub chosen : Chosen (map shown_word attributes) words
   pub spelled : t ≡ join_with_byte space (names ++ words)
 
 -- the numbers of a name, if there is one, are bytes

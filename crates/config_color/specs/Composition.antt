@@ -2,16 +2,15 @@
 --
 -- Look for: `HaveTooManyNames` counts the names of both colors, and says that both texts have one.
 -- `Composes` gives `None` also for a color without a text. `Stays` asks that no opposite is above.
-use Rattle.std.specs.Prelude.{◌≡◌, ℕ, ◌<◌, ◌⊎◌, ◌↔◌, List, [], ◌∷◌, ◌++◌, length, Option, None, Some}
+use Rattle.std.specs.Prelude.{◌≡◌, ℕ, ◌<◌, ◌⊎◌, ◌↔◌, List, ◌∷◌, ◌++◌, length, Option, None, Some}
 use Rattle.std.specs.Option.{option_or, option_to_list}
 use Rattle.std.specs.Int.{bit_at}
 use Rattle.std.specs.Int.RustNames.{bit_or}
 use Rattle.config_color.specs.declared.color.Color.{Color}
 use Rattle.config_word.specs.declared.name.Name.{Name}
 use Rattle.config_color.specs.Color.{TextRead, Placed, ColorText}
-use Rattle.config_text.specs.OneOf.{OneOf}
 use Rattle.config_text.specs.Value.{IsAccepted, HasText}
-use Rattle.config_word.specs.Attribute.{AttributeText}
+use Rattle.config_word.specs.Attribute.{AreOpposite, AttributeText}
 
 -- a color's names: its foreground, then its background, if it has them
 abbrev pub color_names : Color → List Name
@@ -33,14 +32,6 @@ abbrev pub Composes : Color → Color → Option Color → Type 0
 Composes a b None = (¬ (HasText ColorText a)) ⊎ (¬ (HasText ColorText b)) ⊎ HasTooManyNames a b
 Composes a b (Some c) =
     HasText ColorText a × HasText ColorText b × Composition a b c × HasText ColorText c
-
--- each attribute and its opposite, by their bits
-unfoldable pub opposites : List (ℕ × ℕ)
-opposites = (1, 22) ∷ (2, 21) ∷ (3, 23) ∷ (4, 24) ∷ (5, 25) ∷ (6, 26) ∷ (7, 27) ∷ []
-
--- one of the two bits is that of an attribute, and the other that of its opposite
-abbrev pub AreOpposite : ℕ → ℕ → Type 0
-AreOpposite bit other = OneOf opposites (bit, other) ⊎ OneOf opposites (other, bit)
 
 -- the bit is set in `base`, and no opposite of it is set in `top`
 abbrev pub Stays : ℕ → ℕ → ℕ → Type 0

@@ -1,5 +1,4 @@
 pub mod Split
 pub mod Color
 pub mod Escape
-pub mod Composition
 pub mod Depth

@@ -1,15 +1,13 @@
 //! The composition of two colors, and one color over another.
-ghost use Rattle.std.specs.Prelude.{◌≡◌, map};
+ghost use Rattle.std.specs.Prelude.{◌≡◌};
 ghost use Rattle.config_color.specs.Color.{ColorText};
 ghost use Rattle.config_color.specs.Reading.Color.{places_of};
 ghost use Rattle.config_color.specs.Composition.{Composes, IsOver};
-ghost use Rattle.config_color.specs.Reading.Composition.{opposite_sets, opposites_from, pair_bits, taken};
 ghost use Rattle.config_text.specs.Value.{HasText};
 
 use crate::color::Color;
 use bitflags::Flags;
 use config_text::value::Value;
-use config_word::attribute::Attribute;
 use config_word::name::Name;
 
 /// Returns the names of `a` and then those of `b` as a foreground and a background, or `None` if there are
@@ -59,61 +57,6 @@ pub fn compose(a: Color, b: Color) -> Option<Color>
     })
 }
 
-/// An attribute and its opposite.
-#[derive(Clone, Copy)]
-struct Opposites {
-    one: Attribute,
-    other: Attribute,
-}
-
-macro_rules! opposites {
-    ($one:ident, $other:ident) => {
-        Opposites { one: Attribute::$one, other: Attribute::$other }
-    };
-}
-
-/// Each attribute that has an opposite.
-const OPPOSITES: &[Opposites] = &[
-    opposites!(BOLD, NO_BOLD),
-    opposites!(DIM, NO_DIM),
-    opposites!(ITALIC, NO_ITALIC),
-    opposites!(UL, NO_UL),
-    opposites!(BLINK, NO_BLINK),
-    opposites!(REVERSE, NO_REVERSE),
-    opposites!(STRIKE, NO_STRIKE),
-];
-
-/// Returns each attribute that has an opposite.
-fn opposite_table() -> &'static [Opposites]
-    ensures { map pair_bits result.now ≡ opposite_sets }
-{
-    OPPOSITES
-}
-
-/// Returns the second attribute if the set has the first, and otherwise no attribute.
-fn opposite_of(set: Attribute, one: Attribute, other: Attribute) -> Attribute
-    ensures { result.0 ≡ taken set.0 one.0 other.0 }
-{
-    if !set.contains(one) {
-        return Attribute::empty();
-    }
-    other
-}
-
-/// Returns the opposites of the attributes of a set.
-fn opposites_of(set: Attribute) -> Attribute
-    ensures { result.0 ≡ opposites_from set.0 0 opposite_sets }
-{
-    let mut opposites = Attribute::empty();
-    for pair in opposite_table() {
-        let taken = opposite_of(set, pair.one, pair.other).union(opposite_of(
-            set, pair.other, pair.one,
-        ));
-        opposites = opposites.union(taken);
-    }
-    opposites
-}
-
 /// Returns `top` over `base`, as a theme and the changes of its user. The foreground and the background of
 /// `top` replace those of `base`, each if `top` has it, and `normal` is a name like the others. An attribute
 /// of `top` takes its opposite out of `base`, as `nobold` takes out `bold`. All other attributes of both
@@ -132,7 +75,7 @@ pub fn over(base: Color, top: Color) -> Color
     ensures over { IsOver base top result }
     ensures text { HasText ColorText base → HasText ColorText top → HasText ColorText result }
 {
-    let stays = base.attributes.difference(opposites_of(top.attributes));
+    let stays = base.attributes.difference(top.attributes.opposites());
     Color {
         foreground: top.foreground.or(base.foreground),
         background: top.background.or(base.background),

@@ -272,7 +272,7 @@ impl Color {
     /// ```
     pub fn escape(&self) -> Escape
         ensures bytes { result.bytes ≡ escape_sequence self.now }
-        ensures short { length result.bytes ≤ 69 }
+        ensures short { length result.bytes ≤ LONGEST_ESCAPE }
     {
         let mut text = Escape::new();
         push_set(self.attributes, &mut text);

@@ -21,12 +21,16 @@ abbrev pub Reads : {V : Type 0} → (List ℕ → V → Type 0) → List ℕ →
 Reads grammar t None = IsRefused grammar t
 Reads grammar t (Some v) = grammar t v
 
--- a canonical text that reads to the value and has at most 127 bytes
+-- the length in bytes of the longest canonical text
+abbrev pub longest_text : ℕ
+longest_text = 127
+
+-- a canonical text that reads to the value and is no longer than the longest one
 pub record IsTextOf {V : Type 0} (grammar : List ℕ → V → Type 0) (canonical : List ℕ → Type 0) (v : V)
     (s : List ℕ) : Type 0 where
   pub canonical_text : canonical s
   pub reads_to : grammar s v
-  pub short : length s ≤ 127
+  pub short : length s ≤ longest_text
 
 -- what a text means: `v`, its only value, and `s`, the only canonical text that reads to this value
 pub record HasMeaning {V : Type 0} (grammar : List ℕ → V → Type 0) (canonical : List ℕ → Type 0) (t : List ℕ)

@@ -3,7 +3,7 @@ ghost use Rattle.std.specs.Prelude.{◌≡◌, ℕ, ◌↔◌, ◌⊎◌, List, 
 ghost use Rattle.std.specs.Prelude.{if◌then◌else◌};
 ghost use Rattle.bstr.specs.BStr.{bstr_bytes};
 ghost use Rattle.config_text.specs.Value.{IsRefused, IsAccepted, HasText, Reads, IsTextOf};
-ghost use Rattle.config_text.specs.Value.{HasMeaning, Means, Normalizes, Compares};
+ghost use Rattle.config_text.specs.Value.{HasMeaning, Means, Normalizes, Compares, longest_text};
 
 use arrayvec::ArrayString;
 use bstr::BStr;
@@ -167,5 +167,5 @@ pub fn one_meaning<V: Value>()
 
 /// [`LONGEST_TEXT`] is the bound that the definition of a value's text states.
 pub fn longest_text()
-    ensures { LONGEST_TEXT ≡ 127 }
+    ensures { LONGEST_TEXT ≡ longest_text }
 {}

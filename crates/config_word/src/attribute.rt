@@ -2,11 +2,12 @@
 ghost use Rattle.std.specs.Prelude.{MatchOption, ⊤, ◌≡◌, ◌+◌, ◌≤◌, ◌++◌, ◌↔◌, List, ℕ, length, map, IsTrue, Some};
 ghost use Rattle.config_text.specs.declared.errors.Fault.TheVariants as faults;
 ghost use Rattle.config_word.specs.Attribute.{AttributeText, CanonicalAttribute, attribute_flags};
-ghost use Rattle.config_word.specs.Attribute.{attribute_shown};
+ghost use Rattle.config_word.specs.Attribute.{attribute_shown, HasOpposites};
 ghost use Rattle.config_word.specs.Laws.Attribute.{attribute_canonical_reads, attribute_decided};
 ghost use Rattle.config_word.specs.Laws.Attribute.{attribute_one_text, attribute_one_value};
 ghost use Rattle.config_word.specs.Laws.Attribute.{attribute_shown_is_text};
 ghost use Rattle.config_word.specs.Reading.Attribute.{remaining, shown_row, shown_rows, words_in};
+ghost use Rattle.config_word.specs.Reading.Attribute.{opposite_row, opposite_rows};
 ghost use Rattle.config_text.specs.Refusals.{OnlyFault, ReadsBytes, ReadsFault};
 ghost use Rattle.config_text.specs.Value.{HasText, IsTextOf, Reads};
 ghost use Rattle.std.proofs.Common.{rules};
@@ -109,41 +110,46 @@ impl Flags for Attribute {
     }
 }
 
-/// A constant and the word that it is shown as.
+/// A constant, the word that it is shown as, and its opposite: the empty set if it has none.
 #[derive(Clone, Copy)]
 struct Shown {
     attribute: Attribute,
     word: &'static str,
+    opposite: Attribute,
 }
 
 macro_rules! shown {
     ($attribute:ident, $word:expr) => {
-        Shown { attribute: Attribute::$attribute, word: $word }
+        Shown { attribute: Attribute::$attribute, word: $word, opposite: Attribute(0) }
+    };
+    ($attribute:ident, $word:expr, $opposite:ident) => {
+        Shown { attribute: Attribute::$attribute, word: $word, opposite: Attribute::$opposite }
     };
 }
 
-/// The constants and the words that they are shown as, by rising bit.
+/// The constants, the words that they are shown as, and their opposites, by rising bit.
 const SHOWN: &[Shown] = &[
-    shown!(BOLD, "bold"),
-    shown!(DIM, "dim"),
-    shown!(ITALIC, "italic"),
-    shown!(UL, "ul"),
-    shown!(BLINK, "blink"),
-    shown!(REVERSE, "reverse"),
-    shown!(STRIKE, "strike"),
+    shown!(BOLD, "bold", NO_BOLD),
+    shown!(DIM, "dim", NO_DIM),
+    shown!(ITALIC, "italic", NO_ITALIC),
+    shown!(UL, "ul", NO_UL),
+    shown!(BLINK, "blink", NO_BLINK),
+    shown!(REVERSE, "reverse", NO_REVERSE),
+    shown!(STRIKE, "strike", NO_STRIKE),
     shown!(RESET, "reset"),
-    shown!(NO_DIM, "nodim"),
-    shown!(NO_BOLD, "nobold"),
-    shown!(NO_ITALIC, "noitalic"),
-    shown!(NO_UL, "noul"),
-    shown!(NO_BLINK, "noblink"),
-    shown!(NO_REVERSE, "noreverse"),
-    shown!(NO_STRIKE, "nostrike"),
+    shown!(NO_DIM, "nodim", DIM),
+    shown!(NO_BOLD, "nobold", BOLD),
+    shown!(NO_ITALIC, "noitalic", ITALIC),
+    shown!(NO_UL, "noul", UL),
+    shown!(NO_BLINK, "noblink", BLINK),
+    shown!(NO_REVERSE, "noreverse", REVERSE),
+    shown!(NO_STRIKE, "nostrike", STRIKE),
 ];
 
-/// Returns the constants and the words that they are shown as, by rising bit.
+/// Returns the constants, the words that they are shown as, and their opposites, by rising bit.
 fn shown_words() -> &'static [Shown]
-    ensures { map shown_row result.now ≡ shown_rows }
+    ensures words { map shown_row result.now ≡ shown_rows }
+    ensures opposites { map opposite_row result.now ≡ opposite_rows }
 {
     SHOWN
 }
@@ -215,6 +221,20 @@ impl Attribute {
         let mut text = CanonicalText::new();
         self.push_to(&mut text);
         text
+    }
+
+    /// Returns the opposites of the constants that are in the set, as `NO_BOLD` for `BOLD`, and `BOLD` for
+    /// `NO_BOLD`. `RESET` has none, nor has a bit without a constant.
+    pub fn opposites(self) -> Attribute
+        ensures { HasOpposites self.0 result }
+    {
+        let mut opposites = Attribute::empty();
+        for shown in shown_words() {
+            if self.contains(shown.attribute) {
+                opposites = opposites.union(shown.opposite);
+            }
+        }
+        opposites
     }
 
     /// Returns whether the set is one of the constants. No other set has a text.

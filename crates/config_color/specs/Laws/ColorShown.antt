@@ -22,7 +22,7 @@ use Rattle.config_color.specs.declared.color.Color.{Color}
 use Rattle.config_word.specs.declared.attribute.Attribute.{Attribute}
 use Rattle.config_word.specs.declared.name.Name.{Name}
 use Rattle.config_word.specs.Attribute.{AttributeRow, attributes, attribute_flags, AttributeText}
-use Rattle.config_word.specs.Attribute.{attribute_words, rising_words}
+use Rattle.config_word.specs.Attribute.{attribute_words, shown_word}
 use Rattle.config_color.specs.Color.{WordsRead, Placed, ColorText, part_shown, set_shown, color_shown, Chosen}
 use Rattle.config_color.specs.Color.{CanonicalColor, PartFits, AreKnown}
 use Rattle.config_color.specs.Laws.Color.{text_read, WordsRead-join, Placed-short, placing, same_color}
@@ -31,7 +31,7 @@ use Rattle.config_text.specs.Bytes.{space}
 use Rattle.config_text.specs.declared.value.TheConstants.{LONGEST_TEXT}
 use Rattle.config_word.specs.declared.attribute.TheConstants.{LONGEST_SET}
 use Rattle.config_word.specs.declared.name.TheConstants.{LONGEST_NAME}
-use Rattle.config_word.specs.Laws.Attribute.{attribute_short}
+use Rattle.config_word.specs.Laws.Attribute.{attribute_short, bits_of}
 use Rattle.config_color.specs.Laws.Composition.{background_beside, some_none}
 use Rattle.config_word.specs.Name.{NameText, CanonicalName, name_shown}
 use Rattle.config_word.specs.Laws.Name.{name_canonical_reads, name_one_text, name_short, name_fits}
@@ -46,11 +46,6 @@ use Rattle.config_color.specs.Reading.Split.{words}
 -- the words of the rows whose bits are set
 abbrev pub set_words : ℕ → List AttributeRow → List (List ℕ)
 set_words bits rows = map (λ row. row.2) (filter (λ row. bit_at bits row.1 == 1) rows)
-
--- the union of the rows' bits
-abbrev pub bits_of : List AttributeRow → ℕ
-bits_of [] = 0
-bits_of (row ∷ rows) = bit_or (2 ^ row.1) (bits_of rows)
 
 -- each row's word is a text of its bit
 abbrev pub AreRead : List AttributeRow → Type 0
@@ -174,10 +169,6 @@ attributes_rise : Rise 0 attributes
 unfolding attributes
 attributes_rise = omega arith
 
-rising_is : rising_words ≡ map (λ row. row.2) attributes
-unfolding rising_words attributes
-rising_is = refl
-
 -- the bits of the rows are those that are set in their union
 row_bit : (rows : List AttributeRow) (i : ℕ) → OneOf (map (λ row. row.1) rows) i → bit_at (bits_of rows) i ≡ 1
 row_bit [] i o = absurd o
@@ -215,11 +206,11 @@ mask_known bits h = λ i e.
     bit_row attributes i (omega (arith, masked, e, both, bit_at-lt (bits_of attributes) i))
 
 -- words that are chosen from the canonical ones are read
-rising_read : (ws : List (List ℕ)) → Chosen rising_words ws → ChosenRead 0 attributes ws
-rising_read ws c = chosen_read attributes 0 ws attributes_rise attributes_read (rw rising_is at c)
+rising_read : (ws : List (List ℕ)) → Chosen (map shown_word attributes) ws → ChosenRead 0 attributes ws
+rising_read ws c = chosen_read attributes 0 ws attributes_rise attributes_read c
 
-attribute_words_chosen : (bits : ℕ) → Chosen rising_words (attribute_words bits)
-attribute_words_chosen bits = rw rising_is (set_words_chosen attributes bits)
+attribute_words_chosen : (bits : ℕ) → Chosen (map shown_word attributes) (attribute_words bits)
+attribute_words_chosen bits = set_words_chosen attributes bits
 
 attribute_words_read : (bits : ℕ) → IsMasked bits → WordsRead (attribute_words bits) [] bits
 attribute_words_read bits e = rw e at (set_words_read attributes bits attributes_read)
@@ -285,7 +276,7 @@ names_and_words : (ts ws : List (List ℕ)) (ns : List Name) (bits : ℕ) → Wo
 names_and_words ts ws ns bits r s = rw (append-nil, or_zero_l) at (WordsRead-join r s)
 
 -- canonical names and then words of attributes are the words of the text that joins them by spaces
-words_of_parts : (ts ws : List (List ℕ)) → AllByRecursion CanonicalName ts → Chosen rising_words ws
+words_of_parts : (ts ws : List (List ℕ)) → AllByRecursion CanonicalName ts → Chosen (map shown_word attributes) ws
     → words (join_with_byte space (ts ++ ws)) ≡ ts ++ ws
 words_of_parts ts ws named chosen =
     words_spaced (ts ++ ws)

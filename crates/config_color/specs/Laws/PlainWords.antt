@@ -1,14 +1,14 @@
 -- Words of printing ASCII bytes. They contain no white space, so a text that joins them by spaces has these
 -- words.
 use Rattle.std.proofs.Common.{◌≡◌, ℕ, ◌≤◌, inl, inr, Bool, true, false, ◌&&◌, codes, nat_le, List, [], ◌∷◌}
-use Rattle.std.proofs.Common.{None, refl, append_assoc, arith}
+use Rattle.std.proofs.Common.{map, None, refl, append_assoc, arith}
 use Rattle.std.specs.List.{AllByRecursion, join_with_byte, list_all}
 use Rattle.std.specs.Str.Parse.{AllDigits}
 use Rattle.std.proofs.lemmas.Bool.{and_from, and_parts}
 use Rattle.std.proofs.lemmas.Bool.Decides.{nat_tests}
 use Rattle.std.proofs.lemmas.Str.Parse.{digit_from_value}
 use Rattle.config_color.specs.Color.{Chosen}
-use Rattle.config_word.specs.Attribute.{rising_words}
+use Rattle.config_word.specs.Attribute.{attributes, shown_word}
 use Rattle.config_word.specs.Name.{CanonicalName, lower_words}
 use Rattle.config_text.specs.Bytes.{space, IsLowerHex}
 use Rattle.config_text.specs.OneOf.{OneOf}
@@ -80,9 +80,9 @@ chosen_all_plain (row ∷ rows) (w ∷ ws) h (inl c) =
 chosen_all_plain (row ∷ rows) (w ∷ ws) h (inr c) =
     chosen_all_plain rows (w ∷ ws) (and_parts (is_plain_word row) (list_all is_plain_word rows) h).1 c
 
-pub chosen_plain : (ws : List (List ℕ)) → Chosen rising_words ws → list_all is_plain_word ws ≡ true
-unfolding rising_words
-chosen_plain ws c = chosen_all_plain rising_words ws refl c
+pub chosen_plain : (ws : List (List ℕ)) → Chosen (map shown_word attributes) ws → list_all is_plain_word ws ≡ true
+unfolding attributes
+chosen_plain ws c = chosen_all_plain (map shown_word attributes) ws refl c
 
 lower_plain : (t : List ℕ) → OneOf lower_words t → is_plain_word t ≡ true
 unfolding lower_words

@@ -1,6 +1,7 @@
 //! Laws about colors and about the words of their texts.
 ghost use Rattle.std.specs.Prelude.{◌≡◌, ◌↔◌, ◌⊎◌, ◌++◌, ℕ, List, length, Option, None};
 ghost use Rattle.config_color.specs.declared.color.Color.{Color};
+ghost use Rattle.config_color.specs.declared.escape.TheConstants.{LONGEST_ESCAPE};
 ghost use Rattle.config_color.specs.Color.{ColorText, CanonicalColor, PartFits, AreKnown};
 ghost use Rattle.config_color.specs.Composition.{Composes, IsOver, Joined, HaveTooManyNames};
 ghost use Rattle.config_color.specs.Composition.{Moves, SameWords};
@@ -76,7 +77,8 @@ pub fn one_sequence()
 ///
 /// [`Color::escape`]: crate::color::Color::escape
 pub fn longest_sequence()
-    ensures { (c : Color) × (length (escape_sequence c) ≡ 69) }
+    ensures bytes { LONGEST_ESCAPE ≡ 69 }
+    ensures color { (c : Color) × (length (escape_sequence c) ≡ LONGEST_ESCAPE) }
 {}
 
 /// `over` has one result for two colors.

@@ -2,7 +2,7 @@
 use Rattle.std.proofs.Common.{◌≡◌, ℕ, zero, suc, ◌+◌, ◌*◌, ◌^◌, ◌<◌, ◌≤◌, ◌⊎◌, ◌↔◌, inl, inr, Bool, true}
 use Rattle.std.proofs.Common.{false, List, [], ◌∷◌, ◌++◌, map, filter, flat_map, length, take}
 use Rattle.std.proofs.Common.{drop, codes, refl, sym, ap, ◌∙◌, arith, lit≤, ◌==◌, nat_le, bit_and}
-use Rattle.std.proofs.Common.{bytes_eq, IsTrue, slice_index_or}
+use Rattle.std.proofs.Common.{bytes_eq, IsTrue, None, slice_index_or}
 use Rattle.std.proofs.Math.Bool.{or-true}
 use Rattle.std.proofs.lemmas.Bool.{and_parts, cases_Bool, leb-true}
 use Rattle.std.proofs.lemmas.Bool.Decides.{Decides-eqb, eqb_tells, nat_tests}
@@ -13,12 +13,13 @@ use Rattle.std.proofs.lemmas.Nat.{pow_pos}
 use Rattle.std.proofs.lemmas.Nat.Bits.{and_pow, bit_at-lt}
 use Rattle.std.proofs.lemmas.Slice.Eq.{bytes_eq-Decides}
 use Rattle.std.specs.Int.{bit_at}
+use Rattle.std.specs.Int.RustNames.{bit_or}
 use Rattle.std.specs.List.{join_with_byte, list_all, list_any}
 use Rattle.config_word.specs.declared.attribute.Attribute.{Attribute}
 use Rattle.config_word.specs.declared.attribute.Shown.{Shown}
 use Rattle.config_word.specs.declared.attribute.TheConstants.{LONGEST_SET}
 use Rattle.config_word.specs.Attribute.{AttributeRow, AttributeText, CanonicalAttribute, IsKnownBit}
-use Rattle.config_word.specs.Attribute.{attribute_shown, attribute_words, attributes, rising_words}
+use Rattle.config_word.specs.Attribute.{attribute_shown, attribute_words, attributes}
 use Rattle.config_word.specs.Reading.Attribute.{remaining, shown_row, shown_rows, words_in}
 use Rattle.config_text.specs.Bytes.{space}
 use Rattle.config_text.specs.OneOf.{OneOf}
@@ -42,7 +43,7 @@ IsConstant a = (row : AttributeRow) × OneOf attributes row × (a.0 ≡ 2 ^ row.
 -- an attribute that has a text is a constant
 text-constant : (t : List ℕ) (a : Attribute) → AttributeText t a → IsConstant a
 text-constant t a (AttributeText.word row o h e) = (row, o, e)
-text-constant t a (AttributeText.reset s e) = ((codes "RESET", 8, codes "reset", []), reset-known, e)
+text-constant t a (AttributeText.reset s e) = ((codes "RESET", 8, codes "reset", [], None), reset-known, e)
 
 -- each constant is shown as its word
 singles-shown : list_all (λ row. bytes_eq (attribute_shown (2 ^ row.1)) row.2) attributes ≡ true
@@ -59,11 +60,6 @@ single-shown row o =
 constant-shown : (a : Attribute) (k : IsConstant a) → attribute_shown a.0 ≡ k.0.2
 constant-shown a (row, o, e) = ap attribute_shown e ∙ single-shown row o
 
--- the words that are canonical texts are the words of the constants
-rising : map (λ row. row.2) attributes ≡ rising_words
-unfolding attributes rising_words
-rising = refl
-
 -- no word is longer than the longest set
 words-short : list_all (λ row. nat_le (length row.2) LONGEST_SET) attributes ≡ true
 unfolding attributes
@@ -77,7 +73,7 @@ spelled-as row s o e = AttributeText.word row o (inl e) refl
 -- a canonical text is what its constant is shown as
 canonical-shown : (s : List ℕ) → CanonicalAttribute s → IsShown AttributeText (λ a. attribute_shown a.0) s
 canonical-shown s c =
-    let r = OneOf-from_map (λ (r : AttributeRow). r.2) attributes s (rw rising c) in
+    let r = OneOf-from_map (λ (r : AttributeRow). r.2) attributes s c in
     record {
       value = record { 0 = 2 ^ r.0.1 };
       reads_to = spelled-as r.0 s r.1 r.2;
@@ -100,7 +96,7 @@ attribute_shown_is_text v h = told (text-constant h.0 v h.1) where
       let small = leb-true (length row.2) LONGEST_SET
       (all-one (λ (r : AttributeRow). nat_le (length r.2) LONGEST_SET) attributes row words-short o) in
       rw (constant-shown v (row, o, e)) (record {
-        canonical_text = rw (← rising) (OneOf-map (λ (r : AttributeRow). r.2) attributes row o);
+        canonical_text = OneOf-map (λ (r : AttributeRow). r.2) attributes row o;
         reads_to = AttributeText.word row o (inl refl) e;
         short = omega arith;
       })
@@ -119,6 +115,11 @@ attribute_has_text a = (to, from) where
       (r.0.2, AttributeText.word r.0 r.1 (inl refl) (e ∙ ap (λ n. 2 ^ n) r.2))
 
 -- ---- how several are shown
+
+-- the union of the rows' bits
+abbrev pub bits_of : List AttributeRow → ℕ
+bits_of [] = 0
+bits_of (row ∷ rows) = bit_or (2 ^ row.1) (bits_of rows)
 
 -- words with a space before each
 abbrev pub spaced : List (List ℕ) → List ℕ

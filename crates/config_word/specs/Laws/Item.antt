@@ -314,7 +314,7 @@ spelling-row row w o h =
     (OneOf-map (λ (x : List ℕ). (x, row.1 == 8, attribute_item row.1)) (row.2 ∷ row.3) w h)))
 
 -- `reset` is one of the constants
-pub reset-known : OneOf attributes (codes "RESET", 8, codes "reset", [])
+pub reset-known : OneOf attributes (codes "RESET", 8, codes "reset", [], None)
 unfolding attributes
 reset-known = inr (inr (inr (inr (inr (inr (inr (inl refl)))))))
 
@@ -333,7 +333,7 @@ attribute-row t a (AttributeText.word row o h e) = (
 )
 attribute-row t a (AttributeText.reset s e) = (
   (codes "reset", true, attribute_item 8),
-  spelling-row (codes "RESET", 8, codes "reset", []) (codes "reset") reset-known (inl refl),
+  spelling-row (codes "RESET", 8, codes "reset", [], None) (codes "reset") reset-known (inl refl),
   (bytes_eq-Decides (lowered t) (lowered (codes "reset"))).1 s,
   attribute_is a 8 e,
 )

@@ -7,8 +7,8 @@ returns-clause-over c =
     record {
       front = c.or.ensures;
       back = c.or-2.ensures;
-      bits = attributes_over c.args.base.attributes.0 c.args.top.attributes.0 c.opposites_of.result.0
-          c.difference-stays.result.0 c.union.result.0 (omega arith) (omega arith) c.opposites_of.ensures
+      bits = attributes_over c.args.base.attributes.0 c.args.top.attributes.0 c.opposites.result
+          c.difference-stays.result.0 c.union.result.0 (omega arith) (omega arith) c.opposites.ensures
           (c.difference-stays.ensures tt) (c.union.ensures tt);
     }
 

@@ -6,8 +6,7 @@ use Rattle.config_color.proofs.escape.push_set.Goals as goal
 
 pub push_rows-requires : goal.push_rows-requires
 push_rows-requires c =
-    let all = ap size c.code_table.ensures ∙ size_all in
-    omega (arith, all, ap length c.requires)
+    omega (arith, size_all, ap size c.code_table.ensures, ap length c.requires)
 
 pub returns : goal.returns
 returns c =

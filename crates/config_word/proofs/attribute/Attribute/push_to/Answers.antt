@@ -9,14 +9,14 @@ use Rattle.config_word.proofs.attribute.Attribute.push_to.Goals as goal
 pub split_at-requires : goal.split_at-requires
 unfolding attributes
 split_at-requires c =
-    let size = sym (length-map c.shown_words.result.now shown_row) ∙ ap length c.shown_words.ensures in
+    let size = sym (length-map c.shown_words.result.now shown_row) ∙ ap length c.shown_words.ensures.words in
     omega arith
 
 pub push_words-is_first-requires : goal.push_words-is_first-requires
 push_words-is_first-requires c =
     let short = attribute_short c.args.self.0 in
     let whole = ap length (both_parts c.args.self.0 HALF c.shown_words.result.now _ _
-    c.shown_words.ensures c.split_at.ensures.front c.split_at.ensures.back) in
+    c.shown_words.ensures.words c.split_at.ensures.front c.split_at.ensures.back) in
     let part = remaining-prefix true (words_in c.args.self.0 (map shown_row c.split_at.result.0.now))
     (words_in c.args.self.0 (map shown_row c.split_at.result.1.now)) in
     omega arith
@@ -25,7 +25,7 @@ pub push_words-requires : goal.push_words-requires
 push_words-requires c =
     let short = attribute_short c.args.self.0 in
     let whole = ap length (both_parts c.args.self.0 HALF c.shown_words.result.now _ _
-    c.shown_words.ensures c.split_at.ensures.front c.split_at.ensures.back) in
+    c.shown_words.ensures.words c.split_at.ensures.front c.split_at.ensures.back) in
     let written = sym (length-append c.push_words-is_first.new.text.bytes _)
     ∙ ap length (c.push_words-is_first.ensures (words_in c.args.self.0 (map shown_row c.split_at.result.1.now)))
     ∙ length-append c.args.text.now.bytes _ in
@@ -42,4 +42,4 @@ returns c =
     ∙ c.push_words-is_first.ensures later
     ∙ ap (λ rest. c.args.text.now.bytes ++ rest)
     (both_parts c.args.self.0 HALF c.shown_words.result.now _ _
-    c.shown_words.ensures c.split_at.ensures.front c.split_at.ensures.back)
+    c.shown_words.ensures.words c.split_at.ensures.front c.split_at.ensures.back)

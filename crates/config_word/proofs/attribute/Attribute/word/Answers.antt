@@ -8,8 +8,8 @@ use Rattle.config_word.proofs.attribute.Attribute.word.Goals as goal
 
 pub loop-shown-init : goal.loop-shown-init
 loop-shown-init c = (
-  ap (list_all is_shown) c.shown_words-shown-items.ensures ∙ rows-shown,
-  sym (ap (list_any (λ row. row.0 == c.args.self.0)) c.shown_words-shown-items.ensures),
+  ap (list_all is_shown) c.shown_words-shown-items.ensures.words ∙ rows-shown,
+  sym (ap (list_any (λ row. row.0 == c.args.self.0)) c.shown_words-shown-items.ensures.words),
 )
 
 pub returns-then-eq : goal.returns-then-eq

@@ -1,7 +1,7 @@
 use Rattle.std.proofs.Common.{refl}
 use Rattle.config_word.specs.declared.name.Name.TheVariants.{BrightMagenta}
 use Rattle.config_word.specs.Attribute.{attributes}
-use Rattle.config_word.specs.Laws.Attribute.{attribute_short}
+use Rattle.config_word.specs.Laws.Attribute.{attribute_short, bits_of}
 use Rattle.config_word.specs.Laws.Name.{name_short}
 use Rattle.config_word.proofs.laws.texts.longest.Goals as goal
 
@@ -17,4 +17,4 @@ returns-clause-sets c = attribute_short
 -- the set of all attributes
 pub returns-clause-set : goal.returns-clause-set
 unfolding attributes
-returns-clause-set c = (266338814, refl)
+returns-clause-set c = (bits_of attributes, refl)
