@@ -27,11 +27,13 @@ import time
 
 from programs import ROOT, Wrong
 
+sys.path.insert(0, str(ROOT / "docs"))
+import grammar  # noqa: E402
+
 KINDS = [b"suffix", b"integer", b"amount", b"boolean", b"name", b"attribute", b"color"]
-GRAMMAR = (ROOT / "docs/GRAMMAR.md").read_text("utf-8")
-LONGEST = max(map(int, re.findall(r"longest\s+has\s+(\d+)\s+bytes", GRAMMAR)))
+LONGEST = max(map(int, re.findall(r"longest\s+has\s+(\d+)\s+bytes", grammar.PAGE)))
 # the words of attributes, by rising bit
-RISING = [word.encode() for word in re.findall(r"^\| `[A-Z_]+` \| \d+ \| `(\w+)`", GRAMMAR, re.MULTILINE)]
+RISING = grammar.attribute_words()
 COLORS = [b"black", b"red", b"green", b"yellow", b"blue", b"magenta", b"cyan", b"white"]
 SPACES = [chr(code).encode() for code in
           [*range(0x09, 0x0E), 0x20, 0x85, 0xA0, 0x1680, *range(0x2000, 0x200B), 0x2028, 0x2029, 0x202F, 0x205F, 0x3000]

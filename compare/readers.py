@@ -7,18 +7,22 @@ import pwd
 import re
 import shutil
 import subprocess
+import sys
 import tempfile
 
 import calls
 from classes import NOT_SET, Question, dotted
-from programs import Missing, Wrong, answers
+from programs import ROOT, Missing, Wrong, answers
+
+sys.path.insert(0, str(ROOT / "docs"))
+import grammar  # noqa: E402
 
 FIRST_VERSION = (2, 30)
 REFUSED = 128
 USERS = 4
 NAMES = ["black", "red", "green", "yellow", "blue", "magenta", "cyan", "white"]
-ATTRIBUTES = {"bold": 1, "dim": 2, "italic": 3, "ul": 4, "blink": 5, "reverse": 7, "strike": 9,
-              "nobold": 22, "nodim": 22, "noitalic": 23, "noul": 24, "noblink": 25, "noreverse": 27, "nostrike": 29}
+# the code of each word but `reset`
+ATTRIBUTES = {grammar.attributes()[name][1][0]: int(code) for names, code in grammar.attribute_codes() for name in names if code}
 BACKGROUND = 10
 
 

@@ -12,12 +12,12 @@ import sys
 ROOT = pathlib.Path(__file__).resolve().parent.parent.parent
 sys.path.insert(0, str(ROOT / "docs"))
 import examples  # noqa: E402
+import grammar  # noqa: E402
 import reference  # noqa: E402
+from grammar import SECTIONS, rows, spans  # noqa: E402
 
 LIBRARY = tuple(examples.CALLS)
 KEYWORDS = "abbrev|data|mutual|pub|record|unfoldable|unfolding|Unit|use|where"
-PAGE = (ROOT / "docs/GRAMMAR.md").read_text("utf-8")
-SECTIONS = dict(re.findall(r"^## ([^(\n]*\w)[^\n]*\n(.*?)(?=^## |\Z)", PAGE, re.MULTILINE | re.DOTALL))
 NUMBERS = dict(zip("first second third fourth fifth sixth seventh".split(), range(1, 8)))
 NUMBERS |= dict(zip("one two three four five six seven".split(), range(1, 8)))
 
@@ -35,16 +35,6 @@ def literals(text):
 def parts(text):
     """The texts and the numbers of a row, in order."""
     return ["".join(found) for found in re.findall(r'codes "([^"]*)"|(?<![\w^.])(\d+)\b', text)]
-
-
-def spans(text):
-    return re.findall(r"`([^`]+)`", text)
-
-
-def rows(section):
-    """The cells of each row in a section's table."""
-    lines = [line for line in SECTIONS[section].split("\n") if line.startswith("|")]
-    return [[cell.strip() for cell in line[1:-1].split("|")] for line in lines[2:]]
 
 
 def sentence(section, pattern):
@@ -95,23 +85,26 @@ def names():
     yield "palette", re.findall(r"k ≤ (\d+)", text), re.findall(r"number is 0 to (\d+)", SECTIONS["Color names"])
 
 
+def opposite_bit(name, table):
+    """The bit of the form of a constant with `NO_`, or without it, or no bit if there is none."""
+    opposite = name.removeprefix("NO_") if name.startswith("NO_") else f"NO_{name}"
+    return [str(table[opposite][0])] if opposite in table else []
+
+
 def attributes():
     known = [parts(line) for line in spec("config_word", "Attribute", "attributes").split("\n") if "codes" in line]
-    table = [[*spans(name), bit, *spans(texts)] for name, bit, texts in rows("Attributes")]
-    yield "attributes", known, table
-    yield "canonical attributes", literals(spec("config_word", "Attribute", "rising_words")), [row[2] for row in table]
+    table = grammar.attributes()
+    yield "attributes", known, [[name, str(bit), *texts, *opposite_bit(name, table)] for name, (bit, texts) in table.items()]
     facts = (reference.CRATES / "config_word/proofs/StandardFacts.antt").read_text("utf-8")
     examples_of = [[name, word] for name, word in re.findall(r'\((\w+), 0x\w+, codes "(\w+)"\)', facts)]
-    yield "attributes in examples", examples_of, [[name, *texts[:1]] for name, _, *texts in table]
+    yield "attributes in examples", examples_of, [[name, texts[0]] for name, (_, texts) in table.items()]
 
 
 def colors():
-    bits = {name: bit for name, bit, _ in rows("Attributes")}
     known = [(re.findall(r"2 \^ (\d+)", line), literals(line)[0])
              for line in spec("config_color", "Escape", "attribute_codes").split("\n") if '"' in line]
-    table = [cells for cells in rows("Escape sequences") if len(cells) == 2 and spans(cells[0])]
-    yield "codes of attributes", known, [([bits[f"`{name}`"] for name in spans(names)], "".join(spans(code)))
-                                         for names, code in table]
+    yield "codes of attributes", known, [([str(grammar.attributes()[name][0]) for name in names], code)
+                                         for names, code in grammar.attribute_codes()]
     shades = re.findall(r"shade 0x(\w\w) 0x(\w\w) 0x(\w\w)", spec("config_color", "Depth", "xterm_colors"))
     told = sentence("Fewer colors", r"XTerm-col\.ad: ([0-9a-f ]*)\.")
     yield "the colors of xterm", ["".join(shade).lower() for shade in shades], told.split()
@@ -184,9 +177,11 @@ def bodies():
 
 
 def lengths():
-    told = [sentence("Colors", r"longest has (\d+) bytes")]
-    for crate, file, name in (("config_text", "Value", "IsTextOf"), ("uses", "Headline", "Headline")):
-        yield f"the longest text of {name}", re.findall(r"length s ≤ (\d+)", spec(crate, file, name)), told
+    known = spec("config_text", "Value", "longest_text").split()[-1]
+    yield "the longest text", known, sentence("Colors", r"longest has (\d+) bytes")
+    law = (reference.CRATES / "config_color/src/laws/colors.rt").read_text("utf-8")
+    known = re.search(r"LONGEST_ESCAPE ≡ (\d+)", law)[1]
+    yield "the longest sequence", known, sentence("Escape sequences", r"longest has (\d+) bytes")
 
 
 def reading():

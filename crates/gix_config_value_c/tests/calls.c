@@ -117,9 +117,15 @@ static void shown_sets(void)
     }
     gcv_color beside = {{GCV_NO_NAME, 0, 0, 0, 0}, {GCV_BLUE, 0, 0, 0, 0}, GCV_BOLD};
     count(writes(buffer_area, show_color, &beside, "blue bold", 9), "a background alone is shown");
+    /* all bits are shown as the words of each, with one space between */
+    char word[GCV_LONGEST_TEXT], words[GCV_LONGEST_TEXT + 1];
+    size_t size, length = 0;
+    for (uint32_t bit = 1; bit; bit <<= 1) {
+        count(gcv_show_attribute(bit, word, sizeof word, &size) == GCV_OK, "one bit");
+        length += size ? (size_t)sprintf(words + length, "%s%.*s", length ? " " : "", (int)size, word) : 0;
+    }
     uint32_t all = UINT32_MAX;
-    static const char words[] = "bold dim italic ul blink reverse strike reset nodim nobold noitalic noul noblink noreverse nostrike";
-    count(writes(buffer_area, show_attribute, &all, words, sizeof words - 1), "all bits");
+    count(length > strlen("bold nobold") && writes(buffer_area, show_attribute, &all, words, length), "all bits");
 }
 
 static int composes(const char *first, const char *second, gcv_status status, const char *both)
@@ -417,7 +423,7 @@ static void fields(void)
     count(gcv_read_integer("-0x10G", 6, &integer, NULL) == GCV_OK && integer.value == -16 && integer.suffix == GCV_GIBI, "an integer");
 }
 
-/* Each enumerator has the number of its word. */
+/* Enumerators have the numbers of their words. header.py compares all of them. */
 static void words(void)
 {
     static const word names[] = {

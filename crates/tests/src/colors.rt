@@ -13,11 +13,6 @@ const NAMES: &str =
     "normal -1 default black red green yellow blue magenta cyan white brightblack brightred brightgreen \
     brightyellow brightblue brightmagenta brightcyan brightwhite 0 7 8 15 16 255 #0a64ff";
 
-/// A text with the longest sequence.
-const LONGEST: &str =
-    "#ffffff #ffffff reset bold dim italic ul blink reverse strike nodim nobold noitalic noul \
-    noblink noreverse nostrike";
-
 /// The color whose background alone is set.
 fn behind(background: Option<Name>) -> Color {
     Color {
@@ -36,7 +31,10 @@ fn a_background_alone_has_the_codes_of_one_behind_normal(rt: HostRuntime) -> Res
         };
         equal(&rt, alone.escape().as_str(), beside.escape().as_str(), name);
     }
-    let longest = Color::try_from(LONGEST)?;
+    let longest = Color {
+        attributes: !Attribute::default(),
+        ..Color::try_from("#ffffff #ffffff")?
+    };
     assert!(rt; longest.escape().as_str().len() == LONGEST_ESCAPE);
     Ok(())
 }
