@@ -12,6 +12,7 @@ use config_checks::row::Row;
 use config_file::key::Key;
 use config_host::text::Text;
 use gix_config_value::canonical::TryRead;
+use gix_config_value::color::Attribute;
 use gix_config_value::integer::Amount;
 use gix_config_value::{Color, Fault};
 use std::alloc::{AllocError, Global};
@@ -42,11 +43,10 @@ const FOR_TRUE: &[&[u8]] = &[b"enable", b"enabled", b"y", b"t"];
 
 const FOR_FALSE: &[&[u8]] = &[b"disable", b"disabled", b"n", b"f"];
 
-/// The words of colors.
-const COLORS: &str = "\
+/// The names of colors.
+const NAMES: &str = "\
 normal default black red green yellow blue magenta cyan white brightblack brightred brightgreen brightyellow \
-brightblue brightmagenta brightcyan brightwhite bold dim italic ul blink reverse strike reset nobold nodim \
-noitalic noul noblink noreverse nostrike";
+brightblue brightmagenta brightcyan brightwhite";
 
 /// The words of a text.
 pub(crate) fn words_in(
@@ -56,6 +56,17 @@ pub(crate) fn words_in(
     let mut words = Vec::new(alloc);
     for word in text.as_bytes().split(|byte| *byte == b' ') {
         words.push(word)?;
+    }
+    Ok(words)
+}
+
+/// The words of colors: the names, and then those of attributes.
+fn color_words(alloc: Global) -> Result<Vec<&'static [u8]>, AllocError> {
+    let mut words = words_in(alloc, NAMES)?;
+    for attribute in !Attribute::default() {
+        if let Some(word) = attribute.word() {
+            words.push(word.as_bytes())?;
+        }
     }
     Ok(words)
 }
@@ -216,7 +227,7 @@ fn joined(alloc: Global, text: &[u8], wrong: &[u8]) -> Result<Option<Meant>, All
     };
     let mut both = wrong.to_vec(alloc)?;
     both.extend_from_slice(next)?;
-    let Some((word, _)) = nearest(alloc, &words_in(alloc, COLORS)?, &both)? else {
+    let Some((word, _)) = nearest(alloc, &color_words(alloc)?, &both)? else {
         return Ok(None);
     };
     let shorter = replaced(alloc, text, next, b"")?;
@@ -238,7 +249,7 @@ fn color_meant(alloc: Global, text: &[u8], wrong: &[u8]) -> Result<Option<Meant>
             is_sure: true,
         }));
     }
-    let Some((word, is_sure)) = nearest(alloc, &words_in(alloc, COLORS)?, wrong)? else {
+    let Some((word, is_sure)) = nearest(alloc, &color_words(alloc)?, wrong)? else {
         return joined(alloc, text, wrong);
     };
     let color = replaced(alloc, text, wrong, word)?;
@@ -303,7 +314,7 @@ fn colors_by_age<'v>(alloc: Global, text: &'v [u8]) -> Result<Hint<'v>, AllocErr
         return Ok(hint_of(None, None));
     };
     let named = if fields.len() > 1 { Some(*wrong) } else { None };
-    let Some((word, is_sure)) = nearest(alloc, &words_in(alloc, COLORS)?, wrong)? else {
+    let Some((word, is_sure)) = nearest(alloc, &color_words(alloc)?, wrong)? else {
         return Ok(hint_of(named, None));
     };
     let mut value = Text::new(alloc);

@@ -9,10 +9,14 @@ import functools
 import hashlib
 import itertools
 import os
+import pathlib
 import pwd
 import re
 import shlex
 import sys
+
+sys.path.insert(0, str(pathlib.Path(__file__).resolve().parents[3] / "docs"))
+import grammar  # noqa: E402
 
 BOOLEAN_FAULT = b"Booleans need to be 'no', 'off', 'false', '' or 'yes', 'on', 'true' or any number"
 INTEGER_FAULT = (b"Integers needs to be positive or negative numbers"
@@ -92,8 +96,7 @@ COLOR_WORDS = {b"normal", b"default", *COLORS, *(b"bright" + color for color in 
 PALETTE = re.compile(rb"\+?([0-9]+)")
 SIX_DIGITS = re.compile(rb"#[0-9a-fA-F]{6}")
 THREE_DIGITS = re.compile(rb"#([0-9a-fA-F])([0-9a-fA-F])([0-9a-fA-F])")
-ATTRIBUTES = [b"bold", b"dim", b"italic", b"ul", b"blink", b"reverse", b"strike", b"reset",
-              b"nodim", b"nobold", b"noitalic", b"noul", b"noblink", b"noreverse", b"nostrike"]
+ATTRIBUTES = grammar.attribute_words()
 SPACES = [*range(0x09, 0x0E), 0x20, 0x85, 0xA0, 0x1680, *range(0x2000, 0x200B), 0x2028, 0x2029, 0x202F,
           0x205F, 0x3000]
 SPACE = re.compile(b"|".join(chr(code).encode() for code in SPACES))
@@ -218,9 +221,7 @@ def of_path(_, text):
 BLANKS = b" \t\n\r\f"
 NEAR_BOOLEANS = [b"true", b"false", b"yes", b"off"]
 FOR_TRUE, FOR_FALSE = [b"enable", b"enabled", b"y", b"t"], [b"disable", b"disabled", b"n", b"f"]
-COLORS_MEANT = [b"normal", b"default", *COLORS, *(b"bright" + color for color in COLORS),
-                b"bold", b"dim", b"italic", b"ul", b"blink", b"reverse", b"strike", b"reset",
-                b"nobold", b"nodim", b"noitalic", b"noul", b"noblink", b"noreverse", b"nostrike"]
+COLORS_MEANT = [b"normal", b"default", *COLORS, *(b"bright" + color for color in COLORS), *ATTRIBUTES]
 
 
 def asked(meant):
