@@ -1,8 +1,6 @@
 -- What is found for an entry whose key or value changes.
 use Rattle.std.proofs.Common.{◌≡◌, ℕ, true, List, [], ◌∷◌, ◌++◌, map, Option, None, Some}
 use Rattle.std.proofs.Common.{refl, sym, ap, subst, ◌∙◌, inl, inr, append_assoc}
-use Rattle.std.proofs.lemmas.List.Folds.{list_all-map}
-use Rattle.std.proofs.lemmas.Str.Ascii.{lowercase-lowercase}
 use Rattle.std.specs.Char.{to_ascii_lowercase}
 use Rattle.std.specs.List.{list_all}
 use Rattle.config_text.specs.SameWord.{SameWord}
@@ -13,9 +11,9 @@ use Rattle.config_file.specs.KeyView.{key_of}
 use Rattle.config_file.specs.Listing.{IsListed, alone, in_section}
 use Rattle.config_file.specs.Settings.{IsValueOf}
 use Rattle.config_file.proofs.EachListed.{IsRead, IsSpelled}
-use Rattle.config_file.proofs.Keys.{no_dot, not_dot, lower_dot, listed_as}
-use Rattle.config_file.proofs.LineEnds.{all_more}
+use Rattle.config_file.proofs.Keys.{listed_as}
 use Rattle.config_file.proofs.OneKey.{cut_same, cut_has_dot, last_same, key_bytes_no_dot}
+use Rattle.config_file.proofs.OneKey.{lower_no_dots, lower_twice}
 use Rattle.config_checks.specs.declared.options.Options.{Options}
 use Rattle.config_checks.specs.declared.row.Row.{Row}
 use Rattle.config_checks.specs.declared.setting.Setting.{Setting}
@@ -62,19 +60,6 @@ decides_same rows t u a b row first second same decides =
     }
 
 -- ---- the key of an entry whose last part changes
-
-lower_no_dot : (b : ℕ) → is_no_dot b ≡ true → is_no_dot (to_ascii_lowercase b) ≡ true
-lower_no_dot b h = no_dot (to_ascii_lowercase b) (λ e. not_dot b h (lower_dot b e))
-
-lower_no_dots : (text : List ℕ) → list_all is_no_dot text ≡ true
-    → list_all is_no_dot (map to_ascii_lowercase text) ≡ true
-lower_no_dots text e =
-    rw (list_all-map is_no_dot to_ascii_lowercase text)
-    (all_more is_no_dot (λ b. is_no_dot (to_ascii_lowercase b)) lower_no_dot text e)
-
-lower_twice : (text : List ℕ) → SameWord (map to_ascii_lowercase text) text
-lower_twice [] = refl
-lower_twice (b ∷ text) = λ i. lowercase-lowercase b i ∷ lower_twice text i
 
 abbrev renamed_key : Key → List ℕ → Key
 renamed_key from name = key from.section from.subsection (map to_ascii_lowercase name)

@@ -5,6 +5,7 @@ use Rattle.std.proofs.Common.{refl, sym, ap, ◌∙◌, subst, arith}
 use Rattle.std.proofs.lemmas.Bool.{true≢false, cases_Bool, and_parts}
 use Rattle.std.proofs.lemmas.Bool.Decides.{nat_tests}
 use Rattle.std.proofs.lemmas.List.{append_assoc}
+use Rattle.std.proofs.lemmas.Str.Ascii.{lowercase-lowercase}
 use Rattle.std.specs.Char.{to_ascii_lowercase}
 use Rattle.std.specs.List.{list_all}
 use Rattle.config_file.specs.declared.key.KeyError.{KeyError}
@@ -196,11 +197,15 @@ one_answer text (Err e) (Err f) first second = ap Err (refused_same first second
 lower_no_dot : (b : ℕ) → is_no_dot b ≡ true → is_no_dot (to_ascii_lowercase b) ≡ true
 lower_no_dot b h = no_dot (to_ascii_lowercase b) (λ e. not_dot b h (lower_dot b e))
 
-lower_no_dots : (text : List ℕ) → list_all is_no_dot text ≡ true
+pub lower_no_dots : (text : List ℕ) → list_all is_no_dot text ≡ true
     → list_all is_no_dot (map to_ascii_lowercase text) ≡ true
 lower_no_dots text e =
     rw (list_all-map is_no_dot to_ascii_lowercase text)
     (all_more is_no_dot (λ b. is_no_dot (to_ascii_lowercase b)) lower_no_dot text e)
+
+pub lower_twice : (text : List ℕ) → map to_ascii_lowercase (map to_ascii_lowercase text) ≡ map to_ascii_lowercase text
+lower_twice [] = refl
+lower_twice (b ∷ text) = λ i. lowercase-lowercase b i ∷ lower_twice text i
 
 key_byte_no_dot : (b : ℕ) → is_key_byte b ≡ true → is_no_dot b ≡ true
 key_byte_no_dot b h = grind (arith, nat_tests)

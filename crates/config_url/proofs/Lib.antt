@@ -4,5 +4,6 @@ mod UrlNormal
 mod UrlHosts
 mod UrlPaths
 mod UrlMatches
+mod UrlPatterns
 mod UrlFits
 mod StandardFacts

@@ -1,11 +1,12 @@
 -- The settings that are of a URL, and the closest of them.
 use Rattle.std.proofs.Common.{◌≡◌, ◌≤◌, ◌<◌, ◌+◌, ◌++◌, ◌∙◌, ◌⊎◌, inl, inr, ℕ, zero, suc, Bool, true, false}
 use Rattle.std.proofs.Common.{List, [], ◌∷◌, Some, None, Option, length, take, map}
-use Rattle.std.proofs.Common.{refl, sym, subst, ap, arith, MatchOption}
+use Rattle.std.proofs.Common.{refl, sym, subst, ap, arith, ◌↔◌, IsTrue, MatchOption, Result, Ok, Err, IfOk}
+use Rattle.std.specs.Prelude.{is_some}
 use Rattle.std.specs.Borrow.{Bor}
 use Rattle.std.specs.Char.{to_ascii_lowercase}
 use Rattle.std.specs.List.{All, slice_get}
-use Rattle.std.proofs.lemmas.Bool.{false≢true, cases_Bool, cases_lt}
+use Rattle.std.proofs.lemmas.Bool.{false≢true, true≢false, cases_Bool, cases_lt}
 use Rattle.std.proofs.lemmas.List.{append_assoc, take_all}
 use Rattle.std.proofs.lemmas.List.Elements.{All-nil, All-cons, All-append, All-push}
 use Rattle.config_url.specs.Deciding.{IsUnder, Fits, LacksFit}
@@ -16,12 +17,13 @@ use Rattle.config_file.specs.Settings.{AreListed}
 use Rattle.config_url.specs.Url.{Url, IsUrl, Matches, Fit, weakest, fit_of, IsCloser}
 use Rattle.config_file.specs.Views.{entry_of}
 use Rattle.config_file.specs.declared.settings.Setting.{Setting}
-use Rattle.config_url.specs.Reading.Fits.{Best, BestOf}
+use Rattle.config_url.specs.Reading.Fits.{Best, BestOf, FitsBy}
 use Rattle.config_file.proofs.Last.{listed_at}
 use Rattle.config_file.proofs.OneKey.{cut_same}
 use Rattle.config_file.proofs.Picked.{take_next}
 use Rattle.config_url.proofs.UrlMatches.{url_only}
 use Rattle.config_url.proofs.UrlNormal.{some_same}
+use Rattle.config_url.proofs.UrlPatterns.{listed_only}
 
 -- the text that Git lists for an entry is this
 abbrev pub IsOnly : List ℕ → Entry → Type 0
@@ -37,6 +39,16 @@ fits_under : (key : Key) (u : Url) (entry : Entry) (f : Fit) → Fits key u entr
     → (sub : Option (List ℕ)) × IsUnder key entry sub
 fits_under key u entry f (inl is) = (None, is.0)
 fits_under key u entry f (inr is) = (Some is.0, is.2)
+
+-- what is found says which fit the entry has, if it has one
+abbrev pub DecidesBy : {V : Type 0} → (V → Fit) → Key → Url → Entry → Option V → Type 0
+DecidesBy view key u entry found = MatchOption found ((f : Fit) → ¬ (Fits key u entry f))
+    (λ v. Fits key u entry (view v) × ((f : Fit) → Fits key u entry f → f ≡ view v))
+
+-- what is found says how closely the text fits as a pattern, if it does
+abbrev pub FitsPattern : {V : Type 0} → (V → Fit) → List ℕ → Url → Option V → Type 0
+FitsPattern view text u found =
+    MatchOption found ((p : Url) → IsUrl true text p → ¬ (Matches p u)) (λ v. FitsBy text u (view v))
 
 module _ (key : Key) (u : Url) (entry : Entry) (items : List ℕ) (k : Key) (only : IsOnly items entry) (cut : IsCut items k) where
   parts_are : {sub : Option (List ℕ)} (under : IsUnder key entry sub) → under.parts ≡ k
@@ -66,12 +78,6 @@ module _ (key : Key) (u : Url) (entry : Entry) (items : List ℕ) (k : Key) (onl
       let urls : q ≡ p = url_only q p (rw (some_same (sym (subsections under) ∙ has)) at other) is in
       (rw urls at match, e ∙ ap fit_of urls)
 
-  pub no_pattern : (sub : List ℕ) → k.subsection ≡ Some sub → ((p : Url) → ¬ (IsUrl true sub p)) → (f : Fit)
-      → ¬ (Fits key u entry f)
-  no_pattern sub has never f (inl (under, e)) = none_some sub (sym (subsections under) ∙ has)
-  no_pattern sub has never f (inr (text, p, under, is, match, e)) =
-      never p (rw (some_same (sym (subsections under) ∙ has)) at is)
-
   module _ (text : List ℕ) (listed : IsListed entry.section entry.key text)
       (section : lower k.section ≡ lower key.section) (name : lower k.name ≡ lower key.name)
       (none : key.subsection ≡ None) where
@@ -91,14 +97,38 @@ module _ (key : Key) (u : Url) (entry : Entry) (items : List ℕ) (k : Key) (onl
         → Fits key u entry weakest × ((f : Fit) → Fits key u entry f → f ≡ weakest)
     fits_weakest has = (inl (is_under has, refl), weakest_only has)
 
-    pub pattern_fits : {V : Type 0} (view : V → Fit) (r : Option V) (p : Url) (sub : List ℕ)
-        → k.subsection ≡ Some sub → IsUrl true sub p
-        → MatchOption r (¬ (Matches p u)) (λ v. Matches p u × (view v ≡ fit_of p))
-        → MatchOption r ((f : Fit) → ¬ (Fits key u entry f))
-        (λ v. Fits key u entry (view v) × ((f : Fit) → Fits key u entry f → f ≡ view v))
-    pattern_fits view None p sub has is not = λ f fits. not (pattern_only p sub has is f fits).0
-    pattern_fits view (Some v) p sub has is (match, e) =
+    pattern_fits : {V : Type 0} (view : V → Fit) (r : Option V) (sub : List ℕ) → k.subsection ≡ Some sub
+        → FitsPattern view sub u r → DecidesBy view key u entry r
+    pattern_fits view None sub has never = λ f fits. elim fits [
+      | inl is ↦ none_some sub (sym (subsections is.0) ∙ has)
+      | inr is ↦ never is.1 (rw (some_same (sym (subsections is.2) ∙ has)) at is.3) is.4
+    ]
+    pattern_fits view (Some v) sub has (p, is, match, e) =
         (inr (sub, p, is_under has, is, match, e), λ f fits. (pattern_only p sub has is f fits).1 ∙ sym e)
+
+    pub pattern_fits_ok : {V E : Type 0} (view : V → Fit) (r : Result (Option V) E) (sub : List ℕ)
+        → k.subsection ≡ Some sub → IfOk r (FitsPattern view sub u) → IfOk r (DecidesBy view key u entry)
+    pattern_fits_ok view (Ok found) sub has by = pattern_fits view found sub has by
+    pattern_fits_ok view (Err e) sub has by = tt
+
+-- a pattern below the key decides
+pub under_fits : {V E : Type 0} (view : V → Fit) (u : Url) (r : Result (Option V) E) {key : Key} {entry : Entry}
+    {sub : List ℕ} → IsUnder key entry (Some sub) → IfOk r (FitsPattern view sub u)
+    → IfOk r (DecidesBy view key u entry)
+under_fits view u r {key = key} {entry = entry} {sub = sub} under =
+    pattern_fits_ok key u entry under.text under.parts (λ listed is. listed_only under.is_listed is) under.is_cut
+    under.text under.is_listed under.same_section under.same_name under.alone view r sub under.has_subsection
+
+pub fits_by : {V : Type 0} (view : V → Fit) (u : Url) (r : Option V) {text : List ℕ} {p : Url} → IsUrl true text p
+    → MatchOption r (¬ (Matches p u)) (λ v. Matches p u × (view v ≡ fit_of p))
+    → FitsPattern view text u r
+fits_by view u None {p = p} is not = λ q other match. not (rw (url_only q p other is) at match)
+fits_by view u (Some v) {p = p} is (match, e) = (p, is, match, e)
+
+pub is_found : {V : Type 0} (view : V → Fit) (found : Option V) (r : Bool) {key : Key} {u : Url} {entry : Entry}
+    → r ≡ is_some found → DecidesBy view key u entry found → IsTrue r ↔ ((f : Fit) × Fits key u entry f)
+is_found view None r e never = rw e (λ yes. absurd (true≢false (sym yes)), λ is. absurd (never is.0 is.1))
+is_found view (Some v) r e (is, only) = rw e (λ yes. (view v, is), λ is. refl)
 
 -- ---- orders of fits
 

@@ -1,13 +1,16 @@
 -- Paths of URLs, name by name.
 use Rattle.std.proofs.Common.{◌≡◌, ◌≢◌, ◌≤◌, ◌+◌, ◌++◌, ◌∙◌, ◌↔◌, ◌==◌, ℕ, true, false, List, [], ◌∷◌, Some}
-use Rattle.std.proofs.Common.{None, Option, length, take, drop, map, refl, sym, subst, ap}
+use Rattle.std.proofs.Common.{None, Option, Bool, inl, inr, length, take, drop, map, refl, sym, subst, ap, eqb-true}
 use Rattle.std.specs.Prelude.{codes, flat_map, reverse}
 use Rattle.std.specs.Borrow.{Bor}
-use Rattle.std.proofs.lemmas.Bool.{true≢false}
-use Rattle.std.proofs.lemmas.List.{take_all, reverse-append, reverse-reverse}
+use Rattle.std.specs.List.{list_all}
+use Rattle.std.proofs.lemmas.Bool.{true≢false, and_parts, cases_Bool}
+use Rattle.std.proofs.lemmas.List.{append-nil, append_assoc, take_all, reverse-append, reverse-reverse}
+use Rattle.std.proofs.lemmas.List.Folds.{list_all-append}
+use Rattle.config_file.specs.Key.{is_no_dot}
 use Rattle.config_file.specs.Runs.{Run}
 use Rattle.config_url.specs.Url.{IsNormal, IsPath, is_path_byte, without_root, Leads, ends, stays, drops}
-use Rattle.config_url.specs.Url.{keeps, pieces, joined_names}
+use Rattle.config_url.specs.Url.{keeps, pieces, joined_names, onto}
 use Rattle.config_url.specs.Reading.Urls.{CutsPiece, Steps}
 use Rattle.config_file.proofs.OneRun.{run_only}
 use Rattle.config_url.proofs.UrlNormal.{normal_only}
@@ -85,6 +88,73 @@ names_more kept next name left after path cut steps same all =
 
 abbrev pub Joined : List (Bor (List ℕ)) → List ℕ
 Joined names = flat_map (λ n. 47 ∷ n) (map (λ n. n.now) names)
+
+-- ---- paths without dots
+
+abbrev flat : List (List ℕ) → List ℕ
+flat names = flat_map (λ n. 47 ∷ n) names
+
+flat_onto : (b : ℕ) (names : List (List ℕ)) (text : List ℕ) → flat names ≡ 47 ∷ text
+    → flat (onto b names) ≡ 47 ∷ b ∷ text
+flat_onto b [] text e = cc
+flat_onto b (name ∷ names) text e = ap (λ t. 47 ∷ b ∷ t) (ap (drop 1) e)
+
+flat_pieces : (text : List ℕ) → flat (pieces 47 (text ++ 47 ∷ [])) ≡ 47 ∷ text
+unfolding pieces
+flat_pieces [] = refl
+flat_pieces (b ∷ text) = elim (cases_Bool (b == 47)) [
+  | inl h ↦ rw (h, flat_pieces text) (ap (λ c. 47 ∷ c ∷ text) (sym (eqb-true b 47 h)))
+  | inr h ↦ rw h (flat_onto b (pieces 47 (text ++ 47 ∷ [])) text (flat_pieces text))
+]
+
+joined_is : (names : List (List ℕ)) (text : List ℕ) → flat names ≡ 47 ∷ text → joined_names names ≡ 47 ∷ text
+joined_is [] text e = cc
+joined_is (name ∷ names) text e = e
+
+onto_pass : (test : ℕ → Bool) (b : ℕ) (names : List (List ℕ)) → test b ≡ true → list_all (list_all test) names ≡ true
+    → list_all (list_all test) (onto b names) ≡ true
+onto_pass test b [] here pass = rw here refl
+onto_pass test b (name ∷ names) here pass =
+    let (first, more) = and_parts (list_all test name) (list_all (list_all test) names) pass in rw (here, first, more) refl
+
+pieces_pass : (test : ℕ → Bool) (s : ℕ) (text : List ℕ) → list_all test text ≡ true
+    → list_all (list_all test) (pieces s text) ≡ true
+unfolding pieces
+pieces_pass test s [] pass = refl
+pieces_pass test s (b ∷ text) pass =
+    let (here, more) = and_parts (test b) (list_all test text) pass in elim (cases_Bool (b == s)) [
+      | inl h ↦ rw h (pieces_pass test s text more)
+      | inr h ↦ rw h (onto_pass test b (pieces s text) here (pieces_pass test s text more))
+    ]
+
+no_dot_here : (name : List ℕ) → list_all is_no_dot name ≡ true → name ≢ codes "."
+no_dot_here name pass e = true≢false (sym pass ∙ ap (list_all is_no_dot) e)
+
+no_dot_up : (name : List ℕ) → list_all is_no_dot name ≡ true → name ≢ codes ".."
+no_dot_up name pass e = true≢false (sym pass ∙ ap (list_all is_no_dot) e)
+
+all_kept : (kept names : List (List ℕ)) → list_all (list_all is_no_dot) names ≡ true → Leads kept names (kept ++ names)
+all_kept kept [] pass = rw (append-nil kept) ends
+all_kept kept (name ∷ names) pass =
+    let (here, more) = and_parts (list_all is_no_dot name) (list_all (list_all is_no_dot) names) pass in
+    keeps (no_dot_here name here) (no_dot_up name here)
+    (rw (append_assoc kept (name ∷ []) names) at (all_kept (kept ++ name ∷ []) names more))
+
+-- a path that begins with a slash and has no dot is in normal form
+pub plain_path : {text normal names query : List ℕ} → IsNormal text normal → Run is_path_byte normal names query
+    → (rest : List ℕ) × (names ≡ 47 ∷ rest) × (list_all is_no_dot rest ≡ true) → IsPath text normal
+plain_path {names = names} {query = query} is cut (rest, e, pass) =
+    let closed : list_all is_no_dot (rest ++ 47 ∷ []) ≡ true = rw (list_all-append is_no_dot rest (47 ∷ []), pass) refl in
+    record {
+      normal = _;
+      names = names;
+      query = query;
+      kept = pieces 47 (rest ++ 47 ∷ []);
+      is_normal = is;
+      is_cut = cut;
+      leads = rw e (all_kept [] (pieces 47 (rest ++ 47 ∷ [])) (pieces_pass is_no_dot 47 (rest ++ 47 ∷ []) closed));
+      joined = cut.joined ∙ ap (λ t. t ++ query) (e ∙ sym (joined_is (pieces 47 (rest ++ 47 ∷ [])) rest (flat_pieces rest)));
+    }
 
 -- ---- one path
 

@@ -3,14 +3,14 @@
 #![tactic(auto)]
 
 ghost use Rattle.std.specs.Prelude.{◌≡◌, ◌↔◌, ◌++◌, ◌∷◌, [], ℕ, List, Option, Some, true, IsTrue};
-ghost use Rattle.std.specs.Prelude.{MatchOption, IfOk};
+ghost use Rattle.std.specs.Prelude.{MatchOption, IfOk, IfSome, None};
 ghost use Rattle.std.specs.Prelude.{map, option_map, option_copied, unwrap_or, codes, false};
 ghost use Rattle.std.specs.Char.{to_ascii_lowercase, is_ascii_digit};
 ghost use Rattle.std.specs.List.{list_all};
-ghost use Rattle.config_url.specs.Deciding.{Fits, LacksFit, IsClosest};
+ghost use Rattle.config_url.specs.Deciding.{Fits, IsUnder, LacksFit, IsClosest};
 ghost use Rattle.config_file.specs.KeyView.{key_of};
 ghost use Rattle.config_file.specs.Listing.{IsListed};
-ghost use Rattle.config_url.specs.Reading.Fits.{TakesNext};
+ghost use Rattle.config_url.specs.Reading.Fits.{FitsBy, TakesNext};
 ghost use Rattle.config_file.specs.Settings.{AreListed};
 ghost use Rattle.config_url.specs.Url as spec;
 ghost use Rattle.config_url.specs.Url.{IsUrl, IsForm, IsUser, Matches, AllowsUser, closed, slash, IsCloser};
@@ -28,7 +28,7 @@ use crate::normal::normal;
 use crate::parts::{SplitUrl, read_parts};
 use crate::path::path_of;
 use crate::pieces::cut_piece;
-use config_file::bytes::{after_byte, split};
+use config_file::bytes::{Class, after_byte, run, split};
 use config_file::entry::{Entry, push_lower};
 use config_file::key::Key;
 use config_file::settings::{Setting, Settings};
@@ -308,6 +308,37 @@ impl Fit {
     }
 }
 
+/// The subsection of an entry of this section and this name, if no byte of it is escaped.
+fn plain_pattern<'a>(entry: &Entry<'a>, key: &Key<'_>) -> Option<&'a [u8]>
+    ensures { (text : List ℕ) → IsListed (entry_of entry.now).section (entry_of entry.now).key text
+        → (key_of key.now).subsection ≡ None
+        → IfSome result (λ pattern. IsUnder (key_of key.now) (entry_of entry.now) (Some pattern.now)) }
+{
+    let section = entry.section?;
+    let subsection = section.subsection?;
+    if !section.has_name(key.section()) || !entry.has_key(key.name()) {
+        return None;
+    }
+    let (pattern, escaped) = run(subsection.raw, Class::Unescaped);
+    if escaped.is_empty() {
+        Some(pattern)
+    } else {
+        None
+    }
+}
+
+/// How closely this pattern fits a URL, or `None` if it is none or does not match it.
+fn fit_of_pattern(alloc: Global, pattern: &[u8], url: &Url) -> Result<Option<Fit>, AllocError>
+    ensures { IfOk result (λ found. MatchOption found
+        ((p : spec.Url) → IsUrl true pattern.now p → ¬ (Matches p (url_of url.now)))
+        (λ fit. FitsBy pattern.now (url_of url.now) (fit_in fit))) }
+{
+    match Url::read(alloc, pattern, true)? {
+        Some(pattern) => Ok(pattern.fit(url)),
+        None => Ok(None),
+    }
+}
+
 /// How closely an entry fits a URL, or `None` if it has another key or its pattern does not match.
 fn fit_of(
     alloc: Global,
@@ -325,6 +356,9 @@ fn fit_of(
     if key.subsection().is_some() {
         return Ok(None);
     }
+    if let Some(pattern) = plain_pattern(entry, key) {
+        return fit_of_pattern(alloc, pattern, url);
+    }
     let text = entry.key_text(alloc)?;
     let Some(of_entry) = Key::split(&text) else {
         return Ok(None);
@@ -335,17 +369,40 @@ fn fit_of(
     if !of_entry.name().eq_ignore_ascii_case(key.name()) {
         return Ok(None);
     }
-    let Some(pattern) = of_entry.subsection() else {
-        return Ok(Some(Fit {
+    match of_entry.subsection() {
+        Some(pattern) => fit_of_pattern(alloc, pattern, url),
+        None => Ok(Some(Fit {
             host: 0,
             path: 0,
             has_user: false,
-        }));
-    };
-    match Url::read(alloc, pattern, true)? {
-        Some(pattern) => Ok(pattern.fit(url)),
-        None => Ok(None),
+        })),
     }
+}
+
+/// Whether an entry is of a URL: it has the section and the name of the key, and no subsection, or as one a pattern
+/// that matches the URL. [`last_for_url`] chooses among such. It fails only if memory is refused.
+///
+/// ```rust
+/// use config_file::{Entries, Key};
+/// use config_url::{Url, is_of_url};
+///
+/// let text = b"[http \"https://*.example.com\"]\n\tproxy = b";
+/// let entry = Entries::new(text).next().expect(&rt, "an entry").expect(&rt, "no error");
+/// let key = Key::parse(b"http.proxy").expect(&rt, "a key");
+/// let url = Url::parse(alloc, b"https://git.example.com/x.git")?.expect(&rt, "a URL");
+/// assert!(rt; is_of_url(alloc, &entry, &key, &url)?);
+/// ```
+pub fn is_of_url(
+    alloc: Global,
+    entry: &Entry<'_>,
+    key: &Key<'_>,
+    url: &Url,
+) -> Result<bool, AllocError>
+    ensures { (text : List ℕ) → IsListed (entry_of entry.now).section (entry_of entry.now).key text
+        → IfOk result (λ is. IsTrue is
+        ↔ ((f : spec.Fit) × Fits (key_of key.now) (url_of url.now) (entry_of entry.now) f)) }
+{
+    Ok(fit_of(alloc, entry, key, url)?.is_some())
 }
 
 /// The setting that decides for a URL, as `git config --get-urlmatch` finds it, or `None` if no setting of

@@ -1,8 +1,9 @@
 //! Paths of URLs, without the names `.` and `..`.
 
 ghost use Rattle.std.specs.Prelude.{◌≡◌, ◌≤◌, ◌∷◌, ◌++◌, [], ℕ, List, length, map, ◌↔◌};
-ghost use Rattle.std.specs.Prelude.{MatchOption, IfOk, OnOk, IsTrue, codes};
-ghost use Rattle.std.specs.List.{prefix_len};
+ghost use Rattle.std.specs.Prelude.{MatchOption, IfOk, OnOk, IsTrue, codes, true};
+ghost use Rattle.std.specs.List.{list_all, prefix_len};
+ghost use Rattle.config_file.specs.Key.{is_no_dot};
 ghost use Rattle.config_url.specs.Url as spec;
 ghost use Rattle.config_url.specs.Url.{IsPath, Leads, pieces, joined_names, slash};
 ghost use Rattle.config_url.specs.Reading.Urls.{Steps};
@@ -105,6 +106,23 @@ fn without_root(path: &[u8]) -> &[u8]
     }
 }
 
+fn has_no_dot(text: &[u8]) -> bool
+    ensures { result ≡ list_all is_no_dot text.now }
+{
+    text.iter().all(|byte| *byte != b'.')
+}
+
+/// Whether a path begins with a slash and has no `.`, so that no name stands for another place.
+fn is_plain(path: &[u8]) -> bool
+    ensures { IsTrue result
+        → (rest : List ℕ) × (path.now ≡ slash ∷ rest) × (list_all is_no_dot rest ≡ true) }
+{
+    match path {
+        [b'/', rest @ ..] => has_no_dot(rest),
+        _ => false,
+    }
+}
+
 /// The path, the query and the fragment in normal form, or `None` if an escape is none, or a `..` has no name
 /// before it.
 pub(crate) fn path_of(alloc: Global, text: &[u8]) -> Result<Option<Vec<u8>>, AllocError>
@@ -114,7 +132,11 @@ pub(crate) fn path_of(alloc: Global, text: &[u8]) -> Result<Option<Vec<u8>>, All
     let Some(text) = normal(alloc, text)? else {
         return Ok(None);
     };
-    let (names, query) = text.split_at(path_length(&text));
+    let length = path_length(&text);
+    if is_plain(&text[..length]) {
+        return Ok(Some(text));
+    }
+    let (names, query) = text.split_at(length);
     let Some(kept) = kept_names(alloc, without_root(names))? else {
         return Ok(None);
     };

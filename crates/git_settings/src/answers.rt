@@ -9,7 +9,7 @@ use config_file::{Key, Setting, Settings};
 use config_host::HostError;
 use config_host::environment::variable;
 use config_host::terminal::When;
-use config_url::{Url, last_for_url};
+use config_url::{Url, is_of_url, last_for_url};
 use gix_config_value::canonical::{Kind, TryRead};
 use gix_config_value::{Boolean, Color};
 use std::alloc::{AllocError, Global};
@@ -86,16 +86,13 @@ impl<'r, 't> ForUrl<'r, 't> {
         }
     }
 
-    /// The setting, if it is of the URL.
-    pub fn of_url(
-        &mut self,
-        alloc: Global,
-        setting: Setting<'t>,
-    ) -> Result<Option<Setting<'t>>, AllocError> {
-        self.add(setting)?;
-        let is_of_url = self.decided(alloc)?.is_some();
-        let setting = self.group.entries.pop();
-        Ok(if is_of_url { setting } else { None })
+    /// Whether a setting is of the URL.
+    pub fn has(&mut self, alloc: Global, setting: &Setting<'t>) -> Result<bool, AllocError> {
+        put_key(&mut self.key, self.section, setting.entry.key)?;
+        match Key::parse(&self.key) {
+            Ok(key) => is_of_url(alloc, &setting.entry, &key, &self.url),
+            Err(_) => Ok(false),
+        }
     }
 }
 

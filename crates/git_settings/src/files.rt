@@ -65,13 +65,12 @@ pub struct Collector<'r, 't> {
 impl<'t> Collector<'_, 't> {
     /// Keeps a setting, if it is of the URL that is asked for.
     fn keep(&mut self, setting: Setting<'t>) -> io::Result<()> {
-        let Some(wanted) = &mut self.for_url else {
-            return Ok(self.settings.push(setting)?);
-        };
-        match wanted.of_url(self.values.host.0.alloc(), setting)? {
-            Some(setting) => Ok(self.settings.push(setting)?),
-            None => Ok(()),
+        if let Some(wanted) = &mut self.for_url {
+            if !wanted.has(self.values.host.0.alloc(), &setting)? {
+                return Ok(());
+            }
         }
+        Ok(self.settings.push(setting)?)
     }
 
     /// Appends a setting, as it is listed under this key.

@@ -1,8 +1,8 @@
--- The headline: what the readers and normalizers promise of one text. The grammars are parameters of
--- `Headline`, so of the library it names only the number `longest_text`.
+-- The headline: what the readers and normalizers promise of one text. `Headline` names no definition of the
+-- library, since the grammars are its parameters.
 use Rattle.std.specs.Prelude.{◌≡◌, ◌≤◌, ◌↔◌, ◌⊎◌, ℕ, List, length, Option, None, Some}
 use Rattle.config_color.specs.declared.color.Color.{Color}
-use Rattle.gix_config_value.specs.Value.{IsRefused, longest_text}
+use Rattle.gix_config_value.specs.Value.{IsRefused}
 use Rattle.gix_config_value.specs.Color.{ColorText}
 use Rattle.gix_config_value.specs.Composition.{Joined, HaveTooManyNames}
 
@@ -14,7 +14,7 @@ pub record Headline {V : Type 0} (grammar : List ℕ → V → Type 0) (canonica
   pub accepted : (v : V) → (value ≡ Some v) ↔ (grammar text v)
   pub only_text : (s : List ℕ) → (normalized ≡ Some s)
       ↔ (canonical s × (v : V) × grammar text v × grammar s v)
-  pub at_most : (s : List ℕ) → normalized ≡ Some s → length s ≤ longest_text
+  pub at_most : (s : List ℕ) → normalized ≡ Some s → length s ≤ 127
   pub same : (other s : List ℕ) (w : V) → grammar other w → canonical s → grammar s w
       → (value ≡ Some w) ↔ (normalized ≡ Some s)
 

@@ -1,6 +1,6 @@
 //! The headline of the library, stated once for each kind: which texts are read, with which value, and its
 //! one canonical text. `Headline` of specs/Headline.antt states it with no words of the library except the
-//! grammars and `longest_text`.
+//! grammars.
 ghost use Rattle.std.specs.Prelude.{◌≡◌, ◌++◌, ℕ, List, option_map};
 ghost use Rattle.bstr.specs.BStr.{bstr_bytes};
 ghost use Rattle.gix_config_value.specs.Suffix.{SuffixText, CanonicalSuffix};

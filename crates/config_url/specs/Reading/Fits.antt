@@ -1,12 +1,16 @@
 -- The closest of settings, found one after the other.
-use Rattle.std.specs.Prelude.{◌≡◌, List, [], ◌∷◌, ◌++◌, ℕ, Option, MatchOption, Result, IfOk}
+use Rattle.std.specs.Prelude.{true, ◌≡◌, List, [], ◌∷◌, ◌++◌, ℕ, Option, MatchOption, Result, IfOk}
 use Rattle.std.specs.Borrow.{Bor}
 use Rattle.config_url.specs.Deciding.{Fits, LacksFit, IsClosest}
 use Rattle.config_file.specs.Key.{Key}
 use Rattle.config_file.specs.Listing.{IsListed}
-use Rattle.config_url.specs.Url.{Url, Fit}
+use Rattle.config_url.specs.Url.{Url, Fit, IsUrl, Matches, fit_of}
 use Rattle.config_file.specs.Views.{entry_of}
 use Rattle.config_file.specs.declared.settings.Setting.{Setting}
+
+-- the text is a pattern that matches the URL, and this is how closely it fits
+abbrev pub FitsBy : List ℕ → Url → Fit → Type 0
+FitsBy text u f = (pattern : Url) × IsUrl true text pattern × Matches pattern u × (f ≡ fit_of pattern)
 
 -- the closest of the settings so far, if any fits
 pub record Best (key : Key) (u : Url) (settings : List Setting) (f : Fit) (setting : Setting) : Type 0 where
