@@ -119,6 +119,7 @@ impl TryRead for Boolean {
     ghost refusal = { OnlyFault faults.Boolean };
 
     /// Reads the text, or returns `Fault::Boolean` if it is not a boolean text.
+    #[inline(always)]
     fn try_read(text: &[u8]) -> Result<Boolean, Fault> {
         boolean_of(text).ok_or(Fault::Boolean)
     }

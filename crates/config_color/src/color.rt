@@ -335,6 +335,7 @@ impl TryRead for Color {
     ghost refusal = { OnlyFault faults.Color };
 
     /// Reads the text, or returns `Fault::Color` if it is not a color text.
+    #[inline(always)]
     fn try_read(text: &[u8]) -> Result<Color, Fault> {
         color_of(text).ok_or(Fault::Color)
     }
