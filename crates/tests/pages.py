@@ -177,8 +177,10 @@ def bodies():
 
 
 def lengths():
-    known = spec("config_text", "Value", "longest_text").split()[-1]
-    yield "the longest text", known, sentence("Colors", r"longest has (\d+) bytes")
+    told = sentence("Colors", r"longest has (\d+) bytes")
+    yield "the longest text", spec("config_text", "Value", "longest_text").split()[-1], told
+    headline = re.findall(r"length s ≤ (\d+)", spec("uses", "Headline", "Headline"))
+    yield "the longest text of the headline", headline, [told]
     law = (reference.CRATES / "config_color/src/laws/colors.rt").read_text("utf-8")
     known = re.search(r"LONGEST_ESCAPE ≡ (\d+)", law)[1]
     yield "the longest sequence", known, sentence("Escape sequences", r"longest has (\d+) bytes")
