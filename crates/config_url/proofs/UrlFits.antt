@@ -112,21 +112,22 @@ module _ (key : Key) (u : Url) (entry : Entry) (items : List ℕ) (k : Key) (onl
     pattern_fits_ok view (Err e) sub has by = tt
 
 -- a pattern below the key decides
-pub under_fits : {V E : Type 0} (view : V → Fit) (u : Url) (r : Result (Option V) E) {key : Key} {entry : Entry}
-    {sub : List ℕ} → IsUnder key entry (Some sub) → IfOk r (FitsPattern view sub u)
+pub under_fits : {V E : Type 0} (view : V → Fit) (u : Url) (r : Result (Option V) E) {key : Key}
+    {entry : Entry} {sub : List ℕ} → IsUnder key entry (Some sub) → IfOk r (FitsPattern view sub u)
     → IfOk r (DecidesBy view key u entry)
 under_fits view u r {key = key} {entry = entry} {sub = sub} under =
-    pattern_fits_ok key u entry under.text under.parts (λ listed is. listed_only under.is_listed is) under.is_cut
-    under.text under.is_listed under.same_section under.same_name under.alone view r sub under.has_subsection
+    pattern_fits_ok key u entry under.text under.parts (λ listed is. listed_only under.is_listed is)
+    under.is_cut under.text under.is_listed under.same_section under.same_name under.alone view r sub under.has_subsection
 
-pub fits_by : {V : Type 0} (view : V → Fit) (u : Url) (r : Option V) {text : List ℕ} {p : Url} → IsUrl true text p
+pub fits_by : {V : Type 0} (view : V → Fit) (u : Url) (r : Option V) {text : List ℕ} {p : Url}
+    → IsUrl true text p
     → MatchOption r (¬ (Matches p u)) (λ v. Matches p u × (view v ≡ fit_of p))
     → FitsPattern view text u r
 fits_by view u None {p = p} is not = λ q other match. not (rw (url_only q p other is) at match)
 fits_by view u (Some v) {p = p} is (match, e) = (p, is, match, e)
 
-pub is_found : {V : Type 0} (view : V → Fit) (found : Option V) (r : Bool) {key : Key} {u : Url} {entry : Entry}
-    → r ≡ is_some found → DecidesBy view key u entry found → IsTrue r ↔ ((f : Fit) × Fits key u entry f)
+pub is_found : {V : Type 0} (view : V → Fit) (found : Option V) (r : Bool) {key : Key} {u : Url}
+    {entry : Entry} → r ≡ is_some found → DecidesBy view key u entry found → IsTrue r ↔ ((f : Fit) × Fits key u entry f)
 is_found view None r e never = rw e (λ yes. absurd (true≢false (sym yes)), λ is. absurd (never is.0 is.1))
 is_found view (Some v) r e (is, only) = rw e (λ yes. (view v, is), λ is. refl)
 

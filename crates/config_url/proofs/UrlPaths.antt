@@ -1,6 +1,7 @@
 -- Paths of URLs, name by name.
 use Rattle.std.proofs.Common.{◌≡◌, ◌≢◌, ◌≤◌, ◌+◌, ◌++◌, ◌∙◌, ◌↔◌, ◌==◌, ℕ, true, false, List, [], ◌∷◌, Some}
-use Rattle.std.proofs.Common.{None, Option, Bool, inl, inr, length, take, drop, map, refl, sym, subst, ap, eqb-true}
+use Rattle.std.proofs.Common.{None, Option, Bool, inl, inr, length, take, drop, map, refl, sym, subst, ap}
+use Rattle.std.proofs.Common.{eqb-true}
 use Rattle.std.specs.Prelude.{codes, flat_map, reverse}
 use Rattle.std.specs.Borrow.{Bor}
 use Rattle.std.specs.List.{list_all}
@@ -111,11 +112,12 @@ joined_is : (names : List (List ℕ)) (text : List ℕ) → flat names ≡ 47 �
 joined_is [] text e = cc
 joined_is (name ∷ names) text e = e
 
-onto_pass : (test : ℕ → Bool) (b : ℕ) (names : List (List ℕ)) → test b ≡ true → list_all (list_all test) names ≡ true
-    → list_all (list_all test) (onto b names) ≡ true
+onto_pass : (test : ℕ → Bool) (b : ℕ) (names : List (List ℕ)) → test b ≡ true
+    → list_all (list_all test) names ≡ true → list_all (list_all test) (onto b names) ≡ true
 onto_pass test b [] here pass = rw here refl
 onto_pass test b (name ∷ names) here pass =
-    let (first, more) = and_parts (list_all test name) (list_all (list_all test) names) pass in rw (here, first, more) refl
+    let (first, more) = and_parts (list_all test name) (list_all (list_all test) names) pass in
+    rw (here, first, more) refl
 
 pieces_pass : (test : ℕ → Bool) (s : ℕ) (text : List ℕ) → list_all test text ≡ true
     → list_all (list_all test) (pieces s text) ≡ true
@@ -133,7 +135,8 @@ no_dot_here name pass e = true≢false (sym pass ∙ ap (list_all is_no_dot) e)
 no_dot_up : (name : List ℕ) → list_all is_no_dot name ≡ true → name ≢ codes ".."
 no_dot_up name pass e = true≢false (sym pass ∙ ap (list_all is_no_dot) e)
 
-all_kept : (kept names : List (List ℕ)) → list_all (list_all is_no_dot) names ≡ true → Leads kept names (kept ++ names)
+all_kept : (kept names : List (List ℕ)) → list_all (list_all is_no_dot) names ≡ true
+    → Leads kept names (kept ++ names)
 all_kept kept [] pass = rw (append-nil kept) ends
 all_kept kept (name ∷ names) pass =
     let (here, more) = and_parts (list_all is_no_dot name) (list_all (list_all is_no_dot) names) pass in
@@ -141,10 +144,11 @@ all_kept kept (name ∷ names) pass =
     (rw (append_assoc kept (name ∷ []) names) at (all_kept (kept ++ name ∷ []) names more))
 
 -- a path that begins with a slash and has no dot is in normal form
-pub plain_path : {text normal names query : List ℕ} → IsNormal text normal → Run is_path_byte normal names query
-    → (rest : List ℕ) × (names ≡ 47 ∷ rest) × (list_all is_no_dot rest ≡ true) → IsPath text normal
+pub plain_path : {text normal names query : List ℕ} → IsNormal text normal
+    → Run is_path_byte normal names query → (rest : List ℕ) × (names ≡ 47 ∷ rest) × (list_all is_no_dot rest ≡ true) → IsPath text normal
 plain_path {names = names} {query = query} is cut (rest, e, pass) =
-    let closed : list_all is_no_dot (rest ++ 47 ∷ []) ≡ true = rw (list_all-append is_no_dot rest (47 ∷ []), pass) refl in
+    let closed : list_all is_no_dot (rest ++ 47 ∷ []) ≡ true =
+    rw (list_all-append is_no_dot rest (47 ∷ []), pass) refl in
     record {
       normal = _;
       names = names;
@@ -152,8 +156,10 @@ plain_path {names = names} {query = query} is cut (rest, e, pass) =
       kept = pieces 47 (rest ++ 47 ∷ []);
       is_normal = is;
       is_cut = cut;
-      leads = rw e (all_kept [] (pieces 47 (rest ++ 47 ∷ [])) (pieces_pass is_no_dot 47 (rest ++ 47 ∷ []) closed));
-      joined = cut.joined ∙ ap (λ t. t ++ query) (e ∙ sym (joined_is (pieces 47 (rest ++ 47 ∷ [])) rest (flat_pieces rest)));
+      leads = rw e (all_kept [] (pieces 47 (rest ++ 47 ∷ []))
+          (pieces_pass is_no_dot 47 (rest ++ 47 ∷ []) closed));
+      joined = cut.joined
+          ∙ ap (λ t. t ++ query) (e ∙ sym (joined_is (pieces 47 (rest ++ 47 ∷ [])) rest (flat_pieces rest)));
     }
 
 -- ---- one path

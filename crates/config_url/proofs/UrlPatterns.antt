@@ -1,5 +1,5 @@
 -- Subsections of entries that are patterns: each entry is listed in one way, and below which subsection.
-use Rattle.std.proofs.Common.{◌≡◌, ◌≢◌, ◌++◌, ◌∙◌, ℕ, true, false, List, [], ◌∷◌, Some, None, Option, map, ◌==◌}
+use Rattle.std.proofs.Common.{◌≡◌, ◌++◌, ◌∙◌, ℕ, true, List, [], ◌∷◌, Some, None, Option, map, ◌==◌}
 use Rattle.std.proofs.Common.{refl, sym, subst, ap, arith, append-nil, append_assoc}
 use Rattle.std.specs.Char.{to_ascii_lowercase}
 use Rattle.std.specs.List.{list_all}
@@ -30,11 +30,15 @@ spelled_only : {raw a b : List ℕ} → SpellsSubsection raw a → SpellsSubsect
 spelled_only subsections.ends subsections.ends = refl
 spelled_only (subsections.escaped {e = e} is text s) (subsections.escaped again same t) =
     ap (λ more. e ∷ more) (spelled_only s t)
-spelled_only (subsections.escaped {b = b} is text s) (subsections.plain other t) = absurd (no_backslash b is other)
-spelled_only (subsections.plain {b = b} is s) (subsections.escaped other text t) = absurd (no_backslash b other is)
-spelled_only (subsections.plain {b = b} is s) (subsections.plain again t) = ap (λ more. b ∷ more) (spelled_only s t)
+spelled_only (subsections.escaped {b = b} is text s) (subsections.plain other t) =
+    absurd (no_backslash b is other)
+spelled_only (subsections.plain {b = b} is s) (subsections.escaped other text t) =
+    absurd (no_backslash b other is)
+spelled_only (subsections.plain {b = b} is s) (subsections.plain again t) =
+    ap (λ more. b ∷ more) (spelled_only s t)
 
-section_only : {section : Section} {a b : List ℕ} → IsListedSection section a → IsListedSection section b → a ≡ b
+section_only : {section : Section} {a b : List ℕ} → IsListedSection section a → IsListedSection section b
+    → a ≡ b
 section_only plain plain = refl
 section_only (quoted {name = name} s) (quoted t) =
     ap (λ spelled. (lower name ++ 46 ∷ []) ++ (spelled ++ 46 ∷ [])) (spelled_only s t)
@@ -82,20 +86,21 @@ quoted_as (in_section (quoted {spelled = spelled} s)) e =
 -- the pattern is below the section and the name of the key, if no byte of it is escaped
 pub under_pattern : (k : Key) (entry : Entry) {text name raw pattern rest : List ℕ}
     → IsListed entry.section entry.key text → entry.section ≡ Some (name, Some raw)
-    → Run is_unescaped raw pattern rest → rest ≡ [] → lower name ≡ lower k.section → lower entry.key ≡ lower k.name
-    → list_all is_no_dot k.section ≡ true → list_all is_no_dot k.name ≡ true → k.subsection ≡ None
-    → IsUnder k entry (Some pattern)
-under_pattern k entry {text = text} {name = name} {raw = raw} {pattern = pattern} listed is run none section own no_dots no_dots_in no_subsection =
+    → Run is_unescaped raw pattern rest → rest ≡ [] → lower name ≡ lower k.section
+    → lower entry.key ≡ lower k.name → list_all is_no_dot k.section ≡ true → list_all is_no_dot k.name ≡ true
+    → k.subsection ≡ None → IsUnder k entry (Some pattern)
+under_pattern k entry {text = text} {name = name} {pattern = pattern} listed is run none same own no_dot no_dot_in
+    no_subsection =
     let (spelled, spells, e) = quoted_as listed is in record {
       text = text;
       parts = key (lower name) (Some pattern) (lower entry.key);
       is_listed = listed;
       is_cut = record {
         joined = e ∙ rw (spells_itself run none spells) (simp append_assoc);
-        section = rw (sym section) at (lower_no_dots k.section no_dots);
-        name = rw (sym own) at (lower_no_dots k.name no_dots_in);
+        section = rw (sym same) at (lower_no_dots k.section no_dot);
+        name = rw (sym own) at (lower_no_dots k.name no_dot_in);
       };
-      same_section = lower_twice name ∙ section;
+      same_section = lower_twice name ∙ same;
       same_name = lower_twice entry.key ∙ own;
       has_subsection = refl;
       alone = no_subsection;

@@ -379,8 +379,8 @@ fn fit_of(
     }
 }
 
-/// Whether an entry is of a URL: it has the section and the name of the key, and no subsection, or as one a pattern
-/// that matches the URL. [`last_for_url`] chooses among such. It fails only if memory is refused.
+/// Whether an entry is of a URL: it has the section and the name of the key, and no subsection, or as one a
+/// pattern that matches the URL. [`last_for_url`] chooses among these. It fails only if memory is refused.
 ///
 /// ```rust
 /// use config_file::{Entries, Key};

@@ -7,7 +7,8 @@ use Rattle.config_url.proofs.fit_of.Goals as goal
 
 pub returns-in-Some : goal.returns-in-Some
 returns-in-Some c = λ text listed.
-    under_fits fit_in (url_of c.args.url.now) c.fit_of_pattern.result (c.in-Some.ensures text listed (search rules)) c.fit_of_pattern.ensures
+    under_fits fit_in (url_of c.args.url.now) c.fit_of_pattern.result
+    (c.in-Some.ensures text listed (search rules)) c.fit_of_pattern.ensures
 
 pub returns-then-not-eq_ignore_ascii_case : goal.returns-then-not-eq_ignore_ascii_case
 returns-then-not-eq_ignore_ascii_case c text listed =
