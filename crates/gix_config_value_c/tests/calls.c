@@ -118,11 +118,11 @@ static void shown_sets(void)
     gcv_color beside = {{GCV_NO_NAME, 0, 0, 0, 0}, {GCV_BLUE, 0, 0, 0, 0}, GCV_BOLD};
     count(writes(buffer_area, show_color, &beside, "blue bold", 9), "a background alone is shown");
     /* all bits are shown as the words of each, with one space between */
-    char word[GCV_LONGEST_TEXT], words[GCV_LONGEST_TEXT + 1];
+    char one[GCV_LONGEST_TEXT], words[GCV_LONGEST_TEXT + 1];
     size_t size, length = 0;
     for (uint32_t bit = 1; bit; bit <<= 1) {
-        count(gcv_show_attribute(bit, word, sizeof word, &size) == GCV_OK, "one bit");
-        length += size ? (size_t)sprintf(words + length, "%s%.*s", length ? " " : "", (int)size, word) : 0;
+        count(gcv_show_attribute(bit, one, sizeof one, &size) == GCV_OK, "one bit");
+        length += size ? (size_t)sprintf(words + length, "%s%.*s", length ? " " : "", (int)size, one) : 0;
     }
     uint32_t all = UINT32_MAX;
     count(length > strlen("bold nobold") && writes(buffer_area, show_attribute, &all, words, length), "all bits");
