@@ -96,7 +96,7 @@ def attributes():
     table = grammar.attributes()
     yield "attributes", known, [[name, str(bit), *texts, *opposite_bit(name, table)] for name, (bit, texts) in table.items()]
     facts = (reference.CRATES / "config_word/proofs/StandardFacts.antt").read_text("utf-8")
-    examples_of = [[name, word] for name, word in re.findall(r'\((\w+), 0x\w+, codes "(\w+)"\)', facts)]
+    examples_of = [[name, word] for name, word in re.findall(r'\((\w+), 0x\w+, codes "(\w+)",', facts)]
     yield "attributes in examples", examples_of, [[name, texts[0]] for name, (_, texts) in table.items()]
 
 

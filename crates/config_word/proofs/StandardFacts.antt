@@ -15,6 +15,7 @@ use Rattle.config_word.specs.declared.name.Name.TheVariants.{BrightWhite, Ansi, 
 use Rattle.config_word.specs.Attribute.{AttributeText, attributes, attribute_shown}
 use Rattle.config_word.specs.Item.{ItemText}
 use Rattle.config_word.specs.Name.{NameText, name_shown}
+use Rattle.config_word.specs.Reading.Attribute.{opposite_rows}
 use Rattle.config_word.specs.Laws.Item.{item-law, name-law, attribute-law}
 use Rattle.config_word.proofs.OnLiterals.{item_on_literals}
 use Rattle.config_text.proofs.OnLiterals.{AreRead, AreRefused, all_read, all_refused}
@@ -117,24 +118,25 @@ pub attributes_unset_are_read : AreRead AttributeText attributes_unset
 unfolding item_on_literals
 attributes_unset_are_read = all_read attribute-law attributes_unset refl
 
--- not on that page: the bit of each attribute, and the word that it is shown as, are those of the Rust crate
-abbrev constants : List (Attribute × ℕ × List ℕ)
+-- not on that page: the bit of each attribute, and the word that it is shown as, are those of the Rust crate; the
+-- last part is its opposite, or no attribute if it has none
+abbrev constants : List (Attribute × ℕ × List ℕ × Attribute)
 constants =
-    (BOLD, 0x2, codes "bold")
-    ∷ (DIM, 0x4, codes "dim")
-    ∷ (ITALIC, 0x8, codes "italic")
-    ∷ (UL, 0x10, codes "ul")
-    ∷ (BLINK, 0x20, codes "blink")
-    ∷ (REVERSE, 0x40, codes "reverse")
-    ∷ (STRIKE, 0x80, codes "strike")
-    ∷ (RESET, 0x100, codes "reset")
-    ∷ (NO_DIM, 0x200000, codes "nodim")
-    ∷ (NO_BOLD, 0x400000, codes "nobold")
-    ∷ (NO_ITALIC, 0x800000, codes "noitalic")
-    ∷ (NO_UL, 0x1000000, codes "noul")
-    ∷ (NO_BLINK, 0x2000000, codes "noblink")
-    ∷ (NO_REVERSE, 0x4000000, codes "noreverse")
-    ∷ (NO_STRIKE, 0x8000000, codes "nostrike")
+    (BOLD, 0x2, codes "bold", NO_BOLD)
+    ∷ (DIM, 0x4, codes "dim", NO_DIM)
+    ∷ (ITALIC, 0x8, codes "italic", NO_ITALIC)
+    ∷ (UL, 0x10, codes "ul", NO_UL)
+    ∷ (BLINK, 0x20, codes "blink", NO_BLINK)
+    ∷ (REVERSE, 0x40, codes "reverse", NO_REVERSE)
+    ∷ (STRIKE, 0x80, codes "strike", NO_STRIKE)
+    ∷ (RESET, 0x100, codes "reset", record { 0 = 0 })
+    ∷ (NO_DIM, 0x200000, codes "nodim", DIM)
+    ∷ (NO_BOLD, 0x400000, codes "nobold", BOLD)
+    ∷ (NO_ITALIC, 0x800000, codes "noitalic", ITALIC)
+    ∷ (NO_UL, 0x1000000, codes "noul", UL)
+    ∷ (NO_BLINK, 0x2000000, codes "noblink", BLINK)
+    ∷ (NO_REVERSE, 0x4000000, codes "noreverse", REVERSE)
+    ∷ (NO_STRIKE, 0x8000000, codes "nostrike", STRIKE)
     ∷ []
 
 pub bits_are_kept : map (λ row. row.0.0) constants ≡ map (λ row. row.1) constants
@@ -143,6 +145,10 @@ bits_are_kept = refl
 pub attributes_are_shown : map (λ row. attribute_shown row.0.0) constants ≡ map (λ row. row.2) constants
 unfolding attributes
 attributes_are_shown = refl
+
+pub opposites_are_told : opposite_rows ≡ map (λ row. (row.0.0, row.3.0)) constants
+unfolding attributes
+opposites_are_told = refl
 
 -- "except normal and default"; a number above 255; five digits; a bright attribute; `reset` turned off; the
 -- empty text
