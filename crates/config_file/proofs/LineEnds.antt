@@ -6,6 +6,7 @@ use Rattle.std.proofs.lemmas.List.Sums.{sum_by-cons, sum_by-append}
 use Rattle.std.proofs.lemmas.Bool.{true≢false}
 use Rattle.std.proofs.lemmas.Bool.Decides.{nat_tests}
 use Rattle.config_file.specs.Bytes.{is_comment_byte}
+use Rattle.config_file.specs.Runs.{Run}
 use Rattle.config_file.specs.Value.{Ending, Spells, ends_outside, ends_inside, ends_at_backslash, quote}
 use Rattle.config_file.specs.Value.{escaped, continued, continued_after_return, blank, plain, line_feeds}
 use Rattle.config_file.specs.Spelling.{is_continued, HasLineEnd, EndsLine}
@@ -37,6 +38,14 @@ pub line_feeds_after : {text : List ℕ} (front rest : List ℕ) → text ≡ fr
     → list_all is_comment_byte front ≡ true → line_feeds text ≡ line_feeds rest
 line_feeds_after front rest joined all =
     let e = line_feeds_append front rest in let f = line_feeds_none front all in rw joined (omega arith)
+
+-- the bytes before the first LF have none
+pub line_feeds_next : {text front rest after : List ℕ} (b : ℕ) → Run is_comment_byte text front rest
+    → rest ≡ b ∷ after → line_feeds text ≡ 1 + line_feeds after
+line_feeds_next {front = front} {rest = rest} {after = after} b run is =
+    let stops : is_comment_byte b ≡ false = rw is at run.longest in
+    let feed : b ≡ 10 = grind (arith, nat_tests) in
+    line_feeds_after front rest run.joined run.pass ∙ ap line_feeds is ∙ line_feeds_more b after feed
 
 pub all_more : (p q : ℕ → Bool) → ((b : ℕ) → p b ≡ true → q b ≡ true) → (xs : List ℕ) → list_all p xs ≡ true
     → list_all q xs ≡ true

@@ -2,10 +2,11 @@
 //! part.
 ghost use Rattle.std.specs.Prelude.{◌≡◌, ℕ, ◌+◌, ◌<◌, ◌≤◌, ◌↔◌, List, [], ◌∷◌, ◌++◌, length, MatchOption, IsTrue};
 ghost use Rattle.std.specs.Prelude.{◌==◌};
-ghost use Rattle.std.specs.List.{prefix_len};
+ghost use Rattle.std.specs.List.{list_all, prefix_len};
 ghost use Rattle.config_file.specs.Bytes as spec;
 ghost use Rattle.config_file.specs.Bytes.{IsAtLineEnd};
 ghost use Rattle.config_file.specs.Header.{BeginsWithout};
+ghost use Rattle.config_file.specs.Key.{is_no_dot};
 ghost use Rattle.config_file.specs.Runs.{Run};
 ghost use Rattle.config_file.specs.Value.{line_feeds};
 ghost use Rattle.config_file.specs.Reading.Scans as scans;
@@ -323,12 +324,25 @@ pub fn run(text: &[u8], class: Class) -> (&[u8], &[u8])
     text.split_at(run_length(text, class))
 }
 
+/// Whether a text has no dot.
+pub fn has_no_dot(text: &[u8]) -> bool
+    ensures { result ≡ list_all is_no_dot text.now }
+{
+    text.iter().all(|byte| *byte != b'.')
+}
+
 /// How many LFs a text has.
 pub fn line_feeds(text: &[u8]) -> usize
     ensures count { result ≡ line_feeds text.now }
     ensures within { result ≤ length text.now }
 {
-    text.iter().filter(|byte| **byte == b'\n').count()
+    let mut count = 0;
+    let mut rest = text;
+    'lines: while let Some((_, after)) = split(run(rest, Class::Comment).1) {
+        count += 1;
+        rest = after;
+    }
+    count
 }
 
 /// The part of the text that precedes this rest of it.
