@@ -1,10 +1,11 @@
 //! Which settings are asked for: those of a key, of a pattern of keys or of a section, and with a value that fits.
-ghost use Rattle.std.specs.Prelude.{◌≡◌, ◌↔◌, ℕ, List, IsTrue, IfOk, option_copied};
+ghost use Rattle.std.specs.Prelude.{◌≡◌, ◌↔◌, ℕ, List, IsTrue, IfOk, IfSome, option_copied};
 ghost use Rattle.config_file.specs.Listing.{IsListed};
 ghost use Rattle.config_file.specs.Settings.{path_bytes};
 ghost use Rattle.config_file.specs.Views.{entry_of};
 ghost use Rattle.config_answers.specs.Choices.{choice_of, keys_of, FitsKey, FitsListed, FitsValue, IsWithin};
 
+use config_file::bytes::has_no_dot;
 use config_file::{Entry, Key, Setting};
 use regex::bytes::Matcher;
 use std::alloc::AllocError;
@@ -97,6 +98,25 @@ fn is_within(listed: &[u8], section: &[u8], name: Option<&[u8]>) -> bool
     }
 }
 
+/// Whether an entry is of this section, and has this name if there is one. It is `None` if a dot in its section or
+/// in its name leaves open where its key is cut.
+fn has_ends(entry: &Entry<'_>, section: &[u8], name: Option<&[u8]>) -> Option<bool>
+    ensures { (listed : List ℕ) → IsListed (entry_of entry.now).section (entry_of entry.now).key listed
+        → IfSome result (λ has. IsTrue has ↔ IsWithin section.now (option_copied name.entry) listed) }
+{
+    let own = entry.section?;
+    if !has_no_dot(own.name) || !has_no_dot(entry.key) {
+        return None;
+    }
+    if !own.has_name(section) {
+        return Some(false);
+    }
+    match name {
+        Some(name) => Some(entry.has_key(name)),
+        None => Some(true),
+    }
+}
+
 impl Keys<'_, '_> {
     /// Whether a key that is listed as this is asked for, if its text decides that.
     fn has_listed(&mut self, listed: &[u8]) -> bool
@@ -137,6 +157,12 @@ impl Choice<'_, '_> {
                 // A copy is handed on, so that the entry itself needs no address.
                 let held = *entry;
                 return Ok(key.is_of(&held));
+            }
+            Keys::Within(section, name) => {
+                let held = *entry;
+                if let Some(has) = has_ends(&held, section, *name) {
+                    return Ok(has);
+                }
             }
             _ => {}
         }

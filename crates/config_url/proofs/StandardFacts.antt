@@ -1,8 +1,8 @@
 -- What git-config(1) says about the ports of URLs: "Omitted port numbers are automatically converted to the
 -- correct default for the scheme before matching". A definition with a wrong port fails here.
-use Rattle.std.proofs.Common.{◌≡◌, ◌≢◌, ◌<◌, ℕ, List, [], codes, Some, None, Option, refl, inl, inr, arith}
+use Rattle.std.proofs.Common.{ℕ, codes, Some, None, Option, refl, inl, inr, arith}
 use Prim.Native.String.{String}
-use Rattle.config_url.specs.Url.{IsDefault, IsPort, number_after}
+use Rattle.config_url.specs.Url.{IsPort, number_after}
 
 abbrev IsPortOf : String → String → Option ℕ → Type 0
 IsPortOf scheme digits port = IsPort (codes scheme) (codes digits) port

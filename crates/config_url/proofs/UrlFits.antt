@@ -1,15 +1,15 @@
 -- The settings that are of a URL, and the closest of them.
-use Rattle.std.proofs.Common.{◌≡◌, ◌≤◌, ◌<◌, ◌+◌, ◌++◌, ◌∙◌, ◌⊎◌, inl, inr, ℕ, zero, suc, Bool, true, false}
+use Rattle.std.proofs.Common.{◌≡◌, ◌≤◌, ◌<◌, ◌+◌, ◌++◌, ◌∙◌, ◌⊎◌, inl, inr, ℕ, Bool, true}
 use Rattle.std.proofs.Common.{List, [], ◌∷◌, Some, None, Option, length, take, map}
-use Rattle.std.proofs.Common.{refl, sym, subst, ap, arith, ◌↔◌, IsTrue, MatchOption, Result, Ok, Err, IfOk}
+use Rattle.std.proofs.Common.{refl, sym, ap, arith, ◌↔◌, IsTrue, MatchOption, Result, Ok, Err, IfOk}
 use Rattle.std.specs.Prelude.{is_some}
 use Rattle.std.specs.Borrow.{Bor}
 use Rattle.std.specs.Char.{to_ascii_lowercase}
 use Rattle.std.specs.List.{All, slice_get}
-use Rattle.std.proofs.lemmas.Bool.{false≢true, true≢false, cases_Bool, cases_lt}
+use Rattle.std.proofs.lemmas.Bool.{true≢false}
 use Rattle.std.proofs.lemmas.List.{append_assoc, take_all}
 use Rattle.std.proofs.lemmas.List.Elements.{All-nil, All-cons, All-append, All-push}
-use Rattle.config_url.specs.Deciding.{IsUnder, Fits, LacksFit}
+use Rattle.config_url.specs.Deciding.{IsUnder, Fits}
 use Rattle.config_file.specs.File.{Entry}
 use Rattle.config_file.specs.Key.{Key, IsCut}
 use Rattle.config_file.specs.Listing.{IsListed}

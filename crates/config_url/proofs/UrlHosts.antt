@@ -1,6 +1,6 @@
 -- Labels of hosts, and numbers of ports.
 use Rattle.std.proofs.Common.{◌≡◌, ◌≤◌, ◌+◌, ◌-◌, ◌*◌, ◌∙◌, ◌↔◌, inl, inr, ℕ, Bool, true, false, List, []}
-use Rattle.std.proofs.Common.{◌∷◌, ◌==◌, length, refl, sym, subst, arith, IsTrue, suc}
+use Rattle.std.proofs.Common.{◌∷◌, ◌==◌, length, refl, sym, arith, IsTrue, suc}
 use Rattle.std.specs.Char.{is_ascii_digit}
 use Rattle.std.specs.List.{list_all, AllZip}
 use Rattle.std.proofs.lemmas.Bool.{and_parts, cases_Bool, false≢true}

@@ -1,14 +1,13 @@
 -- Patterns of URLs: paths, and what fits.
-use Rattle.std.proofs.Common.{◌≡◌, ◌≢◌, ◌+◌, ◌++◌, ◌∙◌, ◌↔◌, inl, inr, ◌==◌, not, ℕ, Bool, true, false, List}
-use Rattle.std.proofs.Common.{[], ◌∷◌, Some, None, Option, length, IsTrue, eqb-true, refl, sym, subst, ap}
+use Rattle.std.proofs.Common.{◌≡◌, ◌≢◌, ◌+◌, ◌++◌, ◌∙◌, ◌↔◌, inl, inr, ◌==◌, not, ℕ, Bool, false, List}
+use Rattle.std.proofs.Common.{[], ◌∷◌, Some, None, Option, length, IsTrue, eqb-true, refl, sym, ap}
 use Rattle.std.proofs.Common.{arith, Result, Ok, Err, IfOk, MatchOption}
 use Rattle.std.specs.Prelude.{unwrap_or, is_some}
 use Rattle.std.specs.List.{AllZip}
 use Rattle.std.proofs.lemmas.Bool.Decides.{nat_tests}
 use Rattle.std.proofs.lemmas.List.{length-append}
-use Rattle.config_file.specs.Runs.{Run}
-use Rattle.config_url.specs.Url.{closed, SplitUrl, Url, url, IsPort, IsDefault, IsUser, IsForm, IsUrl}
-use Rattle.config_url.specs.Url.{IsWritten, Matches, AllowsUser, StandsFor, pieces, fit, fit_of}
+use Rattle.config_url.specs.Url.{closed, SplitUrl, Url, url, IsPort, IsUser, IsForm, IsUrl}
+use Rattle.config_url.specs.Url.{IsPath, IsWritten, Matches, AllowsUser, StandsFor, pieces, fit, fit_of}
 use Rattle.config_file.proofs.OneRun.{run_only}
 use Rattle.config_url.proofs.UrlNormal.{normal_only}
 use Rattle.config_url.proofs.UrlParts.{written_only}
@@ -117,3 +116,9 @@ pub fit_same : (p : Url) (front : List ℕ) (h n : ℕ) (b : Bool) → h ≡ len
 fit_same p front h n b e f g i =
     let long : n ≡ length (closed p.path) = omega (arith, g, ap length f, length-append front (47 ∷ [])) in
     rw (e, long, i)
+
+-- a pattern whose path is its own normal form matches no URL that is not at or below it
+pub not_below : (p u : Url) (path front : List ℕ) → IsPath path path → IsPath path p.path
+    → closed path ≡ front ++ 47 ∷ [] → ¬ (Below front u.path) → ¬ (Matches p u)
+not_below p u path front own is e not match =
+    not (match.path.0, rw (path_only p.path path is own, e) at match.path.1)

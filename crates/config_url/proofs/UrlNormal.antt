@@ -1,9 +1,9 @@
 -- Normal forms of texts of URLs.
-use Rattle.std.proofs.Common.{◌≡◌, ◌≢◌, ◌+◌, ◌*◌, ◌++◌, ◌∙◌, ℕ, Bool, true, false, List, [], ◌∷◌, Some, ◌||◌}
-use Rattle.std.proofs.Common.{refl, sym, subst, ap}
+use Rattle.std.proofs.Common.{◌≡◌, ◌≢◌, ◌+◌, ◌*◌, ◌++◌, ◌∙◌, ℕ, true, false, List, [], ◌∷◌, Some}
+use Rattle.std.proofs.Common.{refl, sym, ap}
 use Rattle.std.proofs.lemmas.List.{append-nil}
 use Rattle.std.proofs.Math.Bool.{or-false}
-use Rattle.config_url.specs.Url.{IsNormal, done, plain, escape, escaped, is_unsafe, is_reserved, hex_value}
+use Rattle.config_url.specs.Url.{IsNormal, done, plain, escape, escaped, is_unsafe, hex_value}
 use Rattle.config_url.specs.Reading.Urls.{GoesOn, written_as}
 
 pub some_same : {X : Type 0} {x y : X} → Some x ≡ Some y → x ≡ y

@@ -1,18 +1,20 @@
 -- Paths of URLs, name by name.
-use Rattle.std.proofs.Common.{◌≡◌, ◌≢◌, ◌≤◌, ◌+◌, ◌++◌, ◌∙◌, ◌↔◌, ◌==◌, ℕ, true, false, List, [], ◌∷◌, Some}
-use Rattle.std.proofs.Common.{None, Option, Bool, inl, inr, length, take, drop, map, refl, sym, subst, ap}
-use Rattle.std.proofs.Common.{eqb-true}
+use Rattle.std.proofs.Common.{◌≡◌, ◌≢◌, ◌++◌, ◌∙◌, ◌↔◌, ◌==◌, ℕ, true, false, List, [], ◌∷◌, Some}
+use Rattle.std.proofs.Common.{None, Option, Bool, inl, inr, length, drop, map, refl, sym, subst, ap}
+use Rattle.std.proofs.Common.{eqb-true, arith}
 use Rattle.std.specs.Prelude.{codes, flat_map, reverse}
 use Rattle.std.specs.Borrow.{Bor}
 use Rattle.std.specs.List.{list_all}
 use Rattle.std.proofs.lemmas.Bool.{true≢false, and_parts, cases_Bool}
-use Rattle.std.proofs.lemmas.List.{append-nil, append_assoc, take_all, reverse-append, reverse-reverse}
+use Rattle.std.proofs.lemmas.Bool.Decides.{nat_tests}
+use Rattle.std.proofs.lemmas.List.{append-nil, append_assoc, reverse-append, reverse-reverse}
 use Rattle.std.proofs.lemmas.List.Folds.{list_all-append}
 use Rattle.config_file.specs.Key.{is_no_dot}
 use Rattle.config_file.specs.Runs.{Run}
-use Rattle.config_url.specs.Url.{IsNormal, IsPath, is_path_byte, without_root, Leads, ends, stays, drops}
+use Rattle.config_url.specs.Url.{IsNormal, done, plain, escaped, is_unsafe, IsPath, is_path_byte, without_root, Leads, ends, stays, drops}
 use Rattle.config_url.specs.Url.{keeps, pieces, joined_names, onto}
-use Rattle.config_url.specs.Reading.Urls.{CutsPiece, Steps}
+use Rattle.config_url.specs.Reading.Urls.{CutsPiece, Steps, is_own_byte}
+use Rattle.config_file.proofs.LineEnds.{all_more}
 use Rattle.config_file.proofs.OneRun.{run_only}
 use Rattle.config_url.proofs.UrlNormal.{normal_only}
 use Rattle.config_url.proofs.UrlPieces.{closed_next, closed_last}
@@ -161,6 +163,27 @@ plain_path {names = names} {query = query} is cut (rest, e, pass) =
       joined = cut.joined
           ∙ ap (λ t. t ++ query) (e ∙ sym (joined_is (pieces 47 (rest ++ 47 ∷ [])) rest (flat_pieces rest)));
     }
+
+-- ---- a path that is its own normal form
+
+own_byte : (b : ℕ) → is_own_byte b ≡ true
+    → (is_unsafe b ≡ false) × (is_path_byte b ≡ true) × (is_no_dot b ≡ true) × (b ≢ 37)
+own_byte b is = grind (arith, nat_tests)
+
+own_normal : (text : List ℕ) → list_all is_own_byte text ≡ true → IsNormal text text
+own_normal [] pass = done
+own_normal (b ∷ rest) pass =
+    let (here, more) = and_parts (is_own_byte b) (list_all is_own_byte rest) pass in
+    let (safe, _, _, other) = own_byte b here in
+    subst (λ u. IsNormal (b ∷ rest) (escaped u b ++ rest)) safe (plain other (own_normal rest more))
+
+pub own_path : (rest : List ℕ) → list_all is_own_byte rest ≡ true → IsPath (47 ∷ rest) (47 ∷ rest)
+own_path rest pass =
+    plain_path {names = 47 ∷ rest} {query = []} (own_normal (47 ∷ rest) pass) (record {
+      joined = sym (append-nil (47 ∷ rest));
+      pass = all_more is_own_byte is_path_byte (λ b is. (own_byte b is).1) (47 ∷ rest) pass;
+      longest = tt;
+    }) (rest, refl, all_more is_own_byte is_no_dot (λ b is. (own_byte b is).2) rest pass)
 
 -- ---- one path
 

@@ -1,13 +1,13 @@
 -- Subsections of entries that are patterns: each entry is listed in one way, and below which subsection.
-use Rattle.std.proofs.Common.{◌≡◌, ◌++◌, ◌∙◌, ℕ, true, List, [], ◌∷◌, Some, None, Option, map, ◌==◌}
-use Rattle.std.proofs.Common.{refl, sym, subst, ap, arith, append-nil, append_assoc}
+use Rattle.std.proofs.Common.{◌≡◌, ◌++◌, ◌∙◌, ℕ, true, List, [], ◌∷◌, Some, None, Option, map}
+use Rattle.std.proofs.Common.{refl, sym, ap, arith, append-nil, append_assoc}
 use Rattle.std.specs.Char.{to_ascii_lowercase}
 use Rattle.std.specs.List.{list_all}
 use Rattle.std.proofs.lemmas.Bool.Decides.{nat_tests}
-use Rattle.config_file.specs.Bytes.{is_plain_in_quotes, is_text_byte}
+use Rattle.config_file.specs.Bytes.{is_plain_in_quotes}
 use Rattle.config_file.specs.File.{Entry}
 use Rattle.config_file.specs.Header.{Section}
-use Rattle.config_file.specs.Key.{Key, key, IsCut, is_no_dot}
+use Rattle.config_file.specs.Key.{Key, key, is_no_dot}
 use Rattle.config_file.specs.Listing.{IsListed, IsListedSection, plain, quoted, alone, in_section}
 use Rattle.config_file.specs.Reading.Scans.{is_unescaped}
 use Rattle.config_file.specs.Runs.{Run}

@@ -1,11 +1,11 @@
 -- The pieces of texts, and runs that end at a separator.
 use Rattle.std.proofs.Common.{◌≡◌, ◌≢◌, ◌++◌, ◌∙◌, ℕ, Bool, true, false, List, [], ◌∷◌, Some, None, take}
-use Rattle.std.proofs.Common.{drop, not, ◌==◌, refl, sym, subst, ap, arith}
+use Rattle.std.proofs.Common.{drop, not, ◌==◌, refl, sym, ap, arith}
 use Rattle.std.specs.List.{list_all, prefix_len}
 use Rattle.std.proofs.lemmas.Bool.{and_parts, eq-eqb}
 use Rattle.std.proofs.lemmas.Bool.Decides.{nat_tests}
 use Rattle.std.proofs.lemmas.List.{append-nil, append_assoc}
-use Rattle.config_file.specs.Runs.{Run, StopsRun}
+use Rattle.config_file.specs.Runs.{Run}
 use Rattle.config_url.specs.Url.{pieces, onto}
 use Rattle.config_url.specs.Reading.Urls.{CutsPiece}
 use Rattle.config_file.proofs.Runs.{run_split}

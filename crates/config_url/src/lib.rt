@@ -13,7 +13,7 @@ ghost use Rattle.config_file.specs.Listing.{IsListed};
 ghost use Rattle.config_url.specs.Reading.Fits.{FitsBy, TakesNext};
 ghost use Rattle.config_file.specs.Settings.{AreListed};
 ghost use Rattle.config_url.specs.Url as spec;
-ghost use Rattle.config_url.specs.Url.{IsUrl, IsForm, IsUser, Matches, AllowsUser, closed, slash, IsCloser};
+ghost use Rattle.config_url.specs.Url.{IsUrl, IsForm, IsPath, IsUser, Matches, AllowsUser, closed, slash, IsCloser};
 ghost use Rattle.config_url.specs.UrlView.{parts_of, url_of, fit_in};
 ghost use Rattle.config_file.specs.Views.{entry_of};
 
@@ -26,7 +26,7 @@ mod pieces;
 use crate::host::{port_of, stands_for_host};
 use crate::normal::normal;
 use crate::parts::{SplitUrl, read_parts};
-use crate::path::path_of;
+use crate::path::{is_own_form, path_of};
 use crate::pieces::cut_piece;
 use config_file::bytes::{Class, after_byte, run, split};
 use config_file::entry::{Entry, push_lower};
@@ -168,15 +168,7 @@ impl Url {
         ensures { IfOk result (λ found. MatchOption found ((u : spec.Url) → ¬ (IsUrl false text.now u))
             (λ u. IsUrl false text.now (url_of u))) }
     {
-        Url::read(alloc, text, false)
-    }
-
-    /// The URL that this text is, with `*` in its host if it may have stars.
-    fn read(alloc: Global, text: &[u8], has_stars: bool) -> Result<Option<Url>, AllocError>
-        ensures { IfOk result (λ found. MatchOption found ((u : spec.Url) → ¬ (IsUrl has_stars text.now u))
-            (λ u. IsUrl has_stars text.now (url_of u))) }
-    {
-        match read_parts(text, has_stars) {
+        match read_parts(text, false) {
             Some(parts) => Url::of_parts(alloc, parts),
             None => Ok(None),
         }
@@ -327,13 +319,28 @@ fn plain_pattern<'a>(entry: &Entry<'a>, key: &Key<'_>) -> Option<&'a [u8]>
     }
 }
 
+/// Whether no pattern with this path matches a URL, which is plain from the path.
+fn is_beside(path: &[u8], url: &Url) -> bool
+    ensures { IsTrue result
+        → (p : spec.Url) → IsPath path.now p.path → ¬ (Matches p (url_of url.now)) }
+{
+    !is_at_or_below(without_slash(path), &url.path) && is_own_form(path)
+}
+
 /// How closely this pattern fits a URL, or `None` if it is none or does not match it.
 fn fit_of_pattern(alloc: Global, pattern: &[u8], url: &Url) -> Result<Option<Fit>, AllocError>
     ensures { IfOk result (λ found. MatchOption found
         ((p : spec.Url) → IsUrl true pattern.now p → ¬ (Matches p (url_of url.now)))
         (λ fit. FitsBy pattern.now (url_of url.now) (fit_in fit))) }
 {
-    match Url::read(alloc, pattern, true)? {
+    let Some(parts) = read_parts(pattern, true) else {
+        return Ok(None);
+    };
+    // Most patterns have another path. A URL of its own takes memory.
+    if is_beside(parts.path, url) {
+        return Ok(None);
+    }
+    match Url::of_parts(alloc, parts)? {
         Some(pattern) => Ok(pattern.fit(url)),
         None => Ok(None),
     }

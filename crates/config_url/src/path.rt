@@ -6,10 +6,11 @@ ghost use Rattle.std.specs.List.{list_all, prefix_len};
 ghost use Rattle.config_file.specs.Key.{is_no_dot};
 ghost use Rattle.config_url.specs.Url as spec;
 ghost use Rattle.config_url.specs.Url.{IsPath, Leads, pieces, joined_names, slash};
-ghost use Rattle.config_url.specs.Reading.Urls.{Steps};
+ghost use Rattle.config_url.specs.Reading.Urls.{Steps, is_own_byte};
 
 use crate::normal::normal;
 use crate::pieces::cut_piece;
+use config_file::bytes::{has_no_dot, split};
 use std::alloc::{AllocError, Global};
 
 /// How many bytes precede the query and the fragment.
@@ -106,12 +107,6 @@ fn without_root(path: &[u8]) -> &[u8]
     }
 }
 
-fn has_no_dot(text: &[u8]) -> bool
-    ensures { result ≡ list_all is_no_dot text.now }
-{
-    text.iter().all(|byte| *byte != b'.')
-}
-
 /// Whether a path begins with a slash and has no `.`, so that no name stands for another place.
 fn is_plain(path: &[u8]) -> bool
     ensures { IsTrue result
@@ -120,6 +115,29 @@ fn is_plain(path: &[u8]) -> bool
     match path {
         [b'/', rest @ ..] => has_no_dot(rest),
         _ => false,
+    }
+}
+
+/// Whether a byte is a letter, a digit, `/`, `-` or `_`.
+fn is_own_byte(byte: u8) -> bool
+    ensures { result ≡ is_own_byte byte }
+{
+    byte.is_ascii_alphanumeric() || b"/-_".contains(&byte)
+}
+
+fn are_own_bytes(text: &[u8]) -> bool
+    ensures { result ≡ list_all is_own_byte text.now }
+{
+    text.iter().all(|byte| is_own_byte(*byte))
+}
+
+/// Whether a path is its own normal form, since it has only names of such bytes.
+pub(crate) fn is_own_form(path: &[u8]) -> bool
+    ensures { IsTrue result → IsPath path.now path.now }
+{
+    match split(path) {
+        Some((first, rest)) => first == b'/' && are_own_bytes(rest),
+        None => false,
     }
 }
 

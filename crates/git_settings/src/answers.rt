@@ -47,8 +47,11 @@ fn put_key(text: &mut Vec<u8>, section: &str, name: &[u8]) -> Result<(), AllocEr
 pub struct ForUrl<'r, 't> {
     section: &'r str,
     url: Url,
-    /// The key of the settings that are looked at.
-    key: Vec<u8>,
+    /// The name of the settings that are looked at.
+    name: &'t [u8],
+    /// Their key as Git lists it, and whether it is one.
+    listed: Vec<u8>,
+    is_key: bool,
     /// Those settings, which have one name.
     group: Settings<'t>,
 }
@@ -67,31 +70,53 @@ impl<'r, 't> ForUrl<'r, 't> {
         Ok(Some(ForUrl {
             section,
             url,
-            key: Vec::new(alloc),
+            name: b"",
+            listed: Vec::new(alloc),
+            is_key: false,
             group: Settings::new(alloc),
         }))
     }
 
-    /// Adds a setting to the group, and lists its key.
+    /// Lists the key of this name, unless it was listed last.
+    fn list(&mut self, name: &'t [u8]) -> Result<(), AllocError> {
+        if self.name == name {
+            return Ok(());
+        }
+        put_key(&mut self.listed, self.section, name)?;
+        self.is_key = Key::parse(&self.listed).is_ok();
+        self.name = name;
+        Ok(())
+    }
+
+    /// The key that was listed last, if it is one.
+    fn key(&self) -> Option<Key<'_>> {
+        if self.is_key {
+            Key::split(&self.listed)
+        } else {
+            None
+        }
+    }
+
+    /// Adds a setting to the group.
     fn add(&mut self, setting: Setting<'t>) -> Result<(), AllocError> {
-        put_key(&mut self.key, self.section, setting.entry.key)?;
+        self.list(setting.entry.key)?;
         Ok(self.group.entries.push(setting)?)
     }
 
     /// The setting of the group that decides for the URL, if one does.
     fn decided(&self, alloc: Global) -> Result<Option<&Setting<'t>>, AllocError> {
-        match Key::parse(&self.key) {
-            Ok(key) => last_for_url(alloc, &self.group, &key, &self.url),
-            Err(_) => Ok(None),
+        match self.key() {
+            Some(key) => last_for_url(alloc, &self.group, &key, &self.url),
+            None => Ok(None),
         }
     }
 
     /// Whether a setting is of the URL.
     pub fn has(&mut self, alloc: Global, setting: &Setting<'t>) -> Result<bool, AllocError> {
-        put_key(&mut self.key, self.section, setting.entry.key)?;
-        match Key::parse(&self.key) {
-            Ok(key) => is_of_url(alloc, &setting.entry, &key, &self.url),
-            Err(_) => Ok(false),
+        self.list(setting.entry.key)?;
+        match self.key() {
+            Some(key) => is_of_url(alloc, &setting.entry, &key, &self.url),
+            None => Ok(false),
         }
     }
 }
@@ -138,7 +163,7 @@ impl<'t> Reading<'_, 't> {
         wanted: &ForUrl<'_, 't>,
     ) -> Result<Ending, HostError> {
         match wanted.decided(self.rt.alloc())? {
-            Some(setting) => self.answer_for_url(setting, &wanted.key),
+            Some(setting) => self.answer_for_url(setting, &wanted.listed),
             None => Ok(ending),
         }
     }

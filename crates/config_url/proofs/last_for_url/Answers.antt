@@ -2,7 +2,7 @@ use Rattle.std.proofs.Common.{rules, ap, ◌∙◌, get_or}
 use Rattle.config_file.specs.KeyView.{key_of}
 use Rattle.config_url.specs.UrlView.{url_of, fit_in}
 use Rattle.config_file.proofs.Last.{at_index}
-use Rattle.config_url.proofs.UrlFits.{best_first, best_next, best_done}
+use Rattle.config_url.proofs.UrlFits.{best_next, best_done}
 use Rattle.config_url.proofs.last_for_url.Goals as goal
 
 pub loop-setting-preserved : goal.loop-setting-preserved

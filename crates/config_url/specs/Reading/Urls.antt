@@ -1,11 +1,12 @@
 -- How the parts of a URL are cut, one after the other.
 use Rattle.std.specs.Prelude.{◌≡◌, ◌↔◌, ℕ, Bool, true, false, not, ◌&&◌, ◌||◌, ◌==◌, List, ◌∷◌, ◌++◌, Option}
 use Rattle.std.specs.Prelude.{Some, None, codes}
+use Rattle.std.specs.Char.{is_ascii_alphanumeric}
 use Rattle.std.specs.List.{list_all}
 use Rattle.config_file.specs.Bytes.{right_bracket}
 use Rattle.config_file.specs.Runs.{Run}
 use Rattle.config_url.specs.Url.{SplitUrl, IsWhole, is_scheme, is_place_byte, at_sign, colon}
-use Rattle.config_url.specs.Url.{IsNormal, escaped, is_unsafe, is_reserved, Leads}
+use Rattle.config_url.specs.Url.{IsNormal, escaped, is_unsafe, is_reserved, Leads, is_one_of}
 
 abbrev pub no_at : ℕ → Bool
 no_at b = not (b == at_sign)
@@ -49,6 +50,10 @@ CutsPiece separator text piece (Some rest) =
 -- a byte in normal form, where it is escaped or not
 abbrev pub written_as : Bool → ℕ → List ℕ
 written_as is_escaped b = escaped (is_unsafe b || (is_escaped && is_reserved b)) b
+
+-- a letter, a digit, `/`, `-` or `_`: a byte that is never escaped, is no dot, and ends no path
+abbrev pub is_own_byte : ℕ → Bool
+is_own_byte b = is_ascii_alphanumeric b || is_one_of (codes "/-_") b
 
 -- the normal forms of the text are this front and then those of the rest
 pub record GoesOn (text front rest : List ℕ) : Type 0 where

@@ -1,5 +1,5 @@
-use Rattle.std.proofs.Common.{rules, refl, ap, subst, map, ◌∷◌, ◌++◌, [], ◌∙◌}
-use Rattle.config_url.specs.Url.{is_path_byte, joined_names, Leads, pieces}
+use Rattle.std.proofs.Common.{rules, refl, ap, map, ◌++◌, ◌∙◌}
+use Rattle.config_url.specs.Url.{joined_names}
 use Rattle.config_url.proofs.UrlPieces.{counted}
 use Rattle.config_url.proofs.UrlPaths.{no_path, plain_path}
 use Rattle.config_url.proofs.path.path_of.Goals as goal

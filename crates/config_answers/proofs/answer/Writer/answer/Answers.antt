@@ -1,6 +1,6 @@
-use Rattle.std.proofs.Common.{refl, arith}
+use Rattle.std.proofs.Common.{arith}
 use Rattle.config_answers.specs.Types.{Shows}
-use Rattle.config_answers.proofs.LineLemmas.{later, missing_next, refused_next, written_next}
+use Rattle.config_answers.proofs.LineLemmas.{later, missing_next, written_next}
 use Rattle.config_answers.proofs.answer.Writer.answer.Goals as goal
 
 pub returns-in-Refused-clause-answers : goal.returns-in-Refused-clause-answers

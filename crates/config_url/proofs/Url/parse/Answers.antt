@@ -1,6 +1,6 @@
 use Rattle.config_url.specs.UrlView.{parts_of, url_of}
 use Rattle.config_url.proofs.UrlMatches.{read_is}
-use Rattle.config_url.proofs.Url.read.Goals as goal
+use Rattle.config_url.proofs.Url.parse.Goals as goal
 
 pub returns-in-Some : goal.returns-in-Some
 returns-in-Some c =
