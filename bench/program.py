@@ -15,9 +15,8 @@ import subprocess
 import sys
 import tempfile
 
-from compare import build, head, load, run
+from compare import HERE, build, head, load, run
 
-HERE = pathlib.Path(__file__).resolve().parent
 # a line of each kind, and one that is refused
 KINDS = [
     b"suffix K", b"integer -010m", b"amount 7k", b"boolean Yes",

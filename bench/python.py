@@ -12,6 +12,8 @@ import subprocess
 import sys
 import tempfile
 
+from files import SECTION
+
 TURNS = 7
 PLAIN = """
 import re
@@ -70,12 +72,6 @@ def refused(text):
 ROWS = {"a boolean": 'boolean("yes")', "an integer": 'integer("10m")', "a color": 'color("bold red ul blue")',
         "a refused boolean": 'refused("maybe")', "one of 1,000 settings": 'lookup("core.key500")',
         "a text by key": 'config["core.key500"]', "a boolean by key": 'value("core.key500")'}
-SECTION = """[branch "topic-%06d"]
-\tremote = origin
-\tmerge = refs/heads/topic ; "a comment"
-\tdescription = "one \\"quoted\\" word" # and another
-\trebase = true
-"""
 OF_PYGIT2 = """
 import pygit2
 read, read_repository = pygit2.Config, lambda folder: pygit2.Repository(folder).config

@@ -21,8 +21,9 @@ words where it stops, and only follows includes in the folders of includes.txt a
 what it refuses.
 
 A difference has to belong to a class of classes.OF_FILES that is expected in the version of this Git, and each class
-that is expected has to be seen. Where white space does not cut a color in Git, Git may tell an earlier line. The run is the same for the same seed and numbers. The last line is 'N passed, M
-failed'. Without such a Git it says `skipped` and why, and nothing has passed.
+that is expected has to be seen. Where white space does not cut a color in Git, Git may tell an earlier line. The run is
+the same for the same seed and numbers. The last line is 'N passed, M failed'. Without such a Git it says `skipped` and
+why, and nothing has passed.
 """
 import argparse
 import collections
@@ -40,7 +41,7 @@ import tempfile
 
 import readers
 from classes import BLANK, FOREIGN, NUL, OF_FILES, is_expected
-from programs import Wrong, counted
+from programs import Wrong, counted, report
 
 ROWS = pathlib.Path(__file__).with_name("config_files.txt")
 TREES = ROWS.with_name("includes.txt")
@@ -398,8 +399,9 @@ class Comparison:
             self.judge(text, answer, other)
         told = [name for name, one in zip(names, given) if one.entries and one.refused is None]
         for name, line, other in zip(told, ours.all(ours.line, told), git.all(git.line, told)):
-            self.counts["lines of entries"] += other is not None
-            if line != other and not is_of_git_alone(given[int(name)].entries, line, other):
+            if line == other or is_of_git_alone(given[int(name)].entries, line, other):
+                self.counts["lines of entries"] += other is not None
+            else:
                 self.faults.append((texts[int(name)], line, other))
 
     def follow(self, name, tree, difference=None):
@@ -475,14 +477,7 @@ def compare(arguments, folder):
     if program:
         comparison.follow_stars(arguments.seconds, folder / "stars")
         comparison.follow_drawn(arguments, folder / "drawn")
-    for name, count in comparison.counts.items():
-        print(f"{count:>7,} {name}")
-    for text, ours, other in comparison.faults[:SHOWN]:
-        print(f"{text!r}: {ours} here, {other} in Git")
-    missing = [name for name in comparison.expected if not comparison.counts[name]]
-    for name in missing:
-        print(f"not seen: {name}")
-    return comparison.counts.total(), len(comparison.faults) + len(missing)
+    return report(comparison, "{!r}: {} here, {} in Git", SHOWN)
 
 
 def main():

@@ -232,7 +232,7 @@ class Fuzzer:
         again = []
         for at, text in enumerate(texts):
             given = answers[at * len(KINDS):(at + 1) * len(KINDS)]
-            by_kind = {kind: answer for kind, answer in zip(KINDS, given)}
+            by_kind = dict(zip(KINDS, given))
             self.compare(text, by_kind)
             accepted = {kind: answer[3:] for kind, answer in by_kind.items() if answer.startswith(b"ok ")}
             again += [kind + b" " + answer for kind, answer in accepted.items()]
@@ -270,11 +270,10 @@ def main():
     arguments.add_argument("--seconds", type=float)
     arguments = arguments.parse_args()
     program = Program(arguments.program)
+    fuzzer = Fuzzer(program, arguments.seed)
     start = time.monotonic()
     passed = failed = 0
-    fuzzer = None
     try:
-        fuzzer = Fuzzer(program, arguments.seed)
         while True:
             before = len(fuzzer.faults)
             fuzzer.batch(1000)
@@ -290,15 +289,14 @@ def main():
         wrong = program.end()
     except Ended as ended:
         wrong = f"{ended}, status {program.process.wait()}"
-    faults = fuzzer.faults if fuzzer else []
+    faults = fuzzer.faults
     if wrong:
         failed += 1
         faults.append(wrong)
     for fault in faults[:SHOWN]:
         print(fault)
-    if fuzzer:
-        for what, count in fuzzer.tried.items():
-            print(f"{count:>12,} {what}")
+    for what, count in fuzzer.tried.items():
+        print(f"{count:>12,} {what}")
     seconds = time.monotonic() - start
     print(f"{program.answered:>12,} lines in all, seed {arguments.seed}, {len(faults)} faults, {seconds:.1f} s")
     print(f"{passed} passed, {failed} failed")

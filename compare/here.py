@@ -29,7 +29,7 @@ import tempfile
 
 import classes
 import readers
-from programs import counted
+from programs import counted, report
 
 SHOWN = 20
 REFUSED = 128
@@ -515,7 +515,6 @@ class Comparison:
             self.ask("random places", folder / place.where, place.known, place)
             shutil.rmtree(folder)
 
-
     def shown(self):
         """Asks in the place of each class, and in those without one."""
         for number, place in enumerate(PLACES):
@@ -565,14 +564,7 @@ def compare(arguments, folder):
     comparison.shown()
     comparison.places(arguments)
     comparison.layouts()
-    for name, count in comparison.counts.items():
-        print(f"{count:>7,} {name}")
-    for what, ours, other in comparison.faults[:SHOWN]:
-        print(f"{what}:\n  {ours} here\n  {other} in Git")
-    missing = [name for name in comparison.expected if not comparison.counts[name]]
-    for name in missing:
-        print(f"not seen: {name}")
-    return comparison.counts.total(), len(comparison.faults) + len(missing)
+    return report(comparison, "{}:\n  {} here\n  {} in Git", SHOWN)
 
 
 def main():

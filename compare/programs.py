@@ -28,6 +28,19 @@ def counted(compare):
     return 1 if failed else 0
 
 
+def report(comparison, told, shown):
+    """Prints the counts and the first faults, in the form `told`, and returns what passed and what failed. A class that
+    is expected has to be seen."""
+    for name, count in comparison.counts.items():
+        print(f"{count:>7,} {name}")
+    for fault in comparison.faults[:shown]:
+        print(told.format(*fault))
+    missing = [name for name in comparison.expected if not comparison.counts[name]]
+    for name in missing:
+        print(f"not seen: {name}")
+    return comparison.counts.total(), len(comparison.faults) + len(missing)
+
+
 def answers(command, lines):
     """Returns one answer for each line. Lines and answers are without their LF."""
     data = b"".join(line + b"\n" for line in lines)

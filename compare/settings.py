@@ -328,11 +328,15 @@ def number(version):
     return [int(part) for part in version.split(".")]
 
 
+def table():
+    """The rows of git.rt and their comments, each as one line."""
+    return re.sub(r"\\\n *", "", ROWS.read_text(encoding="utf-8").split('"\\\n', 1)[1].split('";')[0])
+
+
 def kinds(version):
     """The kind of each row of git.rt, for a key with several rows of the one that holds for this Git."""
-    text = re.sub(r"\\\n *", "", ROWS.read_text(encoding="utf-8").split('"\\\n', 1)[1].split('";')[0])
     found = {}
-    for key, *rest in [line.split() for line in text.splitlines() if not line.startswith("#")]:
+    for key, *rest in [line.split() for line in table().splitlines() if not line.startswith("#")]:
         marks = dict(MARKS.fullmatch(word).groups() for word in rest if MARKS.fullmatch(word))
         kind = next(word for word in rest if not MARKS.fullmatch(word))
         is_old = "until" in marks and number(marks["until"]) <= number(version)
@@ -373,7 +377,7 @@ def compare(program):
     failed += [f"no difference of the class: {name}" for name in CLASSES if not seen[name]]
     for line in [f"{count:>7,} {name}" for name, count in seen.items()] + failed:
         print(line)
-    return len(stored) * len(VERSIONS), len(failed)
+    return len(stored) * len(VERSIONS) - len(failed), len(failed)
 
 
 if __name__ == "__main__":

@@ -254,9 +254,9 @@ def packages(work, archive):
                       check=False).returncode != 0:
         print("skipped: the installation of packages, without root or overlays")
         return
-    for name in ("libraries",) if archive.exists() else ():
+    if archive.exists():
         shutil.copy(ROOT / "examples/c/theme.c", work / "packages")
-        (work / "packages" / name).touch()
+        (work / "packages/libraries").touch()
     (work / "packages/config").write_text("[a]\n\tb = bold red\n", encoding="utf-8")
     said = run("unshare", "-m", "sh", "-c", COPY, "-", work / "copy", work / "packages", INSTALLED)
     wanted = [f"config_check {VERSION}", "ok red bold"] + ["#ffffff bold ul", "10485760", "1"] * archive.exists()

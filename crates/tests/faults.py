@@ -93,7 +93,7 @@ class Faults:
         self.program, self.failures = os.path.abspath(program), failures
         self.is_checked = b"__asan_init" in pathlib.Path(program).read_bytes()
         self.library, self.folder, self.number = library, folder, itertools.count()
-        self.right, self.wrong = [], []
+        self.right, self.wrong, self.has_come = [], [], False
 
     def ended(self, run, fault, pieces):
         """How a run ends in which a call fails: what it gives, the files, and whether the call came."""
@@ -112,6 +112,8 @@ class Faults:
         os.close(writer)
         has_failed = os.read(reader, 1) == b"\0"
         os.close(reader)
+        if has_failed:
+            self.has_come = True
         files = {str(it.relative_to(folder)): it.read_bytes() for it in folder.rglob("*") if it.is_file()}
         shutil.rmtree(folder)
         given.stdout = given.stdout.replace(os.fsencode(folder), b"<F>")
@@ -239,6 +241,7 @@ def main():
         for task in [pool.submit(*task) for one, runs in every.items() for run in runs for task in one.tasks(run)]:
             task.result()
     for one in every:
+        one.count(one.has_come, "no call has failed, so none was intercepted")
         name = os.path.basename(one.program)
         print(f"{len(one.right) + len(one.wrong):,} runs of {name}")
         print(*one.wrong[:SHOWN], sep="\n", end="\n" * bool(one.wrong))

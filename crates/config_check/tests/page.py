@@ -14,7 +14,6 @@ sys.path.append(str(pathlib.Path(__file__).resolve().parents[3] / "compare"))
 
 import settings  # noqa: E402
 
-SOURCE = pathlib.Path(__file__).resolve().parents[2] / "config_checks/src/git.rt"
 MANUAL = pathlib.Path("/usr/share/man")
 VERSION = "Git 2.39.5"
 # the comment that precedes the rows of git.rt that the page does not have
@@ -111,21 +110,15 @@ def has_word(text, word):
     return re.search(rf"(?<![\w-]){re.escape(word)}(?![\w-])", text, re.IGNORECASE) is not None
 
 
-def rows_of_the_page():
-    """The rows of git.rt that the page has to document, each as one line."""
-    written = SOURCE.read_text(encoding="utf-8").split('"\\\n')[1].split('";')[0]
-    return re.sub(r"\\\n *", "", written.split(ELSEWHERE_READ)[0]).splitlines()
-
-
 def check(group):
     text = page("git-config.1")
     if VERSION not in text:
-        group.skip("the pages of Git", f"those of {VERSION} are not installed")
+        group.skip("all", f"those of {VERSION} are not installed")
         return
     known = sections(text)
     taken = {question.value.strip("%Y") for question, told in settings.read().items()
              if question.value is not None and told[0] == "takes"}
-    for row in rows_of_the_page():
+    for row in settings.table().split(ELSEWHERE_READ)[0].splitlines():
         key, *rest = row.split()
         if key.startswith("#"):
             continue

@@ -384,7 +384,8 @@ def unread(tests):
 def together(tests):
     """Two programs that add entries to one file at once lose none. A lock that is held is tried again."""
     tests.write(b"shared", b"[a]\n")
-    loop = 'for n in $(seq 50); do until "$1" set --append -f shared a.k "$2$n" 2> /dev/null; do :; done; done'
+    loop = 'for n in $(seq 50); do until "$1" set --append -f shared a.k "$2$n" 2> /dev/null; ' \
+        'do failed=$((failed + 1)); [ $failed -lt 1000 ] || exit 1; done; done'
     runs = [subprocess.Popen(["sh", "-c", loop, "-", tests.program, name], cwd=os.fsdecode(tests.path(b"")))
             for name in "vw"]
     tests.expect("two programs end", [0, 0], [run.wait() for run in runs])

@@ -24,7 +24,8 @@ int main(int count, char **arguments)
         known.real_git_dir_length = strlen(head.real_dir);
         known.branch_length = head.length > sizeof ref ? head.length - sizeof ref : 0;
         if (known.branch_length > 0 && memcmp(head.text, ref, sizeof ref - 1) == 0) {
-            known.branch = strncmp(head.text + sizeof ref - 1, ".invalid\n", 9) == 0 ? NULL : head.text + sizeof ref - 1;
+            int is_none = known.branch_length == 8 && memcmp(head.text + sizeof ref - 1, ".invalid", 8) == 0;
+            known.branch = is_none ? NULL : head.text + sizeof ref - 1;
         }
     }
     gcv_status status = gcv_read_files(&settings, names, 1, &known, gcv_open_file, NULL);

@@ -44,6 +44,8 @@ counted() {
     echo "$name: $last"
     if [ "$status" -ne 0 ]; then
         head -n 40 "$work/output"
+    else
+        grep '^skipped: ' "$work/output"
     fi
     passed=$((passed + ${last%% passed*}))
     more=${last#*, }
@@ -77,10 +79,8 @@ archive=$prefix/lib/libgix_config_value.a
 holds "the header" python3 "$tests/header.py" "$prefix"
 
 # the library exports exactly the calls that the header declares, and needs only these symbols of the C library
-{
-    sed -nE '/^typedef/d; s/^(GCV_CALL|GCV_NONNULL|gcv_depth|const char).*[ *](gcv_[a-z0-9_]+)\(.*/\2/p' \
-        "$prefix/include/gix_config_value.h"
-} | sort > "$work/declared"
+sed -nE '/^typedef/d; s/^(GCV_CALL|GCV_NONNULL|gcv_depth|const char).*[ *](gcv_[a-z0-9_]+)\(.*/\2/p' \
+    "$prefix/include/gix_config_value.h" | sort > "$work/declared"
 nm -g --defined-only "$archive" | sed -n 's/.* [A-Z] //p' | sort > "$work/shown"
 holds "the archive shows the calls of the header" diff "$work/declared" "$work/shown"
 nm -D --defined-only "$prefix/lib/libgix_config_value.so" | sed -n 's/.* [A-Z] //p' | sort > "$work/shown"
@@ -88,8 +88,8 @@ holds "the shared library shows the calls of the header" diff "$work/declared" "
 printf '%s\n' __errno_location __xpg_strerror_r access calloc close fchmod free fsync getenv geteuid getpwnam_r lseek malloc \
     memchr memcmp memcpy memmove memset open read readlink realloc realpath rename snprintf sprintf strcat strcmp strcpy \
     strlen strncmp strrchr syscall unlink write > "$work/known"
-nm -u "$archive" | sed -n 's/^ *U //p' | grep -v '^gcv_\|^_GLOBAL_OFFSET_TABLE_$' | sort -u > "$work/needed"
-holds "the archive needs no more than is listed" test -z "$(comm -13 "$work/known" "$work/needed")"
+nm -u "$archive" | sed -n 's/^ *U //p' | grep -v '^gcv_\|^_GLOBAL_OFFSET_TABLE_$' | LC_ALL=C sort -u > "$work/needed"
+holds "the archive needs no more than is listed" test -z "$(LC_ALL=C comm -13 "$work/known" "$work/needed")"
 holds "the shared library is small" test "$(wc -c < "$prefix/lib/libgix_config_value.so")" -lt 400000
 # instructions that processors of x86-64 before 2008 do not have
 objdump -d --no-show-raw-insn "$archive" | cut -f 2 | cut -d ' ' -f 1 | sort -u | grep -E \
@@ -170,7 +170,6 @@ answers() {
     cat "$work/answer"
     [ "$status" -eq "$wanted" ] && grep -q "^$text" "$work/answer"
 }
-# a compiler refuses this code: refuses NAME CODE
 if command -v git > /dev/null; then
     git init -q "$work/repository"
     mkdir "$work/home"
@@ -182,12 +181,15 @@ if command -v git > /dev/null; then
     printf '[some]\n\tk = of the folder\n' > "$work/repository/.git/some"
     printf '[some]\n\tk = "of the URL"\n' > "$work/repository/.git/url"
     git config -f "$work/repository/.git/config" color.table.header "#ff0000 ul"
+else
+    echo "skipped: what is compared with Git, which is not there"
 fi
 body() {
     printf '#include <gix_config_value.h>\n#include <string.h>\nint main(void)\n{\n    char t[64] = "1";\n'
     printf '    uint32_t b = 0;\n    size_t n = 0;\n    gcv_context c;\n    gcv_color both;\n'
     printf '    memset(&c, 0, sizeof c);\n    memset(&both, 0, sizeof both);\n    return %s;\n}\n' "$1"
 }
+# a compiler refuses this code: refuses NAME CODE
 refuses() {
     body "$2" > "$work/wrong.c"
     # shellcheck disable=SC2086
