@@ -145,6 +145,11 @@ def keeps(word, arguments, old, new):
     return all(any(line == other for other in rest) for line in kept)
 
 
+def changed(before, section):
+    """The statuses that the change of a section may have. One without entries may have no header."""
+    return (0,) if any(is_in(key, stem(section)) for key, _ in before) else (0, 128)
+
+
 def wanted(word, arguments, before, gits):
     """The statuses that an edit may have, if Git's is this."""
     if before is None:
@@ -152,9 +157,9 @@ def wanted(word, arguments, before, gits):
     if word == "rename-section":
         section = arguments[1].partition(".")[0]
         is_name = arguments[1] and all(byte.isascii() and (byte.isalnum() or byte == "-") for byte in section)
-        return (0, 128) if is_name and "\n" not in arguments[1] else (255,)
+        return changed(before, arguments[0]) if is_name and "\n" not in arguments[1] else (255,)
     if word == "remove-section":
-        return (0, 128)
+        return changed(before, arguments[0])
     section, dot, rest = arguments[0].partition(".")
     name = rest.rpartition(".")[2]
     if not dot or not section and rest == name:
