@@ -320,6 +320,10 @@ fn past_spaces(text: &[u8]) -> &[u8]
 fn color_of(input: &[u8]) -> Option<Color>
     ensures { Reads ColorText input.now result }
 {
+    // Most colors are one short word.
+    if input.len() <= RUN && word_between(input, 0, input.len()).is_none() {
+        return Color::default().with_word(input);
+    }
     let mut color = Color::default();
     let mut rest = past_spaces(input);
     while !rest.is_empty() {

@@ -24,7 +24,7 @@ use Rattle.config_text.specs.Laws.Value.{IsValueOf, decided_by, one_value_by, re
 use Rattle.config_word.specs.Item.{ItemText}
 use Rattle.config_word.specs.Laws.Item.{item-law, item_one_value, long_refused, not_both}
 use Rattle.config_color.specs.Words.{piece}
-use Rattle.config_color.specs.Reading.Split.{words}
+use Rattle.config_color.specs.Reading.Split.{IsWithoutSpace, words}
 use Rattle.config_color.specs.Laws.Split.{words_are, words_only, words_step, words_last, option_told}
 use Rattle.config_color.specs.Laws.Split.{first_end}
 
@@ -283,6 +283,12 @@ pub walk_refused : (input rest : List ℕ) (c : Color) (n s : ℕ)
     → read_from c (piece (take n rest)) ≡ None → Reads ColorText input None
 walk_refused input rest c n s same ends e =
     reads_by color_of-value input None (sym (walk input rest c n s None same ends e))
+
+-- a text without white space is read as one word, or as none if it is empty
+pub reads_word : (input : List ℕ) (result : Option Color) → IsWithoutSpace input (length input)
+    → result ≡ read_from no_color (piece input) → Reads ColorText input result
+reads_word input result none is =
+    reads_by color_of-value input result (is ∙ sym (ap (read_from no_color) (words_last input none)))
 
 pub walk_done : (input : List ℕ) (c : Color) → read_from no_color (words input) ≡ read_from c (words [])
     → ColorText input c

@@ -494,7 +494,7 @@ known_told all bits r e f = (
   all_bits = known_bits_of attribute_flags
 
 -- the test whether there is no background without a foreground
-pub none_told : (o : Option Name) (n : Bool) → is_some o ≡ not n → n ≡ true → o ≡ None
+pub none_told : {X : Type 0} (o : Option X) (n : Bool) → is_some o ≡ not n → n ≡ true → o ≡ None
 none_told None n e h = refl
 none_told (Some x) n e h = let k = rw h at e in absurd (cc)
 
