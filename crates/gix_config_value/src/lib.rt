@@ -26,9 +26,9 @@
 //! This crate itself has [`canonical::Kind`], a kind chosen at run time, with [`canonical::normalize`],
 //! [`canonical::same`] and [`canonical::refusal`]; and [`program`], which answers lines.
 //!
-//! `config_file` reads configuration files, over `config_text` and `config_path`. The program `config_value`,
-//! the checker (`config_checks`, and its program `config_check`) and the C interface (`gix_config_value_c`) are
-//! over both. crates.txt lists who uses whom.
+//! The program `config_value` is over this crate. `config_file` reads configuration files, over `config_text`
+//! and `config_path`; the checker (`config_checks`, and its program `config_check`) and the C interface
+//! (`gix_config_value_c`) are over both. crates.txt lists who uses whom.
 //!
 //! Each public type, and each call that a user meets first, has an example in its comment. The grammar of a
 //! kind is at the top of its crate's `specs/`, and docs/GRAMMAR.md describes it in words.
