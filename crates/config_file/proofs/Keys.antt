@@ -234,3 +234,20 @@ none_left false (Some left) e = never (λ s. s)
 
 pub not_spelled : (raw : List ℕ) → IsTrue false ↔ SpellsLeft (Some raw) None
 not_spelled raw = never (λ s. s)
+
+-- a section whose subsection ends with another byte than that of a key is another one
+ends_apart : {raw : List ℕ} (section name text : List ℕ) (left : Option (List ℕ)) → SpellsLeft (Some raw) left
+    → ((spelled front before : List ℕ) → SpellsSubsection raw spelled → before ++ spelled ≢ front ++ text)
+    → stem_of section (Some text) ≡ lower name ++ dotted left → ⊥
+ends_apart section name text None s other same = absurd s
+ends_apart section name text (Some spelled) s other same =
+    other spelled (lower section ++ 46 ∷ []) (lower name ++ 46 ∷ []) s
+    (append_assoc (lower name) (46 ∷ []) spelled ∙ sym same ∙ sym (append_assoc (lower section) (46 ∷ []) text))
+
+pub ends_elsewhere : {name raw : List ℕ} (section text : List ℕ)
+    → ((spelled front before : List ℕ) → SpellsSubsection raw spelled → before ++ spelled ≢ front ++ text)
+    → ¬ (IsListedSection (name, Some raw) (stem_of section (Some text) ++ 46 ∷ []))
+ends_elsewhere {name = name} section text other h =
+    let (left, s, e) = listed_as h in
+    ends_apart section name text left s other
+    (append_cancel_right (stem_of section (Some text)) (lower name ++ dotted left) (46 ∷ []) e)

@@ -10,7 +10,7 @@ use Rattle.config_file.specs.Subsection.{SpellsSubsection}
 use Rattle.config_file.specs.Subsection as subsections
 use Rattle.config_file.specs.Value.{Ending, outside, Spells, itself, ends_outside, ends_at_backslash, quote}
 use Rattle.config_file.specs.Value.{escaped, continued, continued_after_return, blank, plain, kept}
-use Rattle.config_file.specs.Reading.Scans.{is_held_back, is_unescaped, is_word_byte, unescape, append_some}
+use Rattle.config_file.specs.Reading.Scans.{is_held_back, is_unescaped, spells_itself, unescape, append_some}
 
 -- what a blank, and a byte that spells itself, are not
 abbrev pub IsInner : ℕ → Type 0
@@ -105,26 +105,28 @@ pub kept_none : (value : List ℕ) → kept value [] ≡ value
 kept_none [] = refl
 kept_none (b ∷ value) = append-nil (b ∷ value)
 
-word_not_held : (q : Bool) (b : ℕ) → is_word_byte b ≡ true → is_held_back q b ≡ false
-word_not_held true b is = refl
-word_not_held false b is = grind (arith, nat_tests)
+own_not_held : (q : Bool) (b : ℕ) → spells_itself q b ≡ true → is_held_back q b ≡ false
+own_not_held true b is = refl
+own_not_held false b is = grind (arith, nat_tests)
 
-pub word_no_quote : (b : ℕ) → is_word_byte b ≡ true → b ≢ 34
-word_no_quote b is e = grind (arith, nat_tests)
+own_no_quote : (q : Bool) (b : ℕ) → spells_itself q b ≡ true → b ≢ 34
+own_no_quote true b is e = grind (arith, nat_tests)
+own_no_quote false b is e = grind (arith, nat_tests)
 
-pub word_no_backslash : (b : ℕ) → is_word_byte b ≡ true → b ≢ 92
-word_no_backslash b is e = grind (arith, nat_tests)
+own_no_backslash : (q : Bool) (b : ℕ) → spells_itself q b ≡ true → b ≢ 92
+own_no_backslash true b is e = grind (arith, nat_tests)
+own_no_backslash false b is e = grind (arith, nat_tests)
 
 -- a run of bytes that spell themselves is appended
-after_word : {w : ℕ → ℕ} {q : Bool} {o : Ending} {spelled : List ℕ} (value word rest : List ℕ)
-    → list_all is_word_byte word ≡ true
+after_own : {w : ℕ → ℕ} {q : Bool} {o : Ending} {spelled : List ℕ} (value word rest : List ℕ)
+    → list_all (spells_itself q) word ≡ true
     → Spells w q value [] (word ++ rest) spelled o → Spells w q (value ++ word) [] rest spelled o
-after_word value [] rest all s = rw append-nil s
-after_word {q = q} value (b ∷ word) rest all s =
-    let (here, more) = and_parts (is_word_byte b) (list_all is_word_byte word) all in
-    let next = after_plain s (word_not_held q b here) (word_no_quote b here) (word_no_backslash b here) in
+after_own value [] rest all s = rw append-nil s
+after_own {q = q} value (b ∷ word) rest all s =
+    let (here, more) = and_parts (spells_itself q b) (list_all (spells_itself q) word) all in
+    let next = after_plain s (own_not_held q b here) (own_no_quote q b here) (own_no_backslash q b here) in
     rw (← append_assoc value (b ∷ []) word)
-    (after_word (value ++ b ∷ []) word rest more (rw (kept_none value) at next))
+    (after_own (value ++ b ∷ []) word rest more (rw (kept_none value) at next))
 
 -- the same, in the form that the loop needs
 module _ {w : ℕ → ℕ} {q : Bool} {b : ℕ} {value held rest : List ℕ} (at : List ℕ) (e : at ≡ b ∷ rest) where
@@ -139,14 +141,14 @@ module _ {w : ℕ → ℕ} {q : Bool} {b : ℕ} {value held rest : List ℕ} (at
   plain_next {o = o} is not_quote not_backslash same same_text s =
       (o, rw (same_text, same) (after_plain (rw e at s) is not_quote not_backslash))
 
-  pub word_next : {spelled kept_text text longer word after : List ℕ} {o : Ending} → is_held_back q b ≡ false
+  pub own_next : {spelled kept_text text longer word after : List ℕ} {o : Ending} → is_held_back q b ≡ false
       → b ≢ 34
       → b ≢ 92 → kept_text ≡ kept value held → text ≡ kept_text ++ b ∷ []
-      → Run is_word_byte rest word after → longer ≡ text ++ word
+      → Run (spells_itself q) rest word after → longer ≡ text ++ word
       → Spells w q value held at spelled o → (ending : Ending) × Spells w q longer [] after spelled ending
-  word_next {spelled = spelled} {text = text} {word = word} {after = after} not_held not_quote not_backslash same same_text run appended s =
+  own_next {spelled = spelled} {text = text} {word = word} {after = after} not_held not_quote not_backslash same same_text run appended s =
       let (ending, more) = plain_next not_held not_quote not_backslash same same_text s in
-      (ending, rw appended (after_word text word after run.pass (subst (λ x. Spells w q text [] x spelled ending) run.joined more)))
+      (ending, rw appended (after_own text word after run.pass (subst (λ x. Spells w q text [] x spelled ending) run.joined more)))
 
   pub backslash_next : {spelled kept_text text after : List ℕ} {o : Ending} (escaped_byte : Option ℕ)
       → b ≡ 92 → kept_text ≡ kept value held

@@ -1,8 +1,9 @@
 -- The scan of a value.
 use Rattle.std.proofs.Common.{◌≡◌, ◌≢◌, ℕ, ◌+◌, Bool, true, false, not, List, [], ◌∷◌, ◌++◌, Option, Some}
 use Rattle.std.proofs.Common.{None, is_some, refl, sym, ap, ◌∙◌, append_assoc, append-nil, arith, inl, inr, subst}
-use Rattle.std.proofs.Common.{◌⊎◌, ◌==◌}
+use Rattle.std.proofs.Common.{◌⊎◌, ◌==◌, ◌≤◌, length, length-append}
 use Rattle.std.proofs.lemmas.List.{append_cancel_right}
+use Rattle.std.proofs.lemmas.List.Sums.{count_by-le-length}
 use Rattle.std.specs.List.{list_all}
 use Rattle.std.proofs.lemmas.Bool.{cases_Bool, and_parts}
 use Rattle.std.proofs.lemmas.Bool.Decides.{nat_tests}
@@ -14,10 +15,10 @@ use Rattle.config_file.specs.Value.{ends_inside, ends_at_backslash, quote, escap
 use Rattle.config_file.specs.Value.{continued_after_return, blank, plain, IsPart, EndsValue, IsNoEscape}
 use Rattle.config_file.specs.Value.{line_feeds, escape, TakesValue, closed, open_end, ValueStops, nul}
 use Rattle.config_file.specs.Value.{unclosed, unclosed_open_end, no_escape}
-use Rattle.config_file.specs.Reading.Scans.{PassedValue, EndsScan, Escapes, letter, line}
+use Rattle.config_file.specs.Reading.Scans.{PassedValue, HasLinesBefore, EndsScan, Escapes, letter, line}
 use Rattle.config_file.specs.Reading.Scans.{line_after_return, begins_with_mark, goes_on, is_plain_byte}
 use Rattle.config_file.specs.Runs.{Run, StopsRun}
-use Rattle.config_file.proofs.LineEnds.{line_feeds_none, all_more}
+use Rattle.config_file.proofs.LineEnds.{line_feeds_append, line_feeds_none, all_more}
 
 pub passed_none : (text : List ℕ) → PassedValue text false text
 passed_none text = record { raw = []; value = []; held = []; joined = refl; extends = λ more spelled o h. h }
@@ -147,6 +148,90 @@ plain_along b is = grind (arith, nat_tests)
 plain_line : (raw : List ℕ) → list_all is_plain_byte raw ≡ true → line_feeds raw ≡ 0
 plain_line raw all = line_feeds_none raw (all_more is_plain_byte is_comment_byte plain_along raw all)
 
+-- the LFs before a rest are those before an earlier rest, and those between the two
+lines_more : {text at : List ℕ} {q : Bool} {lines : ℕ} (piece rest : List ℕ) (all : ℕ) → PassedValue text q at
+    → at ≡ piece ++ rest → lines + line_feeds piece ≡ all → HasLinesBefore text lines at
+    → HasLinesBefore text all rest
+lines_more piece rest all passed e sum has raw joined =
+    let whole : (passed.raw ++ piece) ++ rest ≡ raw ++ rest =
+    append_assoc passed.raw piece rest ∙ ap (◌++◌ passed.raw) (sym e) ∙ sym passed.joined ∙ joined in
+    let same = append_cancel_right (passed.raw ++ piece) raw rest whole in
+    ap line_feeds (sym same) ∙ line_feeds_append passed.raw piece
+    ∙ ap (λ n. n + line_feeds piece) (has passed.raw passed.joined) ∙ sum
+
+-- where a piece begins a text, its LFs precede the rest
+lines_of : {text : List ℕ} {lines : ℕ} (piece rest : List ℕ) → text ≡ piece ++ rest → line_feeds piece ≡ lines
+    → HasLinesBefore text lines rest
+lines_of piece rest e count raw joined =
+    ap line_feeds (append_cancel_right raw piece rest (sym joined ∙ e)) ∙ count
+
+no_line : (b : ℕ) → is_comment_byte b ≡ true → line_feeds (b ∷ []) ≡ 0
+no_line b other = line_feeds_none (b ∷ []) (rw other)
+
+letter_is_no_line : (e : ℕ) → is_some (escape e) ≡ true → is_comment_byte e ≡ true
+letter_is_no_line e some = grind (arith, nat_tests)
+
+pub letter_lines : {e : ℕ} {text rest : List ℕ} → text ≡ e ∷ rest → is_some (escape e) ≡ true
+    → HasLinesBefore text 0 rest
+letter_lines {e = e} s some = lines_of (e ∷ []) _ s (no_line e (letter_is_no_line e some))
+
+pub line_lines : {e : ℕ} {text rest : List ℕ} → text ≡ e ∷ rest → e ≡ 10 → HasLinesBefore text 1 rest
+line_lines {e = e} s is = lines_of (e ∷ []) _ s (rw is refl)
+
+pub return_lines : {e f : ℕ} {text rest after : List ℕ} → text ≡ e ∷ rest → rest ≡ f ∷ after → e ≡ 13 → f ≡ 10
+    → HasLinesBefore text 1 after
+return_lines {e = e} {f = f} s t is next = lines_of (e ∷ f ∷ []) _ (s ∙ ap (◌∷◌ e) t) (rw (is, next) refl)
+
+-- no LF is passed in a byte that ends no line, and in plain bytes after it
+pub lines_over : {text at rest bytes after : List ℕ} {q : Bool} {b lines : ℕ} → PassedValue text q at → at ≡ b ∷ rest
+    → is_comment_byte b ≡ true → Run is_plain_byte rest bytes after → HasLinesBefore text lines at
+    → HasLinesBefore text lines after
+lines_over {bytes = bytes} {after = after} {b = b} {lines = lines} passed e other run has =
+    let front = line_feeds_append (b ∷ []) bytes in
+    let first = no_line b other in
+    let plains = plain_line bytes run.pass in
+    lines_more (b ∷ bytes) after lines passed (e ∙ ap (◌∷◌ b) run.joined) (omega arith) has
+
+escaped_piece : {rest after : List ℕ} → Escapes rest after → (piece : List ℕ) × (rest ≡ piece ++ after)
+escaped_piece (letter {e = e} s is) = (e ∷ [], s)
+escaped_piece (line {e = e} s is) = (e ∷ [], s)
+escaped_piece (line_after_return {e = e} {f = f} s is next) = (e ∷ f ∷ [], s)
+
+pub escape_shortens : {rest after : List ℕ} → Escapes rest after → length after ≤ length rest
+escape_shortens {rest = rest} {after = after} escapes =
+    let (piece, joined) = escaped_piece escapes in
+    let sum = ap length joined ∙ length-append piece after in
+    omega arith
+
+pub goes_on_along : (q : Bool) (b : ℕ) → goes_on q b ≡ true → is_comment_byte b ≡ true
+goes_on_along true b on = grind (arith, nat_tests)
+goes_on_along false b on = grind (arith, nat_tests)
+
+-- a text has no fewer bytes than the LFs that have been passed, and the bytes that are left
+pub lines_within : {text at : List ℕ} {q : Bool} {lines : ℕ} → PassedValue text q at → HasLinesBefore text lines at
+    → lines + length at ≤ length text
+lines_within {text = text} {at = at} passed has =
+    let sum = ap length passed.joined ∙ length-append passed.raw at in
+    let count = has passed.raw passed.joined in
+    let fit = count_by-le-length (λ b. b == 10) passed.raw in
+    omega arith
+
+-- after a backslash, the line ends that it escapes are passed
+pub lines_over_escape : {text at rest next bytes after : List ℕ} {q : Bool} {b lines ends : ℕ} → PassedValue text q at
+    → at ≡ b ∷ rest → b ≡ 92 → Escapes rest next × HasLinesBefore rest ends next → Run is_plain_byte next bytes after
+    → HasLinesBefore text lines at → HasLinesBefore text (lines + ends) after
+lines_over_escape {rest = rest} {bytes = bytes} {after = after} {b = b} {lines = lines} {ends = ends} passed e is (escapes, counted) run has =
+    let (piece, joined) = escaped_piece escapes in
+    let other : is_comment_byte b ≡ true = rw is refl in
+    let front = line_feeds_append (b ∷ []) (piece ++ bytes) in
+    let middle = line_feeds_append piece bytes in
+    let first = no_line b other in
+    let escaped_lines = counted piece joined in
+    let plains = plain_line bytes run.pass in
+    let whole : rest ≡ (piece ++ bytes) ++ after =
+    joined ∙ ap (◌++◌ piece) run.joined ∙ sym (append_assoc piece bytes after) in
+    lines_more (b ∷ piece ++ bytes) after (lines + ends) passed (e ∙ ap (◌∷◌ b) whole) (omega arith) has
+
 plain_scan_ends : (rest : List ℕ) → StopsRun is_plain_byte rest → begins_with_mark rest ≡ false → EndsScan false rest
 plain_scan_ends [] stops none = tt
 plain_scan_ends (b ∷ rest) stops none = grind (arith, nat_tests)
@@ -154,6 +239,9 @@ plain_scan_ends (b ∷ rest) stops none = grind (arith, nat_tests)
 -- the plain bytes at the start of a text have been passed
 pub passed_plain : {text raw rest : List ℕ} → Run is_plain_byte text raw rest → PassedValue text false rest
 passed_plain {text = text} {raw = raw} run = passed_run false text raw (passed_none text) run.joined run.pass
+
+pub plain_lines : {text raw rest : List ℕ} → Run is_plain_byte text raw rest → HasLinesBefore text 0 rest
+plain_lines {raw = raw} run = lines_of raw _ run.joined (plain_line raw run.pass)
 
 -- plain bytes that no mark follows are a value, or are refused at a NUL
 pub takes_plain : {text raw rest : List ℕ} → Run is_plain_byte text raw rest → begins_with_mark rest ≡ false
@@ -189,6 +277,15 @@ ends_open_here {text = text} false at passed off e none =
     let whole : passed.raw ++ 92 ∷ [] ≡ text =
     sym (passed.joined ∙ ap (◌++◌ passed.raw) (e ∙ ap (◌∷◌ 92) none)) in
     rw none (open_end (rw whole at (passed.extends (92 ∷ []) _ at_backslash (ends_at_backslash refl))))
+
+-- a backslash at the end of a text ends no line
+pub lines_at_end : {text rest : List ℕ} {lines : ℕ} (at : List ℕ) → HasLinesBefore text lines at → at ≡ 92 ∷ rest
+    → rest ≡ [] → (raw : List ℕ) → text ≡ raw ++ at → lines ≡ line_feeds text
+lines_at_end {text = text} at has e none raw joined =
+    let whole : text ≡ raw ++ 92 ∷ [] = joined ∙ ap (◌++◌ raw) (e ∙ ap (◌∷◌ 92) none) in
+    let all : line_feeds text ≡ line_feeds raw + 0 = ap line_feeds whole ∙ line_feeds_append raw (92 ∷ []) in
+    let before = has raw joined in
+    omega arith
 
 some_from : (o : Option ℕ) → is_some o ≡ true → (c : ℕ) × (o ≡ Some c)
 some_from None h = cc

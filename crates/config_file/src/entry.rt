@@ -173,7 +173,7 @@ impl<'a> Entry<'a> {
         ensures { IsTrue result
             ↔ (map to_ascii_lowercase self.now.key.now ≡ map to_ascii_lowercase key.now) }
     {
-        self.key.eq_ignore_ascii_case(key)
+        self.key == key || self.key.eq_ignore_ascii_case(key)
     }
 
     /// The key as `git config --list` shows it, in a new vector: what [`Entry::push_key`] appends. It fails

@@ -201,7 +201,27 @@ impl<'k> Key<'k> {
             → (IsTrue result ↔ HasKey (entry_of entry.now) (key_of self.now)) }
     {
         match &entry.section {
+            Some(section) if self.ends_unlike(section) => false,
             Some(section) => entry.has_key(self.name) && self.is_in(section),
+            None => false,
+        }
+    }
+
+    /// Whether the last byte of this section tells that it is another one.
+    // Most sections of one name end with different bytes, and this is the fastest to look at.
+    #[inline(always)]
+    fn ends_unlike(&self, section: &Section<'_>) -> bool
+        ensures { IsTrue result
+            → ¬ (IsListedSection (section_of section.now) (stem (key_of self.now) ++ dot ∷ [])) }
+    {
+        let Some(text) = self.subsection else {
+            return false;
+        };
+        match &section.subsection {
+            Some(subsection) => {
+                let subsection = *subsection;
+                subsection.ends_unlike(text)
+            }
             None => false,
         }
     }

@@ -1,5 +1,5 @@
 //! Sections and subsections.
-ghost use Rattle.std.specs.Prelude.{◌≡◌, ℕ, ◌<◌, ◌↔◌, List, [], ◌∷◌, ◌++◌, length, map, IsTrue, IfSome, OnOk};
+ghost use Rattle.std.specs.Prelude.{◌≡◌, ◌≢◌, ℕ, ◌<◌, ◌↔◌, List, [], ◌∷◌, ◌++◌, length, map, IsTrue, IfSome, OnOk};
 ghost use Rattle.std.specs.Prelude.{MatchOption};
 ghost use Rattle.std.specs.Char.{to_ascii_lowercase};
 ghost use Rattle.config_file.specs.Subsection.{SpellsSubsection};
@@ -67,6 +67,22 @@ impl<'a> Subsection<'a> {
             at = rest;
         }
         Ok(())
+    }
+
+    /// Whether these bytes and this text end with different bytes. No text then ends with this text and with what
+    /// these bytes spell.
+    #[inline(always)]
+    pub(crate) fn ends_unlike(&self, text: &[u8]) -> bool
+        ensures { IsTrue result → (spelled front before : List ℕ) → SpellsSubsection self.now.raw.now spelled
+            → before ++ spelled ≢ front ++ text.now }
+    {
+        match text {
+            [.., last] => match self.raw {
+                [.., own] => *own != *last,
+                [] => false,
+            },
+            [] => false,
+        }
     }
 
     /// Whether these bytes spell this text. Case counts, as in Git.

@@ -1,5 +1,5 @@
 //! The value of an entry.
-ghost use Rattle.std.specs.Prelude.{◌≡◌, ◌≢◌, ℕ, List, [], ◌∷◌, ◌≤◌, length, true, false, IfOk, OnOk};
+ghost use Rattle.std.specs.Prelude.{◌≡◌, ◌≢◌, ℕ, List, [], ◌∷◌, ◌≤◌, length, true, false, IfOk, IfSome, OnOk};
 ghost use Rattle.std.specs.Prelude.{MatchOption};
 ghost use Rattle.std.specs.Prelude.{MatchResult, reverse};
 ghost use Rattle.std.specs.Cow.{IsBorrowedSlice, cow_slice_items};
@@ -8,11 +8,12 @@ ghost use Rattle.config_file.specs.Bytes.{backslash, double_quote, is_blank};
 ghost use Rattle.config_file.specs.Value as spec;
 ghost use Rattle.config_file.specs.Value.{IsNoEscape, SpellsValue, kept, Ending};
 ghost use Rattle.config_file.specs.Reading.Ends.{FitsForm, IsValueEnd};
-ghost use Rattle.config_file.specs.Reading.Scans.{PassedValue, EndsScan, Escapes, begins_with_mark, goes_on};
-ghost use Rattle.config_file.specs.Reading.Scans.{is_held_back, is_unmarked, unescape};
+ghost use Rattle.config_file.specs.Reading.Scans.{PassedValue, HasLinesBefore, EndsScan, Escapes, begins_with_mark};
+ghost use Rattle.config_file.specs.Reading.Scans.{goes_on, is_held_back, is_unmarked, spells_itself, unescape};
+ghost use Rattle.config_file.specs.Runs.{Run};
 
 use crate::bytes::{
-    Class, after_byte, before, is_blank, is_comment_sign, is_text_byte, line_feeds, run, split,
+    Class, after_byte, before, is_blank, is_comment_sign, is_text_byte, run, split,
 };
 use crate::entry::EntryForm;
 use crate::errors::{FileFault, fault_at};
@@ -137,7 +138,7 @@ impl<'a> Value<'a> {
                 }
                 at = after;
             } else {
-                let (word, after) = run(rest, Class::Word);
+                let (word, after) = own_run(rest, quoted);
                 text.push(byte)?;
                 text.extend_from_slice(word)?;
                 at = after;
@@ -181,6 +182,18 @@ fn is_held_back(quoted: bool, byte: u8) -> bool
     !quoted && is_blank(byte)
 }
 
+/// The longest run at the start of a text of bytes that spell themselves, in quotes or outside them, and the rest.
+#[inline(always)]
+fn own_run(text: &[u8], quoted: bool) -> (&[u8], &[u8])
+    ensures { Run (spells_itself quoted) text.now result.0.now result.1.now }
+{
+    if quoted {
+        run(text, Class::InQuotes)
+    } else {
+        run(text, Class::Word)
+    }
+}
+
 /// Appends the blanks that were held back, unless the value has no byte yet.
 fn push_held(text: &mut Vec<u8>, held: &[u8]) -> Result<(), AllocError>
     ensures { OnOk result (text.new.items ≡ kept text.old.items held.now) }
@@ -210,20 +223,26 @@ fn unescape(text: &[u8]) -> (Option<u8>, &[u8])
     }
 }
 
-/// What follows the escaped byte or the line end after a backslash, or `None` if neither follows it.
-fn after_escape(text: &[u8]) -> Option<&[u8]>
-    ensures { MatchOption result (text.now ≢ [] → IsNoEscape text.now)
-        (λ rest. Escapes text.now rest.now) }
+/// What follows the escaped byte or the line end after a backslash, and how many line ends that are, or `None` if
+/// neither follows it.
+fn after_escape(text: &[u8]) -> Option<(&[u8], usize)>
+    ensures escapes { MatchOption result (text.now ≢ [] → IsNoEscape text.now)
+        (λ p. Escapes text.now p.0.now × HasLinesBefore text.now p.1 p.0.now) }
+    ensures few { IfSome result (λ p. p.1 ≤ 1) }
 {
     let (letter, rest) = split(text)?;
     if escape(letter).is_some() {
-        return Some(rest);
+        return Some((rest, 0));
     }
     if letter == b'\n' {
-        return Some(rest);
+        return Some((rest, 1));
     }
     let after = after_byte(b'\n', rest)?;
-    if letter == b'\r' { Some(after) } else { None }
+    if letter == b'\r' {
+        Some((after, 1))
+    } else {
+        None
+    }
 }
 
 /// Whether the text begins with a quote or a backslash.
@@ -244,6 +263,7 @@ fn goes_on(quoted: bool, byte: u8) -> bool
 }
 
 /// Reads a value after its `=`, up to the end of its line or to a comment.
+#[inline(always)]
 pub(crate) fn read_value(text: &[u8]) -> ValueEnd<'_>
     ensures { IsValueEnd text.now result }
 {
@@ -268,38 +288,45 @@ pub(crate) fn read_value(text: &[u8]) -> ValueEnd<'_>
 }
 
 /// Reads a value from its first quote or backslash on.
+// Most values have neither, and are read in place.
+#[inline(never)]
 fn read_marked<'a>(text: &'a [u8], first: &'a [u8]) -> ValueEnd<'a>
-    requires { PassedValue text.now false first.now }
+    requires passed { PassedValue text.now false first.now }
+    requires counted { HasLinesBefore text.now 0 first.now }
     ensures { IsValueEnd text.now result }
 {
     let mut at = first;
     let mut quoted = false;
+    let mut lines = 0;
     'pieces: while let Some((byte, rest)) = split(at) {
         if byte == b'"' {
             quoted = !quoted;
-            at = rest;
+            at = run(rest, Class::Plain).1;
         } else if byte == b'\\' {
             match after_escape(rest) {
-                Some(after) => at = after,
-                None => return end_after_backslash(text, at, rest, quoted),
+                Some((after, ends)) => {
+                    lines += ends;
+                    at = run(after, Class::Plain).1;
+                }
+                None => return end_after_backslash(text, at, rest, quoted, lines),
             }
         } else if goes_on(quoted, byte) {
             at = run(rest, Class::Plain).1;
         } else {
-            return end(text, at, quoted);
+            return end(text, at, quoted, lines);
         }
     }
-    end(text, at, quoted)
+    end(text, at, quoted, lines)
 }
 
 /// Ends a value before LF, a comment, a NUL or the end of the text. In quotes or before a NUL it is refused.
-fn end<'a>(text: &'a [u8], at: &'a [u8], quoted: bool) -> ValueEnd<'a>
+fn end<'a>(text: &'a [u8], at: &'a [u8], quoted: bool, lines: usize) -> ValueEnd<'a>
     requires passed { PassedValue text.now quoted at.now }
+    requires counted { HasLinesBefore text.now lines at.now }
     requires ends { EndsScan quoted at.now }
     ensures { IsValueEnd text.now result }
 {
     let raw = before(text, at);
-    let lines = line_feeds(raw);
     if quoted {
         return ValueEnd {
             raw,
@@ -331,8 +358,10 @@ fn end_after_backslash<'a>(
     at: &'a [u8],
     rest: &'a [u8],
     quoted: bool,
+    lines: usize,
 ) -> ValueEnd<'a>
     requires passed { PassedValue text.now quoted at.now }
+    requires counted { HasLinesBefore text.now lines at.now }
     requires backslash { at.now ≡ 92 ∷ rest.now }
     requires stops { rest.now ≢ [] → IsNoEscape rest.now }
     ensures { IsValueEnd text.now result }
@@ -341,7 +370,7 @@ fn end_after_backslash<'a>(
     if !rest.is_empty() {
         return ValueEnd {
             raw,
-            lines: line_feeds(raw),
+            lines,
             rest,
             form: EntryForm::Refused,
         };
@@ -349,14 +378,14 @@ fn end_after_backslash<'a>(
     if quoted {
         return ValueEnd {
             raw,
-            lines: line_feeds(raw) + 1,
+            lines: lines + 1,
             rest,
             form: EntryForm::Refused,
         };
     }
     ValueEnd {
         raw: text,
-        lines: line_feeds(text) + 1,
+        lines: lines + 1,
         rest,
         form: EntryForm::Marked,
     }

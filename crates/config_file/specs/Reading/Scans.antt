@@ -9,7 +9,7 @@ use Rattle.config_file.specs.Bytes.{line_feed, carriage_return, double_quote, ba
 use Rattle.config_file.specs.Bytes.{is_key_byte, is_blank, is_space, is_comment_byte, is_comment_sign}
 use Rattle.config_file.specs.Bytes.{is_text_byte, is_plain_in_quotes}
 use Rattle.config_file.specs.Subsection.{SpellsSubsection, IsSubsection}
-use Rattle.config_file.specs.Value.{Ending, Spells, SpellsValue, itself, escape}
+use Rattle.config_file.specs.Value.{Ending, Spells, SpellsValue, itself, escape, line_feeds}
 
 -- the scan of a subsection has come to this rest of the text
 pub record PassedSubsection (text at : List ℕ) : Type 0 where
@@ -26,6 +26,10 @@ pub record PassedValue (text : List ℕ) (quoted : Bool) (at : List ℕ) : Type 
   pub extends : (more spelled : List ℕ) (ending : Ending)
       → Spells itself quoted value held more spelled ending → SpellsValue (raw ++ more) spelled ending
 
+-- this many LFs precede this rest of the text
+abbrev pub HasLinesBefore : List ℕ → ℕ → List ℕ → Type 0
+HasLinesBefore text lines at = (raw : List ℕ) → text ≡ raw ++ at → line_feeds raw ≡ lines
+
 -- whether the scan of a value goes on after this byte, unless it is a quote or a backslash
 abbrev pub goes_on : Bool → ℕ → Bool
 goes_on true b = is_text_byte b
@@ -38,6 +42,11 @@ is_unescaped b = not (b == backslash)
 -- no blank, no quote and no backslash
 abbrev pub is_word_byte : ℕ → Bool
 is_word_byte b = (not (is_blank b) && not (b == double_quote)) && not (b == backslash)
+
+-- a byte that spells itself in quotes, or a byte of a word outside them
+abbrev pub spells_itself : Bool → ℕ → Bool
+spells_itself true b = is_plain_in_quotes b
+spells_itself false b = is_word_byte b
 
 -- the scan of a value goes on after this byte, in quotes and outside them, and it is no quote and no
 -- backslash

@@ -1,10 +1,11 @@
 use Rattle.std.proofs.Common.{sym, ◌∙◌}
 use Rattle.config_file.proofs.Plain.{plain_is_unmarked}
-use Rattle.config_file.proofs.Values.{passed_plain, stops_plain, takes_plain}
+use Rattle.config_file.proofs.Values.{passed_plain, plain_lines, stops_plain, takes_plain}
 use Rattle.config_file.proofs.value.read_value.Goals as goal
 
 pub read_marked-requires : goal.read_marked-requires
-read_marked-requires c = passed_plain c.run.ensures
+read_marked-requires c =
+    record { passed = passed_plain c.run.ensures; counted = plain_lines c.run.ensures }
 
 pub returns-in-Nul : goal.returns-in-Nul
 returns-in-Nul c = stops_plain c.run.ensures (sym c.fault_at.ensures ∙ c.in-Nul.is)

@@ -1,5 +1,5 @@
 use Rattle.std.proofs.Common.{Some, None, inl, inr, rules, refl}
-use Rattle.config_file.proofs.Spelled.{blanks_next, quote_next, word_next, backslash_next}
+use Rattle.config_file.proofs.Spelled.{blanks_next, quote_next, own_next, backslash_next}
 use Rattle.config_file.proofs.value.Value.to_vec.Goals as goal
 
 pub pieces-preserved-then-byte-eq34 : goal.pieces-preserved-then-byte-eq34
@@ -37,7 +37,7 @@ pieces-preserved c =
       fresh = inl refl;
       spells = λ spelled ending h.
           let (o, s) = c.pieces.invariant.spells spelled ending h in
-          word_next c.pieces.at.now c.in-Some.ensures (search rules) c.if-byte-eq34.false c.if-byte-eq92.false c.in_ok-push_held.ensures c.in_ok-push-2.ensures.items c.run-else-byte-eq92.ensures c.in_ok-extend_from_slice.ensures.items s;
+          own_next c.pieces.at.now c.in-Some.ensures (search rules) c.if-byte-eq34.false c.if-byte-eq92.false c.in_ok-push_held.ensures c.in_ok-push-2.ensures.items c.own_run.ensures c.in_ok-extend_from_slice.ensures.items s;
     }
 
 pub pieces-preserved-then-is_held_back : goal.pieces-preserved-then-is_held_back
