@@ -22,6 +22,7 @@ use Rattle.config_edit.specs.Reading.{Holds, IsMade, IsPiece, contents_in, secti
 use Rattle.config_edit.specs.Reading.{line_ends, Closes}
 use Rattle.config_edit.specs.Reading.{IsEntry, IsLineEnd}
 use Rattle.std.proofs.lemmas.List.{append_cancel_right}
+use Rattle.std.proofs.lemmas.Option.{same_Some}
 use Rattle.config_file.specs.Views.{section_of, value_of}
 use Rattle.config_file.proofs.EachReading.{not_empty}
 use Rattle.config_edit.proofs.Pieces.{blanks_lead, header_holds, entry_holds, key_joined, line_holds}
@@ -88,9 +89,6 @@ pub goes_on_over : {w : ℕ → ℕ} {q : Bool} {so_far held raw text : List ℕ
     → Spells w q so_far held (raw ++ (line_end ++ return)) text outside
 goes_on_over line_end return is also e s =
     spells_more (line_end ++ return) s (rw e (line_end, return, refl, is, return_blank return also))
-
-pub some_same : {a b : List ℕ} → Some a ≡ Some b → a ≡ b
-some_same e = cc
 
 pub more_bytes : (b : ℕ) (more : List ℕ) → list_all is_comment_byte (b ∷ more) ≡ true
     → list_all is_comment_byte more ≡ true
@@ -231,7 +229,7 @@ closed_open_entry : {key at blanks bytes rest : List ℕ} {lines : ℕ} (section
 closed_open_entry section all None e line_end is (raw, held, differs) = cc
 closed_open_entry section all (Some own) e line_end is (raw, held, differs) =
     elim (how_ends e.takes) [
-      | before_rest text spells same ↦ absurd (differs (ap line_feeds (some_same (sym held)) ∙ sym same))
+      | before_rest text spells same ↦ absurd (differs (ap line_feeds (same_Some _ _ (sym held)) ∙ sym same))
       | before_nothing text spells same none ↦ closed_over section all e line_end is refl text spells none
     ]
 

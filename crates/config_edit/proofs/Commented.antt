@@ -7,6 +7,7 @@ use Rattle.std.specs.Char.{is_ascii_alphabetic}
 use Rattle.std.proofs.lemmas.Bool.Decides.{nat_tests}
 use Rattle.std.proofs.lemmas.List.{append_cancel_left, append_cancel_right}
 use Rattle.std.proofs.lemmas.List.Folds.{list_all-append}
+use Rattle.std.proofs.lemmas.Option.{same_Some}
 use Rattle.config_edit.specs.declared.Change.{Change}
 use Rattle.config_edit.specs.declared.piece.Piece.{Piece}
 use Rattle.config_file.specs.declared.entry.EntryParts.{EntryParts}
@@ -32,7 +33,7 @@ use Rattle.config_edit.proofs.Changed.{space_blank, front_cut, gap_spaces, parts
 use Rattle.config_edit.proofs.Changed.{spells_between, spells_before, can_hold, with_value}
 use Rattle.config_edit.proofs.Changed.{inside_is_not_outside, backslash_is_not_outside, tail_cut}
 use Rattle.config_edit.proofs.EachEntry.{entry_named, begins_named}
-use Rattle.config_edit.proofs.Closed.{goes_on_over, more_bytes, some_same}
+use Rattle.config_edit.proofs.Closed.{goes_on_over, more_bytes}
 use Rattle.config_file.proofs.OneValue.{before_backslash}
 use Rattle.config_file.proofs.Spelled.{after_held, after_plain}
 use Rattle.config_file.proofs.OneRun.{run_same}
@@ -260,11 +261,11 @@ ends_of parts held (inr (other, puts)) how (inl (opened, has, one)) = absurd (ot
 ends_of parts held (inr (other, puts)) how (inr (closed, none)) = as_closed (puts_spells puts) none
 ends_of {raw = raw} {bytes = bytes} parts held (inl (has, same)) how fed =
     let (raw_too, held_too, ended) = how has in
-    let raw_is : raw_too ≡ bytes = some_same (sym held_too ∙ held) ∙ sym same in
+    let raw_is : raw_too ≡ bytes = same_Some _ _ (sym held_too ∙ held) ∙ sym same in
     elim ended [
       | inl (spells, lines_are) ↦ elim fed [
         | inl (opened, also, one) ↦
-            absurd (opened.2 (ap line_feeds (some_same (sym opened.1 ∙ held_too)) ∙ sym lines_are))
+            absurd (opened.2 (ap line_feeds (same_Some _ _ (sym opened.1 ∙ held_too)) ∙ sym lines_are))
         | inr (closed, none) ↦ as_closed (rw raw_is at spells) none
       ]
       | inr (spells, lines_are) ↦ elim fed [

@@ -28,6 +28,7 @@ use Rattle.std.proofs.Common.{map}
 use Rattle.std.specs.List.{list_all}
 use Rattle.std.proofs.lemmas.Bool.{and_parts}
 use Rattle.std.proofs.lemmas.List.Folds.{list_all-append}
+use Rattle.std.proofs.lemmas.Option.{same_Some}
 use Rattle.config_file.specs.Bytes.{is_comment_byte}
 use Rattle.config_file.proofs.OneKey.{cut_same}
 use Rattle.config_file.proofs.OneReading.{one_reading}
@@ -40,7 +41,6 @@ use Rattle.config_file.specs.File.{after_mark}
 use Rattle.config_edit.proofs.Cuts.{one_each, no_part, same_last}
 use Rattle.config_edit.proofs.OnePart.{contents_once, end_once, line_end_once, lost_one, parts_once}
 use Rattle.config_edit.proofs.Changed.{some_last, last_holds, parts_blank, last_of}
-use Rattle.config_edit.proofs.Closed.{some_same}
 
 -- values
 pub space_once : {Wanted : Type 0} {a b : List ℕ} → SpaceIf Wanted a → SpaceIf Wanted b → a ≡ b
@@ -100,7 +100,7 @@ puts_once : {value between tail : List ℕ} {was also : Option (List ℕ)} {a b 
     → PutsValue value between tail was a → PutsValue value between tail also b → was ≡ also → a ≡ b
 puts_once (spec.in_place {core = core} lead trail all is blank s)
     (spec.in_place {core = next} also left all_too so blank_too t) e =
-    let whole : lead ++ (core ++ trail) ≡ also ++ (next ++ left) = some_same e in
+    let whole : lead ++ (core ++ trail) ≡ also ++ (next ++ left) = same_Some _ _ e in
     let (leads, rests) = run_same is_blank lead also (core ++ trail) (next ++ left) all all_too (solid_first core trail is)
     (solid_first next left so) whole in
     let (cores, trails) = trims_once core next trail left is.2 so.2 blank blank_too rests in
@@ -108,14 +108,14 @@ puts_once (spec.in_place {core = core} lead trail all is blank s)
     cc
 puts_once (spec.in_place {core = core} lead trail all is blank s)
     (spec.in_blanks also left both parts gap t later) e =
-    absurd (solid_within lead core trail (also ++ left) is (some_same e) both)
+    absurd (solid_within lead core trail (also ++ left) is (same_Some _ _ e) both)
 puts_once (spec.in_place lead trail all is blank s) (spec.behind_key gap t) e = absurd (cc)
 puts_once (spec.in_blanks also left both parts gap t later)
     (spec.in_place {core = core} lead trail all is blank s) e =
-    absurd (solid_within lead core trail (also ++ left) is (sym (some_same e)) both)
+    absurd (solid_within lead core trail (also ++ left) is (sym (same_Some _ _ e)) both)
 puts_once (spec.in_blanks lead trail all parts gap s later)
     (spec.in_blanks also left all_too parts_too gap_too t later_too) e =
-    let (leads, trails) = blanks_once parts parts_too (some_same e) in
+    let (leads, trails) = blanks_once parts parts_too (same_Some _ _ e) in
     let gaps = space_once (rw leads at gap) gap_too in
     let laters = space_once (rw trails at later) later_too in
     let spellings = s.1 ∙ sym t.1 in

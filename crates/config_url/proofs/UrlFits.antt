@@ -9,6 +9,7 @@ use Rattle.std.specs.List.{All, slice_get}
 use Rattle.std.proofs.lemmas.Bool.{true≢false}
 use Rattle.std.proofs.lemmas.List.{append_assoc, take_all}
 use Rattle.std.proofs.lemmas.List.Elements.{All-nil, All-cons, All-append, All-push}
+use Rattle.std.proofs.lemmas.Option.{none-some, same_Some}
 use Rattle.config_url.specs.Deciding.{IsUnder, Fits}
 use Rattle.config_file.specs.File.{Entry}
 use Rattle.config_file.specs.Key.{Key, IsCut}
@@ -22,7 +23,6 @@ use Rattle.config_file.proofs.Last.{listed_at}
 use Rattle.config_file.proofs.OneKey.{cut_same}
 use Rattle.config_file.proofs.Picked.{take_next}
 use Rattle.config_url.proofs.UrlMatches.{url_only}
-use Rattle.config_url.proofs.UrlNormal.{some_same}
 use Rattle.config_url.proofs.UrlPatterns.{listed_only}
 
 -- the text that Git lists for an entry is this
@@ -31,9 +31,6 @@ IsOnly items entry = (listed : List ℕ) → IsListed entry.section entry.key li
 
 abbrev lower : List ℕ → List ℕ
 lower text = map to_ascii_lowercase text
-
-none_some : {X : Type 0} (x : X) → None ≡ Some x → ⊥
-none_some x e = cc
 
 fits_under : (key : Key) (u : Url) (entry : Entry) (f : Fit) → Fits key u entry f
     → (sub : Option (List ℕ)) × IsUnder key entry sub
@@ -69,13 +66,13 @@ module _ (key : Key) (u : Url) (entry : Entry) (items : List ℕ) (k : Key) (onl
 
   weakest_only : k.subsection ≡ None → (f : Fit) → Fits key u entry f → f ≡ weakest
   weakest_only has f (inl (under, e)) = e
-  weakest_only has f (inr (text, p, under, is, match, e)) = absurd (none_some text (sym has ∙ subsections under))
+  weakest_only has f (inr (text, p, under, is, match, e)) = absurd (none-some text (sym has ∙ subsections under))
 
   pattern_only : (p : Url) (sub : List ℕ) → k.subsection ≡ Some sub → IsUrl true sub p → (f : Fit)
       → Fits key u entry f → Matches p u × (f ≡ fit_of p)
-  pattern_only p sub has is f (inl (under, e)) = absurd (none_some sub (sym (subsections under) ∙ has))
+  pattern_only p sub has is f (inl (under, e)) = absurd (none-some sub (sym (subsections under) ∙ has))
   pattern_only p sub has is f (inr (text, q, under, other, match, e)) =
-      let urls : q ≡ p = url_only q p (rw (some_same (sym (subsections under) ∙ has)) at other) is in
+      let urls : q ≡ p = url_only q p (rw (same_Some _ _ (sym (subsections under) ∙ has)) at other) is in
       (rw urls at match, e ∙ ap fit_of urls)
 
   module _ (text : List ℕ) (listed : IsListed entry.section entry.key text)
@@ -100,8 +97,8 @@ module _ (key : Key) (u : Url) (entry : Entry) (items : List ℕ) (k : Key) (onl
     pattern_fits : {V : Type 0} (view : V → Fit) (r : Option V) (sub : List ℕ) → k.subsection ≡ Some sub
         → FitsPattern view sub u r → DecidesBy view key u entry r
     pattern_fits view None sub has never = λ f fits. elim fits [
-      | inl is ↦ none_some sub (sym (subsections is.0) ∙ has)
-      | inr is ↦ never is.1 (rw (some_same (sym (subsections is.2) ∙ has)) at is.3) is.4
+      | inl is ↦ none-some sub (sym (subsections is.0) ∙ has)
+      | inr is ↦ never is.1 (rw (same_Some _ _ (sym (subsections is.2) ∙ has)) at is.3) is.4
     ]
     pattern_fits view (Some v) sub has (p, is, match, e) =
         (inr (sub, p, is_under has, is, match, e), λ f fits. (pattern_only p sub has is f fits).1 ∙ sym e)

@@ -3,11 +3,9 @@ use Rattle.std.proofs.Common.{◌≡◌, ◌≢◌, ◌+◌, ◌*◌, ◌++◌, 
 use Rattle.std.proofs.Common.{refl, sym, ap}
 use Rattle.std.proofs.lemmas.List.{append-nil}
 use Rattle.std.proofs.Math.Bool.{or-false}
+use Rattle.std.proofs.lemmas.Option.{same_Some}
 use Rattle.config_url.specs.Url.{IsNormal, done, plain, escape, escaped, is_unsafe, hex_value}
 use Rattle.config_url.specs.Reading.Urls.{GoesOn, written_as}
-
-pub some_same : {X : Type 0} {x y : X} → Some x ≡ Some y → x ≡ y
-some_same e = cc
 
 plain_back : {b : ℕ} {rest normal : List ℕ} → b ≢ 37 → IsNormal (b ∷ rest) normal
     → (n : List ℕ) × IsNormal rest n
@@ -44,4 +42,4 @@ normal_only (plain {b = c} e is) (plain f other) =
 normal_only (plain e is) (escape f g h other) = absurd (e f)
 normal_only (escape e f g is) (plain h other) = absurd (h e)
 normal_only (escape {h = x} {l = y} {normal = n} e f g is) (escape {h = z} {l = w} {normal = m} h i j other) =
-    rw (some_same (sym f ∙ i), some_same (sym g ∙ j), normal_only is other)
+    rw (same_Some _ _ (sym f ∙ i), same_Some _ _ (sym g ∙ j), normal_only is other)

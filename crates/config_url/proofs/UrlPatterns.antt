@@ -4,6 +4,7 @@ use Rattle.std.proofs.Common.{refl, sym, ap, arith, append-nil, append_assoc}
 use Rattle.std.specs.Char.{to_ascii_lowercase}
 use Rattle.std.specs.List.{list_all}
 use Rattle.std.proofs.lemmas.Bool.Decides.{nat_tests}
+use Rattle.std.proofs.lemmas.Option.{same_Some}
 use Rattle.config_file.specs.Bytes.{is_plain_in_quotes}
 use Rattle.config_file.specs.File.{Entry}
 use Rattle.config_file.specs.Header.{Section}
@@ -16,7 +17,6 @@ use Rattle.config_file.specs.Subsection.{SpellsSubsection}
 use Rattle.config_file.proofs.OneKey.{lower_no_dots, lower_twice}
 use Rattle.config_file.proofs.Spelled.{writes_unescaped}
 use Rattle.config_url.specs.Deciding.{IsUnder}
-use Rattle.config_url.proofs.UrlNormal.{some_same}
 
 abbrev lower : List ℕ → List ℕ
 lower text = map to_ascii_lowercase text
@@ -81,7 +81,7 @@ quoted_as : {section : Option Section} {own text name raw : List ℕ} → IsList
 quoted_as {raw = raw} alone e = absurd (not_some raw (ap raw_in e))
 quoted_as {raw = raw} (in_section plain) e = absurd (not_some raw (ap raw_in e))
 quoted_as (in_section (quoted {spelled = spelled} s)) e =
-    (spelled, rw (some_same (ap raw_in e)) at s, rw (ap name_in e) refl)
+    (spelled, rw (same_Some _ _ (ap raw_in e)) at s, rw (ap name_in e) refl)
 
 -- the pattern is below the section and the name of the key, if no byte of it is escaped
 pub under_pattern : (k : Key) (entry : Entry) {text name raw pattern rest : List ℕ}

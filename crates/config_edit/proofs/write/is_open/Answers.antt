@@ -1,8 +1,8 @@
 use Rattle.std.proofs.Common.{◌≡◌, ◌≢◌, ℕ, Some, IsTrue, sym, ap, ◌∙◌, arith, nat_eq, not}
 use Rattle.std.proofs.lemmas.Bool.Decides.{nat_tests}
+use Rattle.std.proofs.lemmas.Option.{same_Some}
 use Rattle.config_file.specs.Value.{line_feeds}
 use Rattle.config_file.specs.Views.{value_of}
-use Rattle.config_edit.proofs.Closed.{some_same}
 use Rattle.config_edit.proofs.write.is_open.Goals as goal
 
 differ : (a b : ℕ) → IsTrue (not (nat_eq a b)) → a ≢ b
@@ -19,5 +19,5 @@ returns-in-Some c =
     let count = c.line_feeds.ensures.count in (
       λ is. (raw, value_is, λ same. differ c.line_feeds.result lines is (count ∙ same)),
       λ (own, held, differs). are_other c.line_feeds.result lines
-          (λ same. differs (ap line_feeds (some_same (sym held ∙ value_is)) ∙ sym count ∙ same)),
+          (λ same. differs (ap line_feeds (same_Some _ _ (sym held ∙ value_is)) ∙ sym count ∙ same)),
     )
