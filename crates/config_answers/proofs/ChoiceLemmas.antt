@@ -1,6 +1,7 @@
 -- Keys of a section, by the one way in which a text is cut.
 use Rattle.std.proofs.Common.{◌≡◌, ◌++◌, ◌∙◌, ℕ, List, [], ◌∷◌, Option, None, Some, true, IfSome, map, ap, subst}
 use Rattle.std.proofs.lemmas.List.{append_assoc}
+use Rattle.std.proofs.lemmas.Option.{IfSome_then, none-some, same_Some}
 use Rattle.std.specs.Char.{to_ascii_lowercase}
 use Rattle.std.specs.List.{list_all}
 use Rattle.config_file.specs.Header.{Section}
@@ -9,12 +10,6 @@ use Rattle.config_file.specs.Listing.{IsListed, alone, in_section}
 use Rattle.config_file.proofs.Keys.{listed_as}
 use Rattle.config_file.proofs.OneKey.{cut_same, lower_no_dots, lower_twice}
 use Rattle.config_answers.specs.Choices.{IsWithin}
-
-some_same : {X : Type 0} {x y : X} → Some x ≡ Some y → x ≡ y
-some_same e = cc
-
-none_some : {X : Type 0} {x : X} → None ≡ Some x → ⊥
-none_some e = cc
 
 pub other_section : {text section : List ℕ} {name : Option (List ℕ)} {key : Key} → IsCut text key
     → ¬ (map to_ascii_lowercase key.section ≡ map to_ascii_lowercase section) → ¬ (IsWithin section name text)
@@ -31,9 +26,9 @@ same_name {name = name} cut within =
 pub ends_cut : (own : Section) {section : Option Section} {name text : List ℕ} → IsListed section name text
     → section ≡ Some own → list_all is_no_dot own.0 ≡ true → list_all is_no_dot name ≡ true
     → (sub : Option (List ℕ)) × IsCut text (key (map to_ascii_lowercase own.0) sub (map to_ascii_lowercase name))
-ends_cut own alone e p q = absurd (none_some e)
+ends_cut own alone e p q = absurd (none-some own e)
 ends_cut own {name = name} (in_section {section = section} {listed = front} h) e p q =
-    let same : section ≡ own = some_same e in
+    let same : section ≡ own = same_Some section own e in
     let (sub, _, is) = listed_as h in (
       sub,
       record {
@@ -50,15 +45,9 @@ pub within_at : (own name : List ℕ) {text section : List ℕ} {sub : Option (L
     → IsCut text (key (map to_ascii_lowercase own) sub (map to_ascii_lowercase name))
     → map to_ascii_lowercase own ≡ map to_ascii_lowercase section
     → IfSome asked (λ a. map to_ascii_lowercase name ≡ map to_ascii_lowercase a) → IsWithin section asked text
-within_at own name {sub = sub} None cut same alike = record {
+within_at own name {sub = sub} asked cut same alike = record {
   key = key (map to_ascii_lowercase own) sub (map to_ascii_lowercase name);
   is_cut = cut;
   same_section = lower_twice own ∙ same;
-  same_name = tt;
-}
-within_at own name {sub = sub} (Some a) cut same alike = record {
-  key = key (map to_ascii_lowercase own) sub (map to_ascii_lowercase name);
-  is_cut = cut;
-  same_section = lower_twice own ∙ same;
-  same_name = lower_twice name ∙ alike;
+  same_name = IfSome_then asked alike (λ a is. lower_twice name ∙ is);
 }
