@@ -1,5 +1,5 @@
 """Measures reading and checking files: python3 files.py GIT_SETTINGS CONFIG_CHECK [--runs N] [--prefix PREFIX]
-[--package FOLDER] [--also NAME=COMMAND]..
+[--package FOLDER] [--also NAME=COMMAND].. [--places]
 
 The programs are compared with `git config --list -z`, of the file alone and as the user's file, plain C that makes no
 entries (entries.c), libgit2 if it is installed, pygit2 if Python has it, and for the small file dulwich. PREFIX has the
@@ -7,7 +7,8 @@ library for C, which is measured too (walk.c), and a lookup in it, and FOLDER ha
 makes it. A COMMAND gets the name of the file: it is another program that reads it. The processor time is the least of
 the runs, made in turn; it includes a program's start, which is that of Python too, and its output. The last column has
 it as a part of that of Git with the file alone. A second table has calls of Git and of git_settings, which get the same
-words. If git_settings does not print what Git prints, the status is 1.
+words, and a third one calls in the places of places.py, where the library for C and the Python package read the same;
+with --places there is only that one. If git_settings does not print what Git prints, the status is 1.
 """
 import argparse
 import contextlib
@@ -19,8 +20,10 @@ import shutil
 import subprocess
 import sys
 import tempfile
+from unittest import mock
 
 from compare import HERE, head, load, run
+from places import OF_REPOSITORY, PLACES, branches
 from program import system_calls, usage
 
 SECTION = """[branch "topic-%06d"]
@@ -45,6 +48,11 @@ sum(1 for _ in pygit2.Config(sys.argv[1]))
 import sys, gix_config_value
 sum(1 for _ in gix_config_value.read(sys.argv[1]).entries)
 """)]
+# the same of a file, or else of what Git reads in the current folder
+READS = """
+import sys, gix_config_value as it
+(it.read if sys.argv[1:] else it.read_repository)(*sys.argv[1:])
+"""
 
 
 # what is read: the front of a file, a line that follows it so often, with its number, and the words of a call
@@ -61,9 +69,6 @@ CALLS = [
     ("300,000 entries below comments", "[s]\n", "# a comment\n\n\tk%d = v ; why\n", 300_000, "--list"),
     ("1,000 keys below a name of 1,000,000 bytes", f'[s "{"x" * MILLION}"]\n', "\tk%d = v\n", 1000, "--list"),
 ]
-
-# the words of a call in a new repository
-KEY = ["--get", "core.bare"]
 
 
 def listed(*command):
@@ -100,6 +105,12 @@ def commands(arguments, folder, file):
         yield name, (*shlex.split(command), file)
 
 
+def least(measuring, asked, runs):
+    """For each command the least seconds and the least memory of the runs, which are taken in turn."""
+    turns = [[usage(measuring, *it) for it in asked] for _ in range(runs)]
+    return [tuple(map(min, zip(*of_one))) for of_one in zip(*turns)]
+
+
 def rows(measuring, asked, file, arguments):
     """For each size and program the least milliseconds, how many entries that is in a second, and the part of Git's."""
     for size, asked in zip(SIZES, (asked, [it for it in asked if it[0] != "dulwich"])):
@@ -108,21 +119,24 @@ def rows(measuring, asked, file, arguments):
         git, same, with_origins = (listed(*command) for _, command in asked[:3])
         if same != git or with_origins[1::2] != git[:-1]:
             sys.exit("a list of git_settings is not Git's")
-        times = [[usage(measuring, *command)[0] for _, command in asked] for _ in range(arguments.runs)]
-        least = [min(seconds) for seconds in zip(*times)]
-        for (name, _), seconds in zip(asked, least):
+        taken = least(measuring, [command for _, command in asked], arguments.runs)
+        for (name, _), (seconds, _) in zip(asked, taken):
             what = f"{size:,} entries, {len(text) / 1e6:.0f} MB"
-            yield what, name, f"{seconds * 1000:.0f}", f"{size / seconds / 1e6:.2f}", f"{seconds / least[0]:.2f}"
+            yield what, name, f"{seconds * 1000:.0f}", f"{size / seconds / 1e6:.2f}", f"{seconds / taken[0][0]:.2f}"
+
+
+def both(git_settings, words):
+    """The commands of Git and of git_settings with these words, after a look whether they print the same."""
+    asked = [shutil.which("git"), "config", *words], [git_settings, *words]
+    printed = [subprocess.run(it, stdout=subprocess.PIPE, check=True).stdout for it in asked]
+    if printed[0] != printed[1]:
+        sys.exit(f"git_settings does not print what Git prints: {words}")
+    return asked
 
 
 def call(measuring, git_settings, words, runs):
     """The least milliseconds and the memory of Git and of git_settings, and the part of Git's time."""
-    asked = [shutil.which("git"), "config", *words], [git_settings, *words]
-    printed = [subprocess.run(it, stdout=subprocess.PIPE, check=False).stdout for it in asked]
-    if printed[0] != printed[1]:
-        sys.exit(f"git_settings does not print what Git prints: {words}")
-    turns = [[usage(measuring, *it) for it in asked] for _ in range(runs)]
-    (git, most), (own, memory) = (map(min, zip(*of_one)) for of_one in zip(*turns))
+    (git, most), (own, memory) = least(measuring, both(git_settings, words), runs)
     return f"{git * 1000:.2f}", f"{own * 1000:.2f}", f"{own / git:.2f}", f"{most / 1024:.0f}", f"{memory / 1024:.0f}"
 
 
@@ -136,13 +150,13 @@ def calls(measuring, arguments, folder):
         yield name, f"`{words[2]}`", *call(measuring, arguments.git_settings, words, arguments.runs)
     run("git", "init", "--quiet", f"{folder}/repository")
     with contextlib.chdir(f"{folder}/repository"):
-        yield "a new repository", "`--get`", *call(measuring, arguments.git_settings, KEY, 100)
+        yield "a new repository", "`--get`", *call(measuring, arguments.git_settings, OF_REPOSITORY, 100)
 
 
 def traces(git_settings, folder):
     """How often Git and git_settings call the system for a key of a repository."""
     with contextlib.chdir(f"{folder}/repository"):
-        return system_calls([shutil.which("git"), "config", *KEY]), system_calls([git_settings, *KEY])
+        return [system_calls(it) for it in both(git_settings, OF_REPOSITORY)]
 
 
 def lookups(folder, prefix, file, runs):
@@ -154,6 +168,54 @@ def lookups(folder, prefix, file, runs):
         yield name, min(float(nanoseconds) for nanoseconds, _ in told), told[0][1].strip()
 
 
+def by_file(home, count):
+    """A repository with this many branches, of whose file alone is asked."""
+    asked, folder, known = branches(home, count)
+    return ["--file", ".git/config", *asked], folder, known
+
+
+def searches(measuring, arguments, folder):
+    """For each place and program the least milliseconds, and the part of Git's time."""
+    library = dict(walks(folder, arguments.prefix)).get("the library for C")
+    for number, (name, _, size, make) in enumerate([*PLACES, ("branches, by `--file`", 0, 4_000, by_file)]):
+        home = pathlib.Path(folder, f"home{number}")
+        home.mkdir()
+        words, place, known = make(home, size)
+        file = words[1:-2]  # the name behind --file, if it is there
+        with contextlib.chdir(place), mock.patch.dict(os.environ, known):
+            names = (f"`{program} {' '.join(words)}`" for program in ("git config", "git_settings"))
+            asked = dict(zip(names, both(arguments.git_settings, words)))
+            if library:
+                asked["the library for C"] = [library, *file]
+            if importlib.util.find_spec("gix_config_value"):
+                asked["the Python package"] = [sys.executable, "-c", READS, *file]
+            taken = least(measuring, asked.values(), arguments.runs)
+        for program, (seconds, _) in zip(asked, taken):
+            yield f"{size:,} {name}", program, f"{seconds * 1000:.2f}", f"{seconds / taken[0][0]:.2f}"
+
+
+def table(headings, cells):
+    """The lines of a table, whose headings have bars between them."""
+    yield f"| {headings} |"
+    yield "|" + "---|" * len(headings.split("|"))
+    yield from ("| " + " | ".join(row) + " |" for row in cells)
+
+
+def elsewhere(measuring, arguments, folder):
+    """The lines of all that is measured outside of the places."""
+    file = f"{folder}/config"
+    measured = rows(measuring, list(commands(arguments, folder, file)), file, arguments)
+    yield from table("File | Program | Processor time, ms | Million entries in a second | Of Git's time", measured)
+    found = list(lookups(folder, arguments.prefix, file, arguments.runs))
+    headings = "What is read | Call | Git, ms | git_settings, ms | Of Git's time | Git, MB | git_settings, MB"
+    yield from ["", *table(headings, calls(measuring, arguments, folder))]
+    of_git, own = traces(arguments.git_settings, folder)
+    yield f"\nFor the key of the new repository Git calls the system {of_git} times, and git_settings {own}."
+    for name, nanoseconds, value in found:
+        yield f"\nA lookup among {SIZES[-1]:,} entries by {name}: {nanoseconds:.0f} ns, {value}"
+    yield ""
+
+
 def main():
     arguments = argparse.ArgumentParser()
     arguments.add_argument("git_settings", type=os.path.abspath)
@@ -162,6 +224,7 @@ def main():
     arguments.add_argument("--package", type=os.path.abspath)
     arguments.add_argument("--also", action="append", default=[])
     arguments.add_argument("--runs", type=int, default=5)
+    arguments.add_argument("--places", action="store_true")
     arguments = arguments.parse_args()
     if arguments.package:
         sys.path.insert(0, arguments.package)
@@ -170,23 +233,10 @@ def main():
     with tempfile.TemporaryDirectory() as folder:
         for name in ("usage", "entries"):
             run(*shlex.split(os.environ.get("CC", "cc")), "-O2", HERE / f"{name}.c", "-o", f"{folder}/{name}")
-        asked = list(commands(arguments, folder, f"{folder}/config"))
-        table = list(rows(f"{folder}/usage", asked, f"{folder}/config", arguments))
-        found = list(lookups(folder, arguments.prefix, f"{folder}/config", arguments.runs))
-        beside = list(calls(f"{folder}/usage", arguments, folder))
-        of_git, own = traces(arguments.git_settings, folder)
-    print(head(before))
-    print("| File | Program | Processor time, ms | Million entries in a second | Of Git's time |")
-    print("|---|---|---|---|---|")
-    for row in table:
-        print("| " + " | ".join(row) + " |")
-    print("\n| What is read | Call | Git, ms | git_settings, ms | Of Git's time | Git, MB | git_settings, MB |")
-    print("|---|---|---|---|---|---|---|")
-    for row in beside:
-        print("| " + " | ".join(row) + " |")
-    print(f"\nFor the key of the new repository Git calls the system {of_git} times, and git_settings {own}.")
-    for name, nanoseconds, value in found:
-        print(f"\nA lookup among {SIZES[-1]:,} entries by {name}: {nanoseconds:.0f} ns, {value}")
+        measured = [] if arguments.places else list(elsewhere(f"{folder}/usage", arguments, folder))
+        found = searches(f"{folder}/usage", arguments, folder)
+        measured += table("Place | Program | Processor time, ms | Of Git's time", found)
+    print(head(before), *measured, sep="\n")
 
 
 if __name__ == "__main__":

@@ -1,6 +1,6 @@
 """Measures how the time of the programs grows with their input.
 
-python3 growth.py CONFIG_VALUE GIT_SETTINGS CONFIG_CHECK [--runs N]
+python3 growth.py CONFIG_VALUE GIT_SETTINGS CONFIG_CHECK [--runs N] [--places]
 
 Each input is measured in turn at its size and at twice that size. The result is the least processor time of all runs,
 minus that of an empty input. A ratio near 2 says that the time grows as the input does. A long line takes less time
@@ -8,7 +8,8 @@ than the start of a process, so its input repeats it as often as the table says.
 
 The rows of includes double the number of the files that a file includes. In the rows after them the name of a section
 and the number of its keys, or the pattern of a condition and the name of the branch, are doubled both: a ratio near 4
-says that the time grows as their product.
+says that the time grows as their product. The last rows are of git_settings in the places of
+places.py, and with --places there are no others.
 """
 import argparse
 import functools
@@ -17,6 +18,8 @@ import pathlib
 import subprocess
 import sys
 import tempfile
+
+from places import PLACES, alone, including, repository
 
 
 class Given:
@@ -53,9 +56,7 @@ class Condition(Given):
     def __init__(self, pattern, branch):
         self.made, self.file = tempfile.TemporaryDirectory(), tempfile.TemporaryFile()
         self.words, self.folder = ["list", "--file", "config", "--includes"], self.made.name
-        for name in ("objects", "refs"):
-            pathlib.Path(self.folder, ".git", name).mkdir(parents=True)
-        pathlib.Path(self.folder, ".git/HEAD").write_text(f"ref: refs/heads/{branch}\n", "ascii")
+        repository(pathlib.Path(self.folder), branch)
         pathlib.Path(self.folder, "config").write_text(f'[includeIf "onbranch:{pattern}"]path=none\n', "ascii")
 
 
@@ -79,10 +80,8 @@ class Includes(Given):
     def __init__(self, count, entries):
         self.made, self.file = tempfile.TemporaryDirectory(), tempfile.TemporaryFile()
         self.words, self.folder = ["list", "--file", "config", "--includes"], self.made.name
-        text = "".join(f"\tpath = {number}\n" for number in range(count))
-        pathlib.Path(self.folder, "config").write_text("[include]\n" + text, "ascii")
-        for number in range(count):
-            pathlib.Path(self.folder, str(number)).write_text("[a]\n" + "\tb = 1\n" * entries, "ascii")
+        text = including(pathlib.Path(self.folder), count, entries)
+        pathlib.Path(self.folder, "config").write_text(text, "ascii")
 
 
 class Urls(Given):
@@ -135,8 +134,15 @@ class Parameters(Given):
     def __init__(self, count):
         self.made, self.file = tempfile.TemporaryDirectory(), tempfile.TemporaryFile()
         self.words, self.folder = ["list"], self.made.name
-        self.known = {"HOME": self.folder, "GIT_CONFIG_NOSYSTEM": "1",
-                      "GIT_CONFIG_PARAMETERS": " ".join(["'a.b=1'"] * count)}
+        self.known = alone(self.folder, GIT_CONFIG_PARAMETERS=" ".join(["'a.b=1'"] * count))
+
+
+class Searched(Given):
+    """A place of places.py."""
+
+    def __init__(self, make, size):
+        self.made, self.file = tempfile.TemporaryDirectory(), tempfile.TemporaryFile()
+        self.words, self.folder, self.known = make(pathlib.Path(self.made.name), size)
 
 
 def often(times, front, repeated, back=b""):
@@ -194,6 +200,7 @@ CHECKED = [
     ("entries, one of 100 misspelled", 100_000, Mended),
     ("the same, all renamed by `--fix`", 100_000, lambda size: Mended(size, "--fix")),
 ]
+SEARCHES = [(name, size, functools.partial(Searched, make)) for name, size, _, make in PLACES]
 
 
 def seconds(program, given):
@@ -226,12 +233,15 @@ def main():
     for name in ("config_value", "git_settings", "config_check"):
         arguments.add_argument(name, type=os.path.abspath)
     arguments.add_argument("--runs", type=int, default=15)
+    arguments.add_argument("--places", action="store_true")
     arguments = arguments.parse_args()
     print("| Input | Size | ms | Twice | ms | Ratio |")
     print("|---|---|---|---|---|---|")
-    measure(arguments.config_value, Lines(b""), LINES, arguments.runs)
-    measure(arguments.git_settings, Includes(0, 0), SETTINGS, arguments.runs)
-    measure(arguments.config_check, Unknown(b"", 0), CHECKED, arguments.runs)
+    if not arguments.places:
+        measure(arguments.config_value, Lines(b""), LINES, arguments.runs)
+        measure(arguments.git_settings, Includes(0, 0), SETTINGS, arguments.runs)
+        measure(arguments.config_check, Unknown(b"", 0), CHECKED, arguments.runs)
+    measure(arguments.git_settings, Includes(0, 0), SEARCHES, arguments.runs)
 
 
 if __name__ == "__main__":

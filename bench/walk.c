@@ -1,5 +1,6 @@
 /* walk FILE: counts the entries of a configuration file by the library for C, or with LIBGIT2 by libgit2.
-   walk FILE KEY: reads the file, and prints how many nanoseconds a lookup of this key takes then, and its value. */
+   walk FILE KEY: reads the file, and prints how many nanoseconds a lookup of this key takes then, and its value.
+   walk: counts by the library for C the entries that Git reads in the current folder. */
 #include <stdio.h>
 #include <stdlib.h>
 #include <string.h>
@@ -12,7 +13,7 @@ static git_config *config;
 
 static void open_config(const char *name)
 {
-    if (git_libgit2_init() < 0 || git_config_open_ondisk(&config, name) < 0)
+    if (!name || git_libgit2_init() < 0 || git_config_open_ondisk(&config, name) < 0)
         exit(2);
 }
 
@@ -57,8 +58,14 @@ static void prepare(const char *name)
 
 static size_t entries_of(const char *name)
 {
-    prepare(name);
-    return settings.count;
+    gcv_here here;
+    if (name) {
+        prepare(name);
+        return settings.count;
+    }
+    if (gcv_read_here(NULL, &here) != GCV_OK || here.found.outcome == GCV_REFUSES)
+        exit(2);
+    return here.settings.count;
 }
 
 static const char *value_of(const char *key)
@@ -73,7 +80,7 @@ int main(int count, char **arguments)
     enum { TIMES = 1000000 };
     struct timespec began, ended;
     const char *volatile value = NULL;
-    if (count == 2) {
+    if (count <= 2) {
         printf("%zu\n", entries_of(arguments[1]));
         return 0;
     }
