@@ -914,12 +914,11 @@ static gcv_status answer(void *state, gcv_subject subject, const char *name, cha
     return status;
 }
 
-/* A list of the scope and the name of each file that a search has found. */
-static PyObject *files_of(const gcv_found *found)
+/* A list of the scope and the name of each of these files that a search has found. */
+static PyObject *files_of(const char *at, size_t count)
 {
-    PyObject *files = PyList_New((Py_ssize_t)found->count);
-    const char *at = found->files;
-    for (size_t file = 0; files && file < found->count; file++) {
+    PyObject *files = PyList_New((Py_ssize_t)count);
+    for (size_t file = 0; files && file < count; file++) {
         PyObject *pair = Py_BuildValue("iy", (int)*at, at + 1);
         if (!pair)
             Py_CLEAR(files);
@@ -939,9 +938,10 @@ PyObject *here_found(PyObject *Py_UNUSED(module), PyObject *name)
         return NULL;
     if (gcv_find_here(folder, answer, NULL, &texts, &found) != GCV_OK)
         return PyErr_NoMemory();
-    PyObject *result = Py_BuildValue("IyyyyIyynN", (unsigned)found.outcome, found.folder, found.git_dir, found.real_git_dir,
-                                     found.branch, (unsigned)found.kind, found.reason, found.file, (Py_ssize_t)found.line,
-                                     files_of(&found));
+    PyObject *result = Py_BuildValue("IyyyyIyynNN", (unsigned)found.outcome, found.folder, found.git_dir,
+                                     found.real_git_dir, found.branch, (unsigned)found.kind, found.reason, found.file,
+                                     (Py_ssize_t)found.line, files_of(found.files, found.count),
+                                     files_of(found.of_scopes, found.scope_count));
     free(texts);
     return result;
 }

@@ -584,15 +584,20 @@ static void put_found(const gcv_raw_found *raw, const char *texts, gcv_found *ou
     out->line = raw->line;
     out->files = texts + raw->files;
     out->count = raw->count;
+    out->of_scopes = texts + raw->of_scopes;
+    out->scope_count = raw->scope_count;
 }
 
-gcv_status gcv_search(const char *folder, size_t length, const gcv_fact *facts, size_t count,
-                      char *GCV_TO buffer, size_t capacity, gcv_found *GCV_TO out)
+gcv_status gcv_begin_search(const char *folder, size_t length, gcv_search *GCV_TO out)
 {
-    static const gcv_fact none = {"", 0, "", 0, GCV_VARIABLE, 0};
+    out->memory = NULL;
+    return gcv_raw_begin_search(bytes_of(folder, length), length, out);
+}
+
+gcv_status gcv_continue_search(gcv_search *GCV_TO search, char *GCV_TO buffer, size_t capacity, gcv_found *GCV_TO out)
+{
     gcv_raw_found raw;
-    gcv_status status = gcv_raw_search(bytes_of(folder, length), length, count == 0 ? &none : facts, count,
-                                       room_of(buffer, capacity), capacity, &raw);
+    gcv_status status = gcv_raw_continue_search(search, room_of(buffer, capacity), capacity, &raw);
     if (status == GCV_NO_MEMORY) {
         return status;
     }
@@ -606,4 +611,21 @@ gcv_status gcv_search(const char *folder, size_t length, const gcv_fact *facts, 
         put_found(&raw, buffer, out);
     }
     return status;
+}
+
+gcv_status gcv_tell_fact(gcv_search *GCV_TO search, const gcv_fact *fact)
+{
+    gcv_fact told = *fact;
+    told.name = bytes_of(told.name, told.name_length);
+    told.text_length = told.has == 0 ? 0 : told.text_length;
+    told.text = bytes_of(told.text, told.text_length);
+    return gcv_raw_tell_fact(search, &told);
+}
+
+void gcv_free_search(gcv_search *search)
+{
+    if (search->memory) {
+        gcv_raw_end_search(search);
+        search->memory = NULL;
+    }
 }

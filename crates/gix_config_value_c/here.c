@@ -1,5 +1,5 @@
-/* What Git reads in a folder of this system: gcv_search by what the system tells, and the settings of the files. It has
- * an object of its own, since only programs that look for a repository need what it calls. */
+/* What Git reads in a folder of this system: a search that is told what the system says, and the settings of the
+ * files. It has an object of its own, since only programs that look for a repository need what it calls. */
 #define _DEFAULT_SOURCE
 #include "gix_config_value.h"
 #include "system.h"
@@ -9,7 +9,7 @@
 #include <stdlib.h>
 #include <string.h>
 
-enum { START = 1 << 16, LONG_START = 1 << 24, LEAST_ROOM = 4096, LEAST_FACTS = 64, MOST_WORDS = 128 };
+enum { START = 1 << 16, LONG_START = 1 << 24, LEAST_ROOM = 4096, MOST_WORDS = 128 };
 
 /* An answer: a text with memory of malloc, or null. */
 typedef struct {
@@ -201,6 +201,8 @@ static gcv_status answer_of(gcv_subject subject, const char *name, answer *out)
         return give_number(geteuid(), out);
     case GCV_HOME:
         return give_home(name, out);
+    case GCV_READABLE:
+        return access(name, R_OK) == 0 ? give_text("yes", out) : refusal(GCV_OK);
     }
     return GCV_OK;
 }
@@ -216,81 +218,84 @@ gcv_status gcv_answer(void *state, gcv_subject subject, const char *name, char *
     return status;
 }
 
-/* The facts of a search, the texts that they have, and what answers. */
-typedef struct {
-    gcv_fact *list;
-    char **texts;
-    size_t count, room;
-    gcv_answer_call *call;
-    void *state;
-} facts;
+/* A fact that a search was told, and the fact before it. The search reads both texts until it ends. */
+typedef struct told {
+    struct told *before;
+    char *text;
+    char name[];
+} told;
 
-static void forget(facts *of)
+static void forget(told *last)
 {
-    for (size_t at = 0; at < of->count; at++) {
-        free(of->texts[2 * at]);
-        free(of->texts[2 * at + 1]);
+    while (last) {
+        told *before = last->before;
+        free(last->text);
+        free(last);
+        last = before;
     }
-    free(of->list);
-    free(of->texts);
 }
 
-/* Makes room for one more fact. */
-static gcv_status make_room(facts *of)
+/* Tells a search the answer to its question, after the last fact. No file and no variable has a name with a NUL. */
+static gcv_status tell(gcv_search *search, const gcv_found *asked, gcv_answer_call *call, void *state, told **last)
 {
-    if (of->count < of->room) {
-        return GCV_OK;
-    }
-    size_t room = of->room == 0 ? LEAST_FACTS : 2 * of->room;
-    gcv_fact *list = realloc(of->list, room * sizeof *list);
-    of->list = list ? list : of->list;
-    char **texts = list ? realloc(of->texts, 2 * room * sizeof *texts) : NULL;
-    of->texts = texts ? texts : of->texts;
-    of->room = texts ? room : of->room;
-    return texts ? GCV_OK : GCV_NO_MEMORY;
-}
-
-/* Adds the answer to a question. No file and no variable has a name with a NUL. */
-static gcv_status add_answer(facts *of, gcv_subject subject, const char *asked, size_t name_length)
-{
-    char *text = NULL, *name = malloc(name_length + 1);
+    told *made = malloc(sizeof *made + asked->name_length + 1);
+    char *text = NULL;
     size_t length = 0;
-    gcv_status status = name ? make_room(of) : GCV_NO_MEMORY;
-    if (status == GCV_OK) {
-        memcpy(name, asked, name_length);
-        name[name_length] = '\0';
-        status = strlen(name) == name_length ? of->call(of->state, subject, name, &text, &length) : GCV_OK;
+    gcv_status status = GCV_OK;
+    if (!made) {
+        return GCV_NO_MEMORY;
+    }
+    made->before = *last;
+    made->text = NULL;
+    *last = made;
+    memcpy(made->name, asked->name, asked->name_length);
+    made->name[asked->name_length] = '\0';
+    if (strlen(made->name) == asked->name_length) {
+        status = call(state, asked->subject, made->name, &text, &length);
     }
     if (status != GCV_OK) {
-        free(name);
         return status;
     }
-    gcv_fact fact = {name, name_length, text ? text : "", length, subject, text != NULL};
-    of->texts[2 * of->count] = name;
-    of->texts[2 * of->count + 1] = text;
-    of->list[of->count++] = fact;
-    return GCV_OK;
+    made->text = text;
+    gcv_fact fact = {made->name, asked->name_length, text, length, asked->subject, text != NULL};
+    return gcv_tell_fact(search, &fact);
+}
+
+/* Continues a search with a buffer that grows to the length that is wanted. */
+static gcv_status go_on(gcv_search *search, char **buffer, size_t *capacity, gcv_found *out)
+{
+    gcv_status status = GCV_SHORT_BUFFER;
+    out->size = LEAST_ROOM;
+    while (status == GCV_SHORT_BUFFER) {
+        if (out->size > *capacity) {
+            char *more = realloc(*buffer, out->size);
+            if (!more) {
+                return GCV_NO_MEMORY;
+            }
+            *buffer = more;
+            *capacity = out->size;
+        }
+        status = gcv_continue_search(search, *buffer, *capacity, out);
+    }
+    return status;
 }
 
 gcv_status gcv_find_here(const char *folder, gcv_answer_call *call, void *state, char **texts, gcv_found *out)
 {
-    facts of = {NULL, NULL, 0, 0, call, state};
-    size_t capacity = LEAST_ROOM;
-    char *buffer = malloc(capacity), *more;
-    gcv_status status = buffer ? GCV_ASKS : GCV_NO_MEMORY;
-    while (status == GCV_ASKS || status == GCV_SHORT_BUFFER) {
-        status = gcv_search(folder, strlen(folder), of.list, of.count, buffer, capacity, out);
-        if (status == GCV_ASKS) {
-            gcv_status told = add_answer(&of, out->subject, out->name, out->name_length);
-            status = told == GCV_OK ? status : told;
-        } else if (status == GCV_SHORT_BUFFER) {
-            capacity = out->size;
-            more = realloc(buffer, capacity);
-            buffer = more ? more : buffer;
-            status = more ? status : GCV_NO_MEMORY;
+    gcv_search search;
+    told *last = NULL;
+    char *buffer = NULL;
+    size_t capacity = 0;
+    gcv_status status = gcv_begin_search(folder, strlen(folder), &search);
+    while (status == GCV_OK) {
+        status = go_on(&search, &buffer, &capacity, out);
+        if (status != GCV_ASKS) {
+            break;
         }
+        status = tell(&search, out, call, state, &last);
     }
-    forget(&of);
+    gcv_free_search(&search);
+    forget(last);
     if (status == GCV_OK) {
         *texts = buffer;
     } else {
@@ -316,11 +321,13 @@ const char *gcv_scope_text(gcv_scope scope)
     return "unknown scope";
 }
 
-/* What a gcv_here has memory for: the texts of the search, the sources of the settings, and why a call stopped. */
+/* What a gcv_here has memory for: the texts of the search, the sources of the settings, the name of the file of each
+ * scope, and why a call stopped. */
 typedef struct gcv_place {
     char *texts;
     const char **names;
     gcv_scope *scopes;
+    const char *of_scopes[GCV_COMMAND];
     char words[MOST_WORDS];
 } place;
 
@@ -335,34 +342,60 @@ static int is_read(gcv_scope scope, const char *name)
     return *name && !is_denied;
 }
 
-/* Names the files that the search has found, and the settings of the command: below the folder in which Git works. */
-static gcv_status take_sources(gcv_here *here)
+/* How many bytes the names of these files take below a folder whose name has this length. */
+static size_t size_of(const char *at, size_t count, size_t below)
 {
-    const gcv_found *found = &here->found;
-    size_t below = strlen(found->folder), size = 0, pointers = (found->count + 1) * sizeof(char *);
-    const char *at = found->files;
-    for (size_t file = 0; file < found->count; file++) {
+    size_t size = 0;
+    for (; count > 0; count--) {
         size_t length = strlen(at + 1);
         size += below + length + 2;
         at += length + 2;
     }
-    here->memory->names = malloc(pointers + size);
+    return size;
+}
+
+/* Puts the name of a file, which begins in the folder in which Git works, and returns the place after it. */
+static char *put_name(const char *folder, const char *file, char *name)
+{
+    size_t below = strlen(folder);
+    int is_whole = below == 0 || *file == '/' || *file == '\0';
+    const char *slash = is_whole || folder[below - 1] == '/' ? "" : "/";
+    return name + sprintf(name, "%s%s%s", is_whole ? "" : folder, slash, file) + 1;
+}
+
+/* Names the file of each scope, but for an empty name, and returns the place after the names. */
+static char *take_scopes(gcv_here *here, char *name)
+{
+    const char *at = here->found.of_scopes;
+    for (size_t file = 0; file < here->found.scope_count; file++) {
+        here->memory->of_scopes[(size_t)*at] = at[1] ? name : NULL;
+        name = put_name(here->found.folder, at + 1, name);
+        at += strlen(at + 1) + 2;
+    }
+    return name;
+}
+
+/* Names the files that the search has found, and the settings of the command: below the folder in which Git works. */
+static gcv_status take_sources(gcv_here *here)
+{
+    const gcv_found *found = &here->found;
+    size_t below = strlen(found->folder), pointers = (found->count + 1) * sizeof(char *);
+    here->memory->names = malloc(pointers + size_of(found->files, found->count, below)
+                                 + size_of(found->of_scopes, found->scope_count, below));
     here->memory->scopes = malloc((found->count + 1) * sizeof(gcv_scope));
     if (!here->memory->names || !here->memory->scopes) {
         return GCV_NO_MEMORY;
     }
-    char *name = (char *)here->memory->names + pointers;
-    at = found->files;
+    char *name = take_scopes(here, (char *)here->memory->names + pointers);
+    const char *at = found->files;
     for (size_t file = 0; file < found->count; file++) {
         gcv_scope scope = (gcv_scope)*at++;
-        int is_whole = below == 0 || *at == '/' || *at == '\0';
-        int length = sprintf(name, "%s%s%s", is_whole ? "" : found->folder,
-                             is_whole || found->folder[below - 1] == '/' ? "" : "/", at);
+        char *end = put_name(found->folder, at, name);
         at += strlen(at) + 1;
         if (is_read(scope, name)) {
             here->memory->names[here->count] = name;
             here->memory->scopes[here->count++] = scope;
-            name += length + 1;
+            name = end;
         }
     }
     here->memory->names[here->count] = NULL;
@@ -454,14 +487,7 @@ gcv_status gcv_read_here(const char *folder, gcv_here *out)
 
 const char *gcv_file_of_scope(const gcv_here *here, gcv_scope scope)
 {
-    const char *last = NULL, *first = NULL;
-    for (size_t at = 0; at < here->count; at++) {
-        if (here->scopes[at] == scope) {
-            first = last ? first : here->names[at];
-            last = here->names[at];
-        }
-    }
-    return last && access(last, R_OK) != 0 && access(first, R_OK) == 0 ? first : last;
+    return here->memory && scope >= GCV_SYSTEM && scope <= GCV_WORKTREE ? here->memory->of_scopes[scope] : NULL;
 }
 
 void gcv_free_here(gcv_here *here)

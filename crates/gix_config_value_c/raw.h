@@ -1,5 +1,6 @@
 /* The calls that are proved, which calls.c makes of the calls of the header. No pointer may be null, even if the length
- * is 0. tests/header.py compares this file with the sources. */
+ * is 0. A search that a call is given is one that has begun and has not ended, but gcv_raw_begin_search takes any.
+ * tests/header.py compares this file with the sources. */
 #ifndef GCV_RAW_H
 #define GCV_RAW_H
 
@@ -49,7 +50,7 @@ typedef struct gcv_raw_step {
     gcv_role role;
 } gcv_raw_step;
 
-/* What gcv_raw_search writes. A text is the place in the buffer at which it begins. */
+/* What gcv_raw_continue_search writes. A text is the place in the buffer at which it begins. */
 typedef struct gcv_raw_found {
     size_t folder;
     size_t git_dir;
@@ -59,6 +60,8 @@ typedef struct gcv_raw_found {
     size_t reason;
     size_t files;
     size_t count;
+    size_t of_scopes;
+    size_t scope_count;
     size_t line;
     size_t size;
     gcv_subject subject;
@@ -139,6 +142,8 @@ GCV_ASSERT(offsetof(gcv_fact, text_length) == 24);
 GCV_ASSERT(offsetof(gcv_fact, subject) == 32);
 GCV_ASSERT(offsetof(gcv_fact, has) == 36);
 GCV_ASSERT(sizeof(gcv_fact) == 40);
+GCV_ASSERT(offsetof(gcv_search, memory) == 0);
+GCV_ASSERT(sizeof(gcv_search) == 8);
 GCV_ASSERT(offsetof(gcv_raw_found, folder) == 0);
 GCV_ASSERT(offsetof(gcv_raw_found, git_dir) == 8);
 GCV_ASSERT(offsetof(gcv_raw_found, real_git_dir) == 16);
@@ -147,13 +152,15 @@ GCV_ASSERT(offsetof(gcv_raw_found, file) == 32);
 GCV_ASSERT(offsetof(gcv_raw_found, reason) == 40);
 GCV_ASSERT(offsetof(gcv_raw_found, files) == 48);
 GCV_ASSERT(offsetof(gcv_raw_found, count) == 56);
-GCV_ASSERT(offsetof(gcv_raw_found, line) == 64);
-GCV_ASSERT(offsetof(gcv_raw_found, size) == 72);
-GCV_ASSERT(offsetof(gcv_raw_found, subject) == 80);
-GCV_ASSERT(offsetof(gcv_raw_found, outcome) == 84);
-GCV_ASSERT(offsetof(gcv_raw_found, kind) == 88);
-GCV_ASSERT(offsetof(gcv_raw_found, has_branch) == 92);
-GCV_ASSERT(sizeof(gcv_raw_found) == 96);
+GCV_ASSERT(offsetof(gcv_raw_found, of_scopes) == 64);
+GCV_ASSERT(offsetof(gcv_raw_found, scope_count) == 72);
+GCV_ASSERT(offsetof(gcv_raw_found, line) == 80);
+GCV_ASSERT(offsetof(gcv_raw_found, size) == 88);
+GCV_ASSERT(offsetof(gcv_raw_found, subject) == 96);
+GCV_ASSERT(offsetof(gcv_raw_found, outcome) == 100);
+GCV_ASSERT(offsetof(gcv_raw_found, kind) == 104);
+GCV_ASSERT(offsetof(gcv_raw_found, has_branch) == 108);
+GCV_ASSERT(sizeof(gcv_raw_found) == 112);
 #undef GCV_ASSERT
 
 gcv_status gcv_raw_read_suffix(const char *text, size_t length, gcv_suffix *out, gcv_fault *fault);
@@ -189,8 +196,10 @@ gcv_status gcv_raw_next(gcv_frame *frames, size_t frames_count, size_t *count, c
                         size_t capacity, gcv_raw_step *out);
 gcv_status gcv_raw_next_plain(gcv_frame *frame, const gcv_raw_known *known, char *buffer, size_t capacity,
                               gcv_raw_step *steps, size_t steps_count, size_t *count);
-gcv_status gcv_raw_search(const char *folder, size_t folder_length, const gcv_fact *facts, size_t count, char *buffer,
-                          size_t capacity, gcv_raw_found *out);
+gcv_status gcv_raw_begin_search(const char *folder, size_t folder_length, gcv_search *out);
+gcv_status gcv_raw_tell_fact(gcv_search *search, const gcv_fact *fact);
+gcv_status gcv_raw_continue_search(gcv_search *search, char *buffer, size_t capacity, gcv_raw_found *out);
+void gcv_raw_end_search(gcv_search *search);
 gcv_status gcv_raw_list_key(const char *key, size_t length, char *buffer, size_t capacity, size_t *size);
 gcv_status gcv_raw_command_setting(const char *key, size_t key_length, const char *value, size_t value_length,
                                    char *buffer, size_t capacity, size_t *size);

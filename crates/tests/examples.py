@@ -27,7 +27,7 @@ CALLS = {
     "config_file": ("text", "get", "spell_value", "is_remote_url"),
     "config_edit": ("set", "add", "unset", "rename_section"),
     "config_url": ("last_for_url",),
-    "config_search": ("search",),
+    "config_search": ("Search",),
     "config_host": ("settings_here", "Locked"),
 }
 # the crates that use the library

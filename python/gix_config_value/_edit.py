@@ -157,8 +157,8 @@ def edit_repository(path=".", scope="local"):
         with edit_repository() as file:
             file.set("user.name", "A")
 
-    The scope is `local`, `worktree`, `global` or `system`. Raises `FileNotFoundError` if Git reads no file of the scope
-    there, as of `worktree` without its extension or outside a repository, and otherwise the errors of `edit` and
+    The scope is `local`, `worktree`, `global` or `system`. Raises `FileNotFoundError` if the scope has no file there,
+    as of `worktree` without its extension or outside a repository, and otherwise the errors of `edit` and
     `read_repository`.
     """
     return edit(_repository.file_of(os.fsdecode(path), scope))

@@ -9,9 +9,9 @@ from ._errors import InvalidFile
 # what conditions ask about a repository, in the order of a gcv_known: the path of its directory, with links and without,
 # and the branch
 Repository = namedtuple("Repository", "path real_path branch")
-# where Git works: a folder, the repository, why Git uses none although one is there, and what Git reads: the scope and
-# the name of each file
-Place = namedtuple("Place", "folder repository refusal files")
+# where Git works: a folder, the repository, why Git uses none although one is there, what Git reads: the scope and the
+# name of each file, and the file of each scope, which `git config` changes
+Place = namedtuple("Place", "folder repository refusal files of_scopes")
 
 # the numbers of a gcv_outcome, of a gcv_scope, and of where Git stops, with the codes of InvalidFile
 USES, REFUSES, STOPS = 1, 2, 3
@@ -43,14 +43,14 @@ def _stop(name, kind, reason, file, line):
 
 def find(name):
     """Where Git works if it is started in the folder of this name, and what it reads there."""
-    outcome, folder, path, real_path, branch, kind, reason, file, line, files = _core.find_here(os.fsencode(name))
+    outcome, folder, path, real_path, branch, kind, reason, file, line, *lists = _core.find_here(os.fsencode(name))
     reason = os.fsdecode(reason)
     if outcome == STOPS:
         _stop(name, kind, reason, os.fsdecode(file), line)
     folder = os.fsdecode(folder)
-    names = [(SCOPES[scope], _join(folder, os.fsdecode(file))) for scope, file in files]
+    files, of_scopes = ([(SCOPES[scope], _join(folder, os.fsdecode(file))) for scope, file in its] for its in lists)
     repository = Repository(path, real_path, branch) if outcome == USES else None
-    return Place(folder, repository, reason if outcome == REFUSES else None, names)
+    return Place(folder, repository, reason if outcome == REFUSES else None, files, dict(of_scopes))
 
 
 def _sources(files):
@@ -75,8 +75,7 @@ def file_of(name, scope):
     if scope not in SCOPES.values():
         raise ValueError(f"no file has the scope {scope!r}: {', '.join(SCOPES.values())}")
     place = find(name)
-    files = [file for its, file in place.files if its == scope and file]
-    if not files:
-        raise FileNotFoundError(errno.ENOENT, place.refusal or f"Git reads no file of the scope {scope} there", name)
-    # of the two of a user Git takes the first one only if the second one is not there
-    return files[0] if os.access(files[0], os.R_OK) and not os.access(files[-1], os.R_OK) else files[-1]
+    file = place.of_scopes.get(scope)
+    if not file:
+        raise FileNotFoundError(errno.ENOENT, place.refusal or f"Git has no file of the scope {scope} there", name)
+    return file

@@ -33,9 +33,6 @@ pub enum HostError {
     /// The system refuses an answer, or memory.
     #[error("{0}")]
     System(io::Error),
-    /// The search for what Git reads has [`MOST_FACTS`](config_search::MOST_FACTS) answers, and needs more.
-    #[error("a search for what Git reads needs too many answers")]
-    TooManyFacts,
 }
 
 impl From<io::Error> for HostError {

@@ -1,12 +1,10 @@
 //! Answers what a search asks, by this system.
-ghost use Rattle.std.specs.Prelude.{◌≡◌, ◌+◌, length, OnOk};
-
 use crate::disk::{Disk, ReadError};
 use crate::environment::{HostError, current_folder, kept_variable};
 use crate::names::{answer, known_of, known_of_link, opened_above, real_name, text_of};
 use crate::users::Users;
 use config_search as asks;
-use config_search::{Answer, Fact, Question, Stop, search};
+use config_search::{Answer, Fact, Question, Search, Stop};
 use gix_config_value::path::interpolate::home_for_user;
 use std::alloc::AllocError;
 use std::fs::{self, File, Metadata};
@@ -110,6 +108,23 @@ fn refusal_of<'t>(disk: &Disk<'t>, name: &str) -> Result<Option<&'t [u8]>, Alloc
     Ok(Some(disk.kept(words.as_bytes())?))
 }
 
+/// Whether the user may read a file of this kind. Since the system has no call that asks, a file or a folder is opened,
+/// and all else goes by its mode, so that no pipe waits for a writer.
+fn may_read(host: &HostRuntime, name: &str, known: &Metadata) -> io::Result<bool> {
+    if known.is_file() || known.is_dir() {
+        return Ok(answer(File::open(host, name))?.is_some());
+    }
+    Ok(known.mode() & 0o444 != 0)
+}
+
+/// Whether the user may read a file, as an answer.
+fn readable_of(host: &HostRuntime, name: &str) -> io::Result<Option<&'static [u8]>> {
+    match answer(fs::metadata(host, name))? {
+        Some(known) if may_read(host, name, &known)? => Ok(Some(b"yes")),
+        _ => Ok(None),
+    }
+}
+
 /// The home folder of a user.
 fn home_of<'t>(disk: &Disk<'t>, user: &str) -> Result<Option<&'t [u8]>, AllocError> {
     let Some(passwd) = Users::new(disk, b"")?.passwd else {
@@ -171,6 +186,7 @@ fn answer_named<'t>(
         asks::INCLUDED => whole_of(disk, name, false)?,
         asks::REFUSAL => refusal_of(disk, name)?,
         asks::HOME => home_of(disk, name)?,
+        asks::READABLE => readable_of(host, name)?,
         asks::OWNER => numbers_of(disk, subject, known_of_link(host, name.as_bytes())?)?,
         _ => numbers_of(disk, subject, known_of(host, name.as_bytes())?)?,
     })
@@ -183,11 +199,15 @@ fn answer_to<'t>(disk: &Disk<'t>, question: &Question) -> Result<Option<&'t [u8]
             Some(folder) => Some(disk.kept(&folder)?),
             None => None,
         }),
+        // a text of the search itself, which only has to be kept
+        asks::KEEP => Ok(None),
         asks::USER => Ok(numbers_of(disk, asks::OWNER, known_of(disk.host, b"/proc/self")?)?),
         subject => {
             let opened = opened_above(disk.host, &question.name)?;
             match text_of(&opened) {
                 Ok(name) => answer_named(disk, subject, name),
+                // no other file takes the place of one that the system does not open
+                Err(_) if subject == asks::READABLE => Ok(Some(b"yes")),
                 Err(_) => Ok(None),
             }
         }
@@ -205,23 +225,18 @@ fn fact_of<'t>(disk: &Disk<'t>, question: &Question) -> Result<Fact<'t>, HostErr
     })
 }
 
-/// Adds a fact.
-fn push<'t>(facts: &mut Vec<Fact<'t>>, fact: Fact<'t>) -> Result<(), AllocError>
-    ensures { OnOk result (length facts.new.items ≡ length facts.old.items + 1) }
-{
-    Ok(facts.push(fact)?)
-}
-
-/// What Git reads in the folder of this name. Names begin in the current folder.
-pub(crate) fn search_here<'t>(disk: &Disk<'t>, folder: &'t [u8]) -> Result<Answer, HostError> {
-    let alloc = disk.host.alloc();
-    let mut facts = Vec::new(alloc);
-    'questions: loop {
-        match search(alloc, folder, &facts) {
-            Ok(answer) => return Ok(answer),
-            Err(Stop::Ask(question)) => push(&mut facts, fact_of(disk, &question)?)?,
-            Err(Stop::TooManyFacts) => return Err(HostError::TooManyFacts),
+/// What Git reads in the folder of this name, and the search that found it. Names begin in the current folder.
+pub(crate) fn search_here<'t>(
+    disk: &Disk<'t>,
+    folder: &'t [u8],
+) -> Result<(Answer, Search<'t>), HostError> {
+    let mut search = Search::new(disk.host.alloc(), folder);
+    for _ in 0..u64::MAX {
+        match search.next() {
+            Ok(answer) => return Ok((answer, search)),
+            Err(Stop::Ask(question)) => search.tell(fact_of(disk, &question)?)?,
             Err(Stop::Memory(error)) => return Err(HostError::from(error)),
         }
     }
+    Err(HostError::from(AllocError))
 }

@@ -4,26 +4,29 @@ use crate::command::command_text;
 use crate::disk::{Disk, ReadError};
 use crate::error::HereError;
 use crate::facts::search_here;
-use crate::names::opened_above;
+use crate::names::{opened_above, path_inside};
 use crate::sources::Named;
 use crate::surroundings::FoundRepository;
 use bstr::BStr;
-use config_file::AddError;
 use config_file::errors::{FileError, FileFault};
-use config_search::{Answer, Fault, FaultKind, Outcome, Refusal, Repository};
-use std::alloc::AllocError;
+use config_file::{AddError, Scope};
+use config_search::{Answer, Fault, FaultKind, Outcome, Refusal, Repository, SETTINGS, Search};
+use std::alloc::{AllocError, Global};
 use std::io::{self, ErrorKind};
 
 /// Where Git works once it has looked for the repository of a folder.
 ///
 /// ```rust
 /// use bumpalo::Bump;
+/// use config_file::Scope;
 /// use config_host::Disk;
 /// use config_host::repository::find;
 ///
 /// let texts = Bump::new(rt.alloc());
 /// let location = find(&Disk::new(&rt, &texts), b".").expect(&rt, "a folder");
 /// assert!(rt; location.repository.is_none() && location.stop.is_none());
+/// assert!(rt; matches!(location.file_of(Scope::System), Some(name) if name.starts_with(b"/")));
+/// assert!(rt; location.file_of(Scope::Local).is_none());
 /// ```
 #[derive(Drop)]
 pub struct Location<'t> {
@@ -32,6 +35,8 @@ pub struct Location<'t> {
     pub folder: &'t [u8],
     /// The files that Git reads, whether they are there or not, in the order in which it reads them.
     pub files: Vec<Named<'t>>,
+    /// The file of each scope, which `file_of` looks up, in the same order.
+    pub of_scopes: Vec<Named<'t>>,
     /// The repository whose settings Git reads, if there is one.
     pub repository: Option<FoundRepository<'t>>,
     /// Why Git uses no repository although one is there.
@@ -47,6 +52,18 @@ impl<'t> Location<'t> {
             Some(stop) => Err(stop),
             None => Ok(self),
         }
+    }
+
+    /// The name of the file that `git config` reads and changes for a scope, by `--global` or the like. `None` if there is
+    /// none, as for the user without a home folder, or for a work tree where none has a file of its own. It is empty if a
+    /// variable gives it so, and then no file has it.
+    pub fn file_of(&self, scope: Scope) -> Option<&'t [u8]> {
+        for file in &self.of_scopes {
+            if file.scope == scope {
+                return Some(file.name);
+            }
+        }
+        None
     }
 }
 
@@ -68,16 +85,34 @@ fn kept_repository<'t>(
     })
 }
 
-/// The files that a search has found.
+/// The text of a file in a folder, if a search has read it.
+fn read_text<'t>(
+    alloc: Global,
+    search: &Search<'t>,
+    folder: &[u8],
+    name: &[u8],
+) -> Result<Option<&'t [u8]>, AllocError> {
+    let whole = path_inside(alloc, folder, name)?;
+    match search.told(SETTINGS, &whole)? {
+        Some(fact) if fact.has != 0 => Ok(Some(fact.text)),
+        _ => Ok(None),
+    }
+}
+
+/// The files that a search has found in a folder.
 fn kept_files<'t>(
     disk: &Disk<'t>,
+    search: &Search<'t>,
+    folder: &[u8],
     found: &[config_search::Named],
 ) -> Result<Vec<Named<'t>>, AllocError> {
-    let mut files = Vec::new(disk.host.alloc());
+    let alloc = disk.host.alloc();
+    let mut files = Vec::new(alloc);
     for file in found {
         files.push(Named {
             scope: file.scope,
             name: disk.kept(&file.name)?,
+            text: read_text(alloc, search, folder, &file.name)?,
         })?;
     }
     Ok(files)
@@ -143,14 +178,17 @@ fn stop_of<'t>(disk: &Disk<'t>, asked: &[u8], fault: &Fault) -> Result<HereError
 /// Names of the disk begin in the current folder. It fails if there is no such folder.
 pub fn find<'t>(disk: &Disk<'t>, name: &[u8]) -> Result<Location<'t>, HereError<'t>> {
     let name = disk.kept(name)?;
+    let (answer, search) = search_here(disk, name)?;
     let Answer {
         folder,
         outcome,
         files,
-    } = search_here(disk, name)?;
+        of_scopes,
+    } = answer;
     let mut location = Location {
         folder: disk.kept(&opened_above(disk.host, &folder)?)?,
-        files: kept_files(disk, &files)?,
+        files: kept_files(disk, &search, &folder, &files)?,
+        of_scopes: kept_files(disk, &search, &folder, &of_scopes)?,
         repository: None,
         refusal: None,
         stop: None,

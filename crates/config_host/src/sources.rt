@@ -2,7 +2,6 @@
 
 use crate::command::command_text;
 use crate::disk::Disk;
-use crate::environment::kept_variable;
 use crate::error::HereError;
 use crate::names::{answer, below, exists, known_of, path_inside, text_of};
 use crate::surroundings::FoundRepository;
@@ -11,7 +10,7 @@ use config_file::{FilePlace, Scope};
 use std::alloc::AllocError;
 use std::{fs, io};
 
-/// A file that Git reads if it is there.
+/// A file of Git, which may be there or not.
 ///
 /// ```rust
 /// use bumpalo::Bump;
@@ -32,6 +31,8 @@ pub struct Named<'t> {
     pub scope: Scope,
     /// Its name, as Git shows it.
     pub name: &'t [u8],
+    /// Its text, if the search for the repository has read it.
+    pub text: Option<&'t [u8]>,
 }
 
 /// A text that Git reads first, before it comes to what the text includes.
@@ -45,7 +46,7 @@ pub struct Named<'t> {
 ///
 /// fs::write(&rt, "source", b"[core]\n\tbare\n")?;
 /// let mut names = Vec::new(alloc);
-/// names.push(Named { scope: Scope::Local, name: b"source" })?;
+/// names.push(Named { scope: Scope::Local, name: b"source", text: None })?;
 /// let texts = Bump::new(rt.alloc());
 /// let mut settings = Settings::new(alloc);
 /// for source in &sources(&Disk::new(&rt, &texts), &names).expect(&rt, "a file that can be read") {
@@ -72,11 +73,6 @@ const COMMAND: FilePlace<'static> = FilePlace {
     name: b"command line",
     real_dir: b"\0",
 };
-
-/// The name of the file of the system, which may be empty.
-pub fn system_name<'t>(disk: &Disk<'t>) -> Result<&'t [u8], AllocError> {
-    Ok(kept_variable(disk, "GIT_CONFIG_SYSTEM")?.unwrap_or(b"/etc/gitconfig"))
-}
 
 /// Whether a folder of the work trees of a repository has one: it has the name of the file `.git` of that tree.
 fn is_worktree(host: &HostRuntime, folder: &str) -> io::Result<bool> {
@@ -114,52 +110,14 @@ pub fn is_there(disk: &Disk<'_>, name: &[u8]) -> io::Result<bool> {
     }
 }
 
-/// The file of this scope among those that Git reads in a place, which `git config --global` or the like changes: the
-/// last one, unless only one before it is there. `None` if Git reads none of the scope there. It fails if the system
-/// does not say whether a file is there.
-///
-/// ```rust
-/// use bumpalo::Bump;
-/// use config_file::Scope;
-/// use config_host::Disk;
-/// use config_host::sources::{Named, file_of_scope};
-/// use std::fs;
-///
-/// fs::write(&rt, "first", b"")?;
-/// let mut files = Vec::new(alloc);
-/// files.push(Named { scope: Scope::Global, name: b"first" })?;
-/// files.push(Named { scope: Scope::Global, name: b"missing" })?;
-/// let texts = Bump::new(rt.alloc());
-/// let disk = Disk::new(&rt, &texts);
-/// let file = file_of_scope(&disk, &files, Scope::Global)?;
-/// assert!(rt; matches!(file, Some(file) if file.name == b"first".as_slice()));
-/// assert!(rt; file_of_scope(&disk, &files, Scope::Local)?.is_none());
-/// ```
-pub fn file_of_scope<'t>(
-    disk: &Disk<'t>,
-    files: &[Named<'t>],
-    scope: Scope,
-) -> io::Result<Option<Named<'t>>> {
-    let mut found: Option<Named<'t>> = None;
-    for named in files {
-        if named.scope != scope {
-            continue;
-        }
-        let keeps = match found {
-            Some(earlier) => is_there(disk, earlier.name)? && !is_there(disk, named.name)?,
-            None => false,
-        };
-        if !keeps {
-            found = Some(*named);
-        }
-    }
-    Ok(found)
-}
-
 /// Reads a file. It is not read if it is not there, or if the user of this program may not read a file of the
 /// user.
 fn read_source<'t>(disk: &Disk<'t>, named: Named<'t>) -> Result<Option<Source<'t>>, HereError<'t>> {
-    match disk.first(named.name) {
+    let read = match named.text {
+        Some(text) => Ok((disk.place(named.name)?, text)),
+        None => disk.first(named.name),
+    };
+    match read {
         Ok((place, text)) => Ok(Some(Source {
             scope: named.scope,
             place,

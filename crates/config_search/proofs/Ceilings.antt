@@ -1,67 +1,56 @@
--- Texts between colons, read from left to right.
-use Rattle.std.proofs.Common.{◌≡◌, ◌≤◌, ◌<◌, ◌+◌, ◌-◌, ℕ, Bool, Bor, List, [], ◌∷◌, ◌++◌, length, take, drop, get_or, slice_range, arith, add-one, inl, inr, refl, length-drop, drop-cons, ◌∙◌, sym, ap, append_assoc, map}
-use Rattle.std.proofs.Math.Seq.{take-suc}
-use Rattle.std.proofs.lemmas.List.{get_or-drop, map-append}
+-- Texts between colons, one after the other.
+use Rattle.std.proofs.Common.{◌≡◌, ◌∙◌, ◌+◌, ◌-◌, ◌<◌, ◌≤◌, ℕ, Bool, List, None, Some, [], ◌∷◌, ◌++◌, append-nil, append_assoc, ap, arith, drop, get_or, inl, inr, length, refl, suc, sym, take}
+use Rattle.std.specs.List.{prefix_len}
 use Rattle.std.proofs.lemmas.Bool.Decides.{eqb_tells}
 use Rattle.std.proofs.lemmas.Grind.{common_steps}
 use Rattle.config_search.specs.System.{System}
-use Rattle.config_search.specs.Search.{ceiling, ceilings_in, counts}
+use Rattle.config_search.specs.Search.{ceiling, ceilings_in, ceilings_left, counts, is_no_colon}
 
--- at a colon a part ends
-pub at_colon : (system : System) (resolves : Bool) (part more rest : List ℕ) (b : ℕ) → more ≡ b ∷ rest → b ≡ 58
-    → ceilings_in system resolves part more
-    ≡ ceiling system (counts resolves part) part ∷ ceilings_in system (counts resolves part) [] rest
-at_colon system resolves part more rest b e colon = rw (e, colon) refl
+-- what a text after a part comes to, which begins with a colon
+abbrev behind : System → Bool → List ℕ → List (List ℕ)
+behind system resolves [] = []
+behind system resolves (b ∷ rest) = ceilings_in system resolves [] rest
 
--- another byte goes to the part
-pub at_other : (system : System) (resolves : Bool) (part more rest : List ℕ) (b : ℕ) → more ≡ b ∷ rest → (b ≡ 58 → ⊥)
-    → ceilings_in system resolves part more ≡ ceilings_in system resolves (part ++ (b ∷ [])) rest
-at_other system resolves part more rest b e apart =
-    elim (eqb_tells b 58) [ inl w ↦ absurd (apart w.1) | inr w ↦ rw (e, w.0) refl ]
+-- this part, and what comes after it
+abbrev part_and : System → Bool → List ℕ → List ℕ → List (List ℕ)
+part_and system resolves part rest =
+    ceiling system (counts resolves part) part ∷ behind system (counts resolves part) rest
 
--- what is left of a text begins with its byte at that index
-pub left : (text : List ℕ) (i : ℕ) → i < length text → drop i text ≡ get_or text i 0 ∷ drop (i + 1) text
-left text i within = rw (add-one, drop-cons text i 0) refl
+-- the first part of a text, of which these bytes are read already
+pub first_part : (system : System) (resolves : Bool) (front text : List ℕ) → ceilings_in system resolves front text
+    ≡ part_and system resolves (front ++ take (prefix_len is_no_colon text) text) (drop (prefix_len is_no_colon text) text)
+first_part system resolves front [] = rw (append-nil front) refl
+first_part system resolves front (b ∷ rest) = elim (eqb_tells b 58) [
+  | inl colon ↦ rw (colon.0, append-nil front) refl
+  | inr other ↦
+      let n = prefix_len is_no_colon rest in
+      let one : 1 + n ≡ suc n = omega arith in
+      rw (other.0, one) (first_part system resolves (front ++ b ∷ []) rest
+      ∙ ap (λ (part : List ℕ). part_and system resolves part (drop n rest)) (append_assoc front (b ∷ []) (take n rest)))
+]
 
--- a range with one more byte
-pub longer : (text : List ℕ) (start i : ℕ) → start ≤ i → i < length text
-    → slice_range text start (i + 1) ≡ slice_range text start i ++ (get_or text i 0 ∷ [])
-longer text start i low high =
-    let rest = drop start text in
-    let one : i + 1 - start ≡ (i - start) + 1 = omega arith in
-    let place : start + (i - start) ≡ i = omega arith in
-    let size = length-drop start text in
-    let within : i - start < length rest = omega arith in
-    let byte : get_or rest (i - start) 0 ≡ get_or text i 0 = get_or-drop start text (i - start) 0 ∙ ap (λ (n : ℕ). get_or text n 0) place in
-    rw (one, add-one) (take-suc rest (i - start) 0 within ∙ ap (λ (b : ℕ). take (i - start) rest ++ (b ∷ [])) byte)
+-- a text that is one part alone
+pub last_part : (system : System) (resolves : Bool) (text part rest : List ℕ)
+    → part ≡ take (prefix_len is_no_colon text) text → rest ≡ drop (prefix_len is_no_colon text) text → rest ≡ []
+    → ceilings_in system resolves [] text
+    ≡ ceiling system (counts resolves part) part ∷ ceilings_left system (counts resolves part) None
+last_part system resolves text part rest is then none = first_part system resolves [] text
+    ∙ ap (λ (p : List ℕ). part_and system resolves p (drop (prefix_len is_no_colon text) text)) (sym is)
+    ∙ ap (λ (r : List ℕ). part_and system resolves part r) (sym then ∙ none)
 
--- an empty range
-pub no_range : (text : List ℕ) (i : ℕ) → slice_range text i i ≡ []
-no_range text i = grind (arith, common_steps)
+-- and one with more after its colon
+pub more_parts : (system : System) (resolves : Bool) (text part rest more : List ℕ) (b : ℕ)
+    → part ≡ take (prefix_len is_no_colon text) text → rest ≡ drop (prefix_len is_no_colon text) text → rest ≡ b ∷ more
+    → ceilings_in system resolves [] text
+    ≡ ceiling system (counts resolves part) part ∷ ceilings_left system (counts resolves part) (Some more)
+more_parts system resolves text part rest more b is then goes = first_part system resolves [] text
+    ∙ ap (λ (p : List ℕ). part_and system resolves p (drop (prefix_len is_no_colon text) text)) (sym is)
+    ∙ ap (λ (r : List ℕ). part_and system resolves part r) (sym then ∙ goes)
 
--- after a colon one more folder is found
-pub at_part : (system : System) (text : List ℕ) (start i : ℕ) (resolves now_counts : Bool) (all : List (List ℕ))
-    (found after : List (Bor (List ℕ))) (at : Bor (List ℕ)) → i < length text → get_or text i 0 ≡ 58
-    → now_counts ≡ counts resolves (slice_range text start i)
-    → at.now ≡ ceiling system now_counts (slice_range text start i) → after ≡ found ++ at ∷ []
-    → all ≡ map (λ c. c.now) found ++ ceilings_in system resolves (slice_range text start i) (drop i text)
-    → all ≡ map (λ c. c.now) after ++ ceilings_in system now_counts (slice_range text (i + 1) (i + 1)) (drop (i + 1) text)
-at_part system text start i resolves now_counts all found after at within colon known named made is =
-    let part = slice_range text start i in
-    let rest = drop (i + 1) text in
-    let step = at_colon system resolves part (drop i text) rest (get_or text i 0) (left text i within) colon in
-    let then : ceilings_in system resolves part (drop i text) ≡ at.now ∷ ceilings_in system now_counts [] rest =
-    rw (named, known) step in
-    rw (made, no_range text (i + 1), map-append (λ c. c.now) found (at ∷ []))
-    (is ∙ ap (λ (t : List (List ℕ)). map (λ c. c.now) found ++ t) then
-    ∙ sym (append_assoc (map (λ c. c.now) found) (at.now ∷ []) (ceilings_in system now_counts [] rest)))
+pub empty_of : (text : List ℕ) → length text < 1 → text ≡ []
+empty_of [] below = refl
+empty_of (b ∷ rest) below = absurd (omega (arith, below))
 
--- any other byte is one more of the part
-pub at_byte : (system : System) (text : List ℕ) (start i : ℕ) (resolves : Bool) (all found : List (List ℕ))
-    → start ≤ i → i < length text → (get_or text i 0 ≡ 58 → ⊥)
-    → all ≡ found ++ ceilings_in system resolves (slice_range text start i) (drop i text)
-    → all ≡ found ++ ceilings_in system resolves (slice_range text start (i + 1)) (drop (i + 1) text)
-at_byte system text start i resolves all found low within apart is =
-    is ∙ ap (λ (t : List (List ℕ)). found ++ t)
-    (at_other system resolves (slice_range text start i) (drop i text) (drop (i + 1) text) (get_or text i 0) (left text i within) apart
-    ∙ ap (λ (p : List ℕ). ceilings_in system resolves p (drop (i + 1) text)) (sym (longer text start i low within)))
+pub split_first : (text : List ℕ) → 1 ≤ length text → text ≡ get_or text 0 0 ∷ take (length text - 1) (drop 1 text)
+split_first [] some = absurd (omega (arith, some))
+split_first (b ∷ rest) some = grind (arith, common_steps)

@@ -1,12 +1,15 @@
 pub mod Among
 pub mod Ceilings
 pub mod Covers
+pub mod FirstFacts
 pub mod Lists
 pub mod Names
 pub mod OneAnswer
 pub mod Parts
 pub mod Places
+pub mod Readings
 pub mod Spelled
 pub mod Stores
 pub mod Trusted
 pub mod Unchangeable
+pub mod StageSteps

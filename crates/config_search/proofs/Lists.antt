@@ -1,9 +1,13 @@
 -- Lists of files that are added one after the other.
-use Rattle.std.proofs.Common.{◌≡◌, ◌∙◌, ◌++◌, ℕ, Bool, Option, List, [], None, true, ap, sym, codes, append_assoc}
+use Rattle.std.proofs.Common.{◌≡◌, ◌∙◌, ◌++◌, ◌≤◌, ℕ, Bool, Option, List, [], ◌∷◌, None, Some, true, ap, refl, sym, arith, codes, length, map, append_assoc, get_or}
 use Rattle.config_search.specs.System.{System}
-use Rattle.config_search.specs.Files.{File, AreFiles, IsOfSystem, file, files_of_user, in_home, in_xdg, of_repository_in, of_user_by, shown_in}
+use Rattle.config_search.specs.Names.{inside}
+use Rattle.config_search.specs.Rule.{is_word}
+use Rattle.config_search.specs.Shown.{file_of}
+use Rattle.config_search.specs.Files.{File, AreFiles, IsOfSystem, can_read, file, files_of_user, in_home, in_xdg, of_repository_in, of_user_by, one_of_home, or_readable, shown_in}
+use Rattle.config_search.specs.declared.answer.Named.{Named}
 use Rattle.config_file.specs.declared.scope.Scope.TheVariants.{Local as of_repository, Worktree as of_tree}
-use Rattle.config_search.specs.declared.TheConstants.{VARIABLE}
+use Rattle.config_search.specs.declared.TheConstants.{VARIABLE, READABLE}
 
 pub two_more : (before between after first second : List File) → between ≡ before ++ first → after ≡ between ++ second
     → after ≡ before ++ (first ++ second)
@@ -39,3 +43,17 @@ pub with_others : (system : System) (before after others : List File)
     → after ≡ before ++ others → AreFiles system others after
 with_others system before after others (first, is, at) then =
     (first, is, then ∙ ap (λ (files : List File). files ++ others) at)
+
+pub first_read : (system : System) (folder : List ℕ) (names : List Named) (it : Named) (can : Bool)
+    (answer : Option (List ℕ)) → 1 ≤ length names → it ≡ get_or names 0 it → can ≡ is_word (codes "yes") answer
+    → answer ≡ system READABLE (inside folder it.name.items) → can ≡ can_read system folder (map file_of names)
+first_read system folder [] it can answer some is word told = absurd (omega (arith, some))
+first_read system folder (name ∷ names) it can answer some is word told = rw (sym is) (rw word (rw told refl))
+
+pub one_home : (system : System) (folder home : List ℕ) (xdg : Option (List ℕ)) (own others files : List File)
+    → own ≡ in_home (Some home) (codes ".gitconfig") → xdg ≡ system VARIABLE (codes "XDG_CONFIG_HOME")
+    → others ≡ in_xdg (Some home) xdg → files ≡ or_readable system folder own others
+    → files ≡ one_of_home system folder (Some home)
+one_home system folder home xdg own others files at there is then =
+    then ∙ ap (λ (list : List File). or_readable system folder list others) at
+    ∙ ap (or_readable system folder (in_home (Some home) (codes ".gitconfig"))) (is ∙ ap (in_xdg (Some home)) there)

@@ -1,9 +1,9 @@
 -- The places to which what the rule finds leads.
-use Rattle.std.proofs.Common.{◌≡◌, ◌≢◌, ◌⊎◌, ◌<◌, ◌∙◌, arith, get_or, ℕ, Bool, List, [], Option, None, Some, true, false, if◌then◌else◌, inl, inr, is_some, length, codes, ◌==◌, sym, refl, subst}
+use Rattle.std.proofs.Common.{◌≡◌, ◌≢◌, ◌⊎◌, arith, ℕ, Bool, List, [], Option, None, Some, true, false, if◌then◌else◌, inl, inr, is_some, length, codes, ◌==◌, sym, refl, subst}
 use Rattle.std.proofs.lemmas.Bool.Decides.{nat_tests}
-use Rattle.config_search.specs.System.{System, AreTrueIn, answer_of}
-use Rattle.config_search.specs.Names.{inside, folder_of, parent_of, front_len, line}
-use Rattle.config_search.specs.Rule.{Common, Own, Linked, Broken, Form, GitDir, IsGiven, IsBelow, given_in, given_or, linked, linked_by, linked_folder, linked_or, common_of, has_folder, real_folder, find_below, find_bare, find_in, is_git_dir, or_else}
+use Rattle.config_search.specs.System.{System, answer_of}
+use Rattle.config_search.specs.Names.{inside, parent_of, front_len}
+use Rattle.config_search.specs.Rule.{Own, Linked, Broken, Form, GitDir, IsGiven, IsBelow, given_in, given_or, linked, linked_by, linked_folder, linked_or, common_of, real_folder, find_below, find_bare, find_in, or_else}
 use Rattle.config_search.specs.Search.{Sought, Nowhere, Inside, Refused, or_refused, Above, at_root, at_end, is_there, is_further, Seeks, by_variable, in_start, in_above, without_path}
 use Rattle.config_search.specs.Questions as places
 use Rattle.config_search.specs.Questions.{Comes}
@@ -11,7 +11,7 @@ use Rattle.config_search.specs.Shown.{common_of as shown_common, folder_in}
 use Rattle.config_search.specs.declared.fact.Fact.{Fact}
 use Rattle.config_search.specs.declared.git_dir.Common.{Common as CommonFolder}
 use Rattle.config_search.specs.declared.git_dir.Common.TheVariants.{Own as SharesNone, Linked as Shared, Broken as SharesBroken}
-use Rattle.config_search.specs.declared.TheConstants.{VARIABLE, CURRENT, KIND, REAL, TEXT, DEVICE}
+use Rattle.config_search.specs.declared.TheConstants.{VARIABLE, CURRENT, KIND, REAL, TEXT}
 
 -- what the file commondir of a place names
 
@@ -157,13 +157,6 @@ sought_place system folder start begins (without_path unset none real is) = rw i
 
 answers : (fact : Fact) → fact.has ≢ 0 → answer_of fact ≡ Some fact.text.now
 answers fact has = grind (arith, nat_tests)
-
-pub device_place : (system : System) (folder : List ℕ) (facts : List Fact) (k : ℕ) (d : Fact) → AreTrueIn system facts
-    → k < length facts → (get_or facts k d).subject ≡ DEVICE → (get_or facts k d).has ≢ 0
-    → Comes system folder (get_or facts k d).name.now
-device_place system folder facts k d agrees within is has =
-    let said : system (get_or facts k d).subject (get_or facts k d).name.now ≡ answer_of (get_or facts k d) = agrees k d within in
-    places.on_device (rw is at said ∙ answers (get_or facts k d) has)
 
 -- the folder that a git directory shares by its file
 

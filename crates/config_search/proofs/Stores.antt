@@ -1,9 +1,10 @@
 -- How references are stored, where settings or a variable may say it.
-use Rattle.std.proofs.Common.{List, Option, None, Some, IfSome}
+use Rattle.std.proofs.Common.{◌≡◌, ℕ, Bor, List, Option, None, Some, IfSome, option_copied, sym}
 use Rattle.std.specs.Prelude.{unwrap_or}
 use Rattle.config_search.specs.System.{System, AreTrueIn}
-use Rattle.config_search.specs.Questions.{MayName}
+use Rattle.config_search.specs.Questions.{MayName, by_settings}
 use Rattle.config_search.specs.Shown.{IsStore}
+use Rattle.config_search.specs.declared.TheConstants.{SETTINGS}
 use Rattle.config_search.specs.declared.fact.Fact.{Fact}
 use Rattle.config_search.specs.declared.format.Store.{Store}
 
@@ -24,3 +25,9 @@ pub either_store : (facts : List Fact) (given : Option Store) (own : Store) → 
     → IsStore facts own → IsStore facts (unwrap_or given own)
 either_store facts None own given is = is
 either_store facts (Some store) own given is = given
+
+-- a file of settings that is read may name a place
+pub if_read : (system : System) (name : List ℕ) (text : Option (Bor (List ℕ))) → option_copied text ≡ system SETTINGS name
+    → IfSome text (λ t. MayName system)
+if_read system name None is = tt
+if_read system name (Some text) is = by_settings (sym is)

@@ -1,13 +1,15 @@
 -- Folders that settings name as safe, one setting after the other, and what is done in one that is trusted.
-use Rattle.std.proofs.Common.{◌≡◌, ◌<◌, ◌+◌, ◌∷◌, ◌++◌, [], ℕ, Bool, List, None, inl, inr, true, Decides, IfOk, MatchResult, Result, Ok, Err, codes, length, refl, slice_index_or, subst, sym, take}
+use Rattle.std.proofs.Common.{◌≡◌, ◌+◌, ◌∷◌, ◌++◌, [], ℕ, Bool, List, Some, inl, inr, true, Decides, codes, refl, subst, take}
+use Rattle.std.specs.List.{slice_get}
+use Rattle.std.proofs.lemmas.Option.{slice_get_within}
 use Rattle.std.proofs.lemmas.Bool.Decides.{Decides-like}
-use Rattle.std.proofs.lemmas.List.{same_from_push, take_more}
-use Rattle.config_file.specs.Key.{Key, HasKey, IsKey, RefusesKey, key}
+use Rattle.std.proofs.lemmas.List.{same_from_push}
+use Rattle.config_file.specs.Key.{Key, HasKey, IsKey, key}
 use Rattle.config_file.specs.Settings.{path_bytes}
 use Rattle.config_file.specs.Views.{entry_of}
-use Rattle.config_file.specs.declared.key.KeyError.{KeyError}
 use Rattle.config_file.specs.declared.settings.Setting.{Setting}
-use Rattle.config_file.proofs.OneKey.{cut_same, not_both}
+use Rattle.config_file.proofs.OneKey.{cut_same}
+use Rattle.config_file.proofs.Picked.{take_next}
 use Rattle.config_search.specs.System.{System}
 use Rattle.config_search.specs.Trust.{AreSafe, named, kept, NamesFolder, SaysSafe}
 use Rattle.config_search.specs.Shown.{IsSafeAfter}
@@ -38,13 +40,13 @@ last_of {system} {start} {folder} {key} settings setting was_safe e before (kept
       subst (λ (s : Setting). ¬ (HasKey (entry_of s.entry) key × (path_bytes s ≡ []))) same other,
     )
 
-pub one_more : (system : System) (start folder : List ℕ) (key : Key) (settings : List Setting) (i : ℕ)
-    (setting : Setting) (was_safe is_safe : Bool) → i < length settings → setting ≡ slice_index_or settings i setting
+one_more : (system : System) (start folder : List ℕ) (key : Key) (settings : List Setting) (i : ℕ)
+    (setting : Setting) (was_safe is_safe : Bool) → slice_get settings i ≡ Some setting
     → Decides was_safe (AreSafe system start folder key (take i settings))
     → Decides is_safe (IsSafeAfter system start folder key setting was_safe)
     → Decides is_safe (AreSafe system start folder key (take (i + 1) settings))
-one_more system start folder key settings i setting was_safe is_safe within same before is =
-    rw (take_more settings i setting within, sym same) (Decides-like is_safe (λ after. elim after [
+one_more system start folder key settings i setting was_safe is_safe same before is =
+    rw (take_next settings i setting same (slice_get_within settings i setting same)) (Decides-like is_safe (λ after. elim after [
       | inl (has, names) ↦ named (take i settings) setting has names
       | inr (was, other) ↦ kept setting other (before.0 was)
     ]) (last_of (take i settings) setting was_safe refl before) is)
@@ -63,25 +65,19 @@ after_named system start folder key setting was_safe is has fails = Decides-like
       | inr (was, other) ↦ absurd (fails (was, λ empty. other (has, empty)))
     ])
 
--- the key of the settings that name safe folders
-is_key : IsKey (codes "safe.directory") (key (codes "safe") None (codes "directory"))
-is_key = record {
-  cut = record { joined = refl; section = refl; name = refl };
-  accepted = record { some_section = refl; section = refl; subsection = refl; name = refl };
-}
+-- what settings with this key say
+all_with : (system : System) (start folder : List ℕ) (settings : List Setting) (key : Key) → IsKey (codes "safe.directory") key
+    → SaysSafe system start folder settings → AreSafe system start folder key settings
+all_with system start folder settings key is_key (other, also, safe) =
+    subst (λ (k : Key). AreSafe system start folder k settings) (cut_same also.cut is_key.cut) safe
 
-pub not_refused : {error : KeyError} → RefusesKey (codes "safe.directory") error → ⊥
-not_refused refuses = not_both is_key refuses
-
-pub says_by : (system : System) (start folder : List ℕ) (settings : List Setting) (key : Key) (is : Bool)
-    → IsKey (codes "safe.directory") key → Decides is (AreSafe system start folder key settings)
-    → Decides is (SaysSafe system start folder settings)
-says_by system start folder settings key is is_key = Decides-like is (λ safe. (key, is_key, safe))
-    (λ (other, also, safe). subst (λ (k : Key). AreSafe system start folder k settings)
-    (cut_same also.cut is_key.cut) safe)
-
--- what a result says, if there is one
-pub if_ok : {A B : Type 0} {P Q : A → Type 0} (N : B → Type 0) (result : Result A B) → ((a : A) → P a → Q a)
-    → MatchResult result P N → IfOk result Q
-if_ok N (Ok a) then is = then a is
-if_ok N (Err b) then is = tt
+-- whether the folder is safe by one more setting
+pub next_says : (system : System) (start folder : List ℕ) (settings : List Setting) (i : ℕ) (setting : Setting) (key : Key)
+    (was_safe is_safe : Bool) → slice_get settings i ≡ Some setting → IsKey (codes "safe.directory") key
+    → Decides was_safe (SaysSafe system start folder (take i settings))
+    → Decides is_safe (IsSafeAfter system start folder key setting was_safe)
+    → Decides is_safe (SaysSafe system start folder (take (i + 1) settings))
+next_says system start folder settings i setting key was_safe is_safe same is_key before is =
+    Decides-like is_safe (λ safe. (key, is_key, safe)) (all_with system start folder (take (i + 1) settings) key is_key)
+    (one_more system start folder key settings i setting was_safe is_safe same
+    (Decides-like was_safe (all_with system start folder (take i settings) key is_key) (λ safe. (key, is_key, safe)) before) is)

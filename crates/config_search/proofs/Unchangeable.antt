@@ -1,19 +1,14 @@
 -- The settings that no repository can change, one after the other.
-use Rattle.std.proofs.Common.{◌≡◌, ◌<◌, ◌+◌, ◌-◌, ◌++◌, ◌∷◌, ◌||◌, ◌==◌, [], ℕ, Bool, List, Ok, inl, inr, true, false, if◌then◌else◌, map, take, drop, length, slice_index_or, codes, sym}
-use Rattle.std.proofs.lemmas.List.{map-append, take_more}
+use Rattle.std.proofs.Common.{◌≡◌, ◌-◌, ◌++◌, ◌||◌, ◌==◌, [], ℕ, Bool, List, Ok, inl, inr, true, false, if◌then◌else◌, drop, length, codes}
 use Rattle.std.proofs.lemmas.List.Elements.{All-nil}
-use Rattle.config_file.specs.Reading.Adds.{Within}
 use Rattle.config_file.specs.Settings.{AreListed}
 use Rattle.config_file.specs.declared.settings.Setting.{Setting}
 use Rattle.config_file.specs.declared.walk.Known.{Known}
 use Rattle.config_file.proofs.OneAddition.{walk_keeps_listed}
-use Rattle.config_search.specs.System.{System, AreTrueIn}
+use Rattle.config_search.specs.System.{System}
 use Rattle.config_search.specs.Names.{begins, ends_with_slash, inside}
 use Rattle.config_search.specs.Files.{File}
 use Rattle.config_search.specs.Protected.{Holds, AddsText, AddsFile, AreIn, no_file, one_file, AreProtected}
-use Rattle.config_search.specs.Shown.{MayHold, file_of}
-use Rattle.config_search.specs.declared.answer.Named.{Named}
-use Rattle.config_search.specs.declared.fact.Fact.{Fact}
 use Rattle.config_search.proofs.Names.{drop_front}
 
 end_by : (is_whole ends : Bool) (folder name : List ℕ)
@@ -27,22 +22,6 @@ end_by false false folder name = drop_front (folder ++ codes "/") name
 pub end_of_inside : (folder name : List ℕ) → drop (length (inside folder name) - length name) (inside folder name) ≡ name
 end_of_inside folder name =
     end_by (begins (codes "/") name || (length folder == 0)) (ends_with_slash folder) folder name
-
--- what facts let a file hold it may hold in each system in which they are true
-pub in_system : (facts : List Fact) (system : System) (start : List ℕ) → AreTrueIn system facts
-    → Within (MayHold facts start) (Holds system start)
-in_system facts system start agrees name content may = elim may [
-  | inl holds ↦ holds system agrees
-  | inr none ↦ rw none tt
-]
-
-pub one_more : (system : System) (start : List ℕ) (known : Known) (files : List Named) (i : ℕ) (file : Named)
-    (old new : List Setting) → i < length files → file ≡ slice_index_or files i file
-    → AreIn system start known (map file_of (take i files)) old → AddsFile system start known (file_of file) old new
-    → AreIn system start known (map file_of (take (i + 1) files)) new
-one_more system start known files i file old new within is are adds =
-    rw (take_more files i file within, map-append file_of (take i files) (slice_index_or files i file ∷ []), sym is)
-    (one_file (file_of file) are adds)
 
 text_listed : (system : System) (start : List ℕ) (known : Known) (name text : List ℕ) (old new : List Setting)
     → AddsText system start known name text old new → AreListed old → AreListed new

@@ -7,7 +7,7 @@ use Rattle.std.specs.Prelude.{◌≡◌, ◌⊎◌, ℕ, List, [], Option, None,
 use Rattle.config_search.specs.System.{System}
 use Rattle.config_search.specs.Rule.{GitDir, IsBare, Common, Own, Linked, Broken, or_itself, resolved, common_of}
 use Rattle.config_search.specs.Search.{Sought, Nowhere, Inside, Refused, OnlySeeks, path_of, start_of}
-use Rattle.config_search.specs.Files.{File, AreOnlyFiles, of_repository_in}
+use Rattle.config_search.specs.Files.{File, AreOnlyFiles, files_of_scopes, of_repository_in}
 use Rattle.config_search.specs.Trust.{IsTrusted, IsUntrusted}
 use Rattle.config_search.specs.Shown.{file_of}
 use Rattle.config_search.specs.declared.answer.Answer.{Answer}
@@ -86,11 +86,6 @@ abbrev pub IsOfBareOne : Refusal → Type 0
 IsOfBareOne refusal = (system : System) (start : List ℕ) (sought : Sought) → IsBareThere sought
     → RefusesIt system start sought refusal
 
--- one that Git does not trust is refused for that
-abbrev pub IsOfOtherOne : Refusal → Type 0
-IsOfOtherOne refusal = (system : System) (start : List ℕ) (sought : Sought) → IsOfOther system start sought
-    → RefusesIt system start sought refusal
-
 -- what Git does with what it finds where it starts in a folder
 abbrev pub Tells : System → List ℕ → Sought → Outcome → Type 0
 Tells system start sought (Uses repository) = UsesIt system start sought repository
@@ -122,3 +117,4 @@ abbrev pub Answers : System → List ℕ → Answer → Type 0
 Answers system folder answer =
     Does system (start_of folder) (path_of system (start_of folder)) answer.outcome
     × AreOnlyFiles system (files_of answer.outcome) (map file_of answer.files.items)
+    × (map file_of answer.of_scopes.items ≡ files_of_scopes system answer.folder.items (files_of answer.outcome))

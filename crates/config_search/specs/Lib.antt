@@ -9,4 +9,6 @@ pub mod Trust
 pub mod Questions
 pub mod Shown
 pub mod Answers
+pub mod Reading
+pub mod Stages
 pub mod Layouts

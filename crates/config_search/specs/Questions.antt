@@ -1,9 +1,9 @@
 -- Which questions a search may ask: about variables, and about files in the places to which it comes.
 --
 -- Look for: a place is a folder or a link to which the folder asked about, an answer or a variable leads. The names of
--- `SETTINGS`, `INCLUDED`, `REFUSAL`, `REAL` and `HOME` are free, since settings give them, whose values are unquoted.
--- So is the folder of references where settings or GIT_REFERENCE_BACKEND may name it, and the name of a reference as far
--- as it stays below that folder. A folder whose device is told is a place too, even if nobody asked for it.
+-- `SETTINGS`, `INCLUDED`, `REFUSAL`, `REAL`, `HOME` and `READABLE` are free, since settings or variables give them, whose
+-- values are unquoted, and that of `KEEP` is a text that the search makes. So is the folder of references free where
+-- settings or GIT_REFERENCE_BACKEND may name it, and the name of a reference as far as it stays below that folder.
 use Rattle.std.specs.Prelude.{◌≡◌, ℕ, Bool, true, false, List, [], ◌∷◌, ◌++◌, Some, ◌==◌, ◌||◌, ◌&&◌, codes, decimal}
 use Rattle.std.specs.Str.{bytes_eq}
 use Rattle.bstr.specs.Text.{Contains}
@@ -12,7 +12,7 @@ use Rattle.config_search.specs.Names.{begins, inside, opened, folder_of, line}
 use Rattle.config_search.specs.Rule.{given_in, linked}
 use Rattle.config_search.specs.Search.{start_of}
 use Rattle.config_search.specs.declared.fact.Fact.{Fact}
-use Rattle.config_search.specs.declared.TheConstants.{VARIABLE, CURRENT, KIND, LEADS, LINK, REAL, TEXT, BLOCK, SETTINGS, INCLUDED, REFUSAL, DEVICE, IDENTITY, OWNER, USER, HOME}
+use Rattle.config_search.specs.declared.TheConstants.{VARIABLE, CURRENT, KIND, LEADS, LINK, REAL, TEXT, BLOCK, SETTINGS, INCLUDED, REFUSAL, DEVICE, IDENTITY, OWNER, USER, HOME, READABLE, KEEP}
 
 abbrev pub is_among : List (List ℕ) → List ℕ → Bool
 is_among [] name = false
@@ -50,7 +50,6 @@ pub data Comes (system : System) (folder : List ℕ) : List ℕ → Type 0 where
   also_opened : {at : List ℕ} → Comes system folder at → Comes system folder (opened at)
   without_links : {at real : List ℕ} → Comes system folder at → system REAL at ≡ Some real → Comes system folder real
   above : {at : List ℕ} → Comes system folder at → Comes system folder (folder_of at)
-  on_device : {at text : List ℕ} → system DEVICE at ≡ Some text → Comes system folder at
   in_dot_git : {at : List ℕ} → Comes system folder at → Comes system folder (inside at (codes ".git"))
   where_linked : {at other : List ℕ} → Comes system folder at → linked system at ≡ Some other → Comes system folder other
   in_commondir : {at text : List ℕ} → Comes system folder at → system TEXT (inside at (codes "commondir")) ≡ Some text
@@ -104,7 +103,7 @@ either false this that = that
 abbrev pub Needs : System → List ℕ → ℕ → List ℕ → Type 0
 Needs system folder subject name = either (subject == VARIABLE) (either (is_variable name) (Unit {0}) (IsNumbered name))
     (either (is_one_of (CURRENT ∷ USER ∷ []) subject) (name ≡ [])
-    (either (is_one_of (SETTINGS ∷ INCLUDED ∷ REFUSAL ∷ REAL ∷ HOME ∷ []) subject) (Unit {0}) (Asks system folder subject name)))
+    (either (is_one_of (SETTINGS ∷ INCLUDED ∷ REFUSAL ∷ REAL ∷ HOME ∷ READABLE ∷ KEEP ∷ []) subject) (Unit {0}) (Asks system folder subject name)))
 
 -- it may ask this in each system in which the facts are true
 abbrev pub IsNeeded : List ℕ → List Fact → ℕ → List ℕ → Type 0

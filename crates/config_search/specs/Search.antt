@@ -65,6 +65,14 @@ ceilings_in system resolves part (b ∷ rest) = if b == 58
     then ceiling system (counts resolves part) part ∷ ceilings_in system (counts resolves part) [] rest
     else ceilings_in system resolves (part ++ (b ∷ [])) rest
 
+-- those that are left of a text, if there is one
+abbrev pub ceilings_left : System → Bool → Option (List ℕ) → List (List ℕ)
+ceilings_left system resolves None = []
+ceilings_left system resolves (Some text) = ceilings_in system resolves [] text
+
+abbrev pub is_no_colon : ℕ → Bool
+is_no_colon b = not (b == 58)
+
 abbrev pub ceilings_by : System → Option (List ℕ) → List (List ℕ)
 ceilings_by system None = []
 ceilings_by system (Some text) = ceilings_in system true [] text

@@ -1,26 +1,26 @@
 -- What the rule says of the values of the program.
-use Rattle.std.specs.Prelude.{◌≡◌, ◌<◌, ◌≤◌, ◌⊎◌, ℕ, Bool, true, false, List, [], IfSome, MatchBool, codes, length, map, option_copied}
+use Rattle.std.specs.Prelude.{◌≡◌, ◌++◌, ◌⊎◌, ◌==◌, ◌&&◌, ℕ, Bool, true, false, List, [], ◌∷◌, Option, None, Some, if◌then◌else◌, IfSome, MatchBool, codes, map, option_copied}
+use Rattle.std.specs.Global.{Vec}
+use Rattle.std.specs.HashMap.{HashMap, get_by}
+use Rattle.std.specs.Str.{bytes_eq}
 use Rattle.config_file.specs.Key.{Key, HasKey}
 use Rattle.config_file.specs.Settings.{path_bytes}
 use Rattle.config_file.specs.Views.{entry_of}
-use Rattle.config_file.specs.Walk.{Content, Unreadable}
 use Rattle.config_file.specs.declared.settings.Setting.{Setting}
 use Rattle.config_search.specs.System.{System, AreTrueIn, IsOpen}
 use Rattle.config_search.specs.Names.{opened}
 use Rattle.config_search.specs.Questions.{IsNeeded, MayName}
 use Rattle.config_search.specs.declared.fact.Fact.{Fact}
 use Rattle.config_search.specs.declared.fact.Stop.{Stop}
-use Rattle.config_search.specs.declared.fact.Stop.TheVariants.{Ask, TooManyFacts, Memory}
+use Rattle.config_search.specs.declared.fact.Stop.TheVariants.{Ask, Memory}
 use Rattle.config_search.specs.declared.halt.Halt.{Halt}
 use Rattle.config_search.specs.declared.halt.Halt.TheVariants.{Stopped, Fault}
 use Rattle.config_search.specs.Rule as rule
 use Rattle.config_search.specs.Search as search
-use Rattle.config_search.specs.Files.{File, AreFiles}
-use Rattle.config_search.specs.Protected.{Holds, IsOfCommand}
+use Rattle.config_search.specs.Files.{File}
 use Rattle.config_search.specs.Trust.{NamesFolder}
-use Rattle.config_search.specs.declared.TheConstants.{DEVICE, MOST_FACTS}
+use Rattle.config_search.specs.declared.TheConstants.{DEVICE}
 use Rattle.config_search.specs.declared.answer.Named.{Named}
-use Rattle.config_search.specs.declared.protected.Sources.{Sources}
 use Rattle.config_search.specs.declared.seek.Discovery.{Discovery}
 use Rattle.config_search.specs.declared.seek.Discovery.TheVariants.{Nothing, In, Refused}
 use Rattle.config_search.specs.declared.seek.Limits.{Limits}
@@ -31,25 +31,26 @@ use Rattle.config_search.specs.declared.seek.Form.TheVariants.{Given, Below, Bar
 use Rattle.config_search.specs.declared.seek.GitDir.{GitDir}
 use Rattle.config_search.specs.declared.git_dir.Common.TheVariants.{Own, Linked, Broken}
 
--- a question that stops a search in a folder is one that it needs, that no fact answers, and for which there is room
+-- the first fact that answers a question
+abbrev pub first_of : List Fact → ℕ → List ℕ → Option Fact
+first_of [] subject name = None
+first_of (fact ∷ rest) subject name =
+    if (fact.subject == subject) && bytes_eq fact.name.now name then Some fact else first_of rest subject name
+
+-- a map has the first fact of a list that answers a question
+abbrev pub AreFirst : {S : Type 0} → HashMap (ℕ × Vec ℕ) Fact S → List Fact → Type 0
+AreFirst facts list = (q : ℕ × Vec ℕ)
+    → get_by (λ k. (q.0 == k.0) && bytes_eq q.1.items k.1.items) facts ≡ first_of list q.0 q.1.items
+
+-- a question that stops a search in a folder is one that it needs, and that no fact answers
 abbrev pub IsNew : List ℕ → List Fact → Stop → Type 0
 IsNew folder facts (Ask question) = IsOpen facts question.subject question.name.items
-    × IsNeeded folder facts question.subject question.name.items × (length facts < MOST_FACTS)
-IsNew folder facts TooManyFacts = MOST_FACTS ≤ length facts
+    × IsNeeded folder facts question.subject question.name.items
 IsNew folder facts (Memory error) = Unit {0}
 
 -- a file that the program names
 abbrev pub file_of : Named → File
 file_of named = record { scope = named.scope; name = named.name.items }
-
--- what facts let the file of a name hold: what it holds in each system in which they are true, or that it is not read
-abbrev pub MayHold : List Fact → List ℕ → List ℕ → Content → Type 0
-MayHold facts start name content = ((system : System) → AreTrueIn system facts → Holds system start name content)
-    ⊎ (content ≡ Unreadable)
-
--- the program has the names of the files, and the settings of the command, that no repository can change
-abbrev pub AreSources : System → Sources → Type 0
-AreSources system sources = AreFiles system [] (map file_of sources.files.items) × IsOfCommand system sources.command.items
 
 -- after a setting a folder is safe: it has the key and names it, or it was safe before and this is no empty one
 abbrev pub IsSafeAfter : System → List ℕ → List ℕ → Key → Setting → Bool → Type 0
@@ -91,7 +92,8 @@ found_of (Refused text) = search.Refused text.now
 
 -- where a search ends that began in a folder, as the program keeps it
 abbrev pub AreLimits : System → List ℕ → Limits → Type 0
-AreLimits system start limits = (map (λ c. c.now) limits.ceilings.items ≡ search.ceilings system)
+AreLimits system start limits = (search.ceilings system ≡ map (λ c. c.now) limits.ceilings.items
+    ++ search.ceilings_left system limits.is_resolved (option_copied limits.rest))
     × MatchBool limits.crosses (search.IsOn system (codes "GIT_DISCOVERY_ACROSS_FILESYSTEM"))
     (¬ (search.IsOn system (codes "GIT_DISCOVERY_ACROSS_FILESYSTEM")))
     × (limits.crosses ≡ false → option_copied limits.device ≡ system DEVICE (opened start))

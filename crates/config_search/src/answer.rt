@@ -8,14 +8,14 @@ use std::alloc::{AllocError, Global};
 /// What Git does in a folder.
 ///
 /// ```rust
-/// use config_search::{Fact, FaultKind, LEADS, Outcome, VARIABLE, search};
+/// use config_search::{Fact, FaultKind, LEADS, Outcome, Search, VARIABLE};
 ///
-/// let mut facts = Vec::new(alloc);
+/// let mut search = Search::new(alloc, b"gone");
 /// for name in ["PWD", "GIT_CONFIG_NOSYSTEM", "GIT_CONFIG_SYSTEM", "GIT_CONFIG_GLOBAL", "XDG_CONFIG_HOME", "HOME"] {
-///     facts.push(Fact { name: name.as_bytes(), text: b"", subject: VARIABLE, has: 0 })?; // it is not set
+///     search.tell(Fact { name: name.as_bytes(), text: b"", subject: VARIABLE, has: 0 })?; // it is not set
 /// }
-/// facts.push(Fact { name: b"gone", text: b"", subject: LEADS, has: 0 })?; // there is no such folder
-/// let Ok(answer) = search(alloc, b"gone", &facts) else {
+/// search.tell(Fact { name: b"gone", text: b"", subject: LEADS, has: 0 })?; // there is no such folder
+/// let Ok(answer) = search.next() else {
 ///     panic!(rt; "an answer");
 /// };
 /// assert_eq!(rt; answer.files[0].name.as_slice(), b"/etc/gitconfig".as_slice());
@@ -31,9 +31,13 @@ pub struct Answer {
     /// The files that Git reads if they are there, in its order. Where it uses no repository, those of the system and of
     /// the user.
     pub files: Vec<Named>,
+    /// The file of each scope, in this order, that `git config` reads and changes by `--system`, `--global`, `--local` or
+    /// `--worktree`. Without a home folder the user has none, and a work tree has one only where each has one of its own.
+    /// A name is empty if a variable gives it so.
+    pub of_scopes: Vec<Named>,
 }
 
-/// A file that Git reads if it is there. The example of [`Answer`] shows how it comes.
+/// A file of Git, which may be there or not. The example of [`Answer`] shows how it comes.
 #[derive(Drop)]
 pub struct Named {
     /// Where Git has it from.

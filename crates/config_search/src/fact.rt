@@ -1,17 +1,18 @@
 //! Facts, and the questions that they answer.
-ghost use Rattle.std.specs.Prelude.{◌≡◌, true, false, MatchResult, MatchOption, is_some, option_copied};
-ghost use Rattle.config_search.specs.System.{System, AreTrueIn, Differs, IsFactOf, IsOpen};
+ghost use Rattle.std.specs.Prelude.{◌≡◌, ◌++◌, ◌∷◌, [], List, MatchResult, OnErr, OnOk, is_some, option_copied};
+ghost use Rattle.config_search.specs.System.{System, AreTrueIn, IsFactOf};
 ghost use Rattle.config_search.specs.System as system;
 ghost use Rattle.config_search.specs.Questions.{IsNeeded};
-ghost use Rattle.config_search.specs.Shown.{IsNew};
+ghost use Rattle.config_search.specs.Shown.{AreFirst, IsNew, first_of};
 ghost use Rattle.config_search.specs.Names.{inside};
 ghost use Rattle.config_search.specs.Rule as rule;
+ghost use Rattle.config_search.specs.declared.fact.Fact.{Fact as FactOf};
 ghost use Rattle.config_search.specs.declared.fact.Stop.TheVariants.{Memory};
 
-use crate::MOST_FACTS;
-use crate::name::{inside, is_inside};
+use crate::name::{copied, inside};
 use std::alloc::{AllocError, Global};
-use std::cell::Cell;
+use std::collections::HashMap;
+use std::marker::Model;
 
 /// A fact: the answer to a question about a subject, which is one of the numbers of this crate, and a name. The
 /// example of [`Answer`](crate::Answer) tells some.
@@ -28,7 +29,7 @@ pub struct Fact<'t> {
     pub has: u32,
 }
 
-/// A question. The example of [`search`](crate::search) gets one.
+/// A question. The example of [`Search`](crate::Search) gets one.
 #[derive(Drop)]
 pub struct Question {
     /// Its subject.
@@ -42,8 +43,6 @@ pub struct Question {
 pub enum Stop {
     /// It needs the answer to this question, which no fact gives.
     Ask(Question),
-    /// It needs one more answer, and there are [`MOST_FACTS`](crate::MOST_FACTS) facts or more.
-    TooManyFacts,
     /// Memory is refused.
     Memory(AllocError),
 }
@@ -56,73 +55,69 @@ impl From<AllocError> for Stop {
     }
 }
 
-/// Facts that are looked up in the order in which they were asked for.
+/// Facts, by the questions that they answer. The first one that answers a question counts.
+#[derive(Drop)]
+pub(crate) struct Facts<'t> {
+    list: Vec<Fact<'t>>,
+    first: HashMap<(u32, Vec<u8>), Fact<'t>>,
+}
+
+impl<'t> Model for Facts<'t> {
+    ghost Value = { List FactOf };
+
+    ghost view = { λ f. f.list.items };
+
+    ghost invariant = { λ f. AreFirst f.first f.list.items };
+}
+
+impl<'t> Facts<'t> {
+    /// No facts.
+    pub fn new(alloc: Global) -> Facts<'t>
+        ensures { result ≡ [] }
+    {
+        Facts {
+            list: Vec::new(alloc),
+            first: HashMap::new(alloc),
+        }
+    }
+
+    /// The fact that answers a question about a name, if there is one.
+    pub fn get(&self, question: &(u32, Vec<u8>)) -> Option<Fact<'t>>
+        ensures { result ≡ first_of self.now question.now.0 question.now.1.items }
+    {
+        match self.first.get(question) {
+            Some(fact) => Some(*fact),
+            None => None,
+        }
+    }
+
+    /// Adds a fact. Nothing is added where memory is refused.
+    pub fn push(&mut self, alloc: Global, fact: Fact<'t>) -> Result<(), AllocError>
+        ensures told { OnOk result (self.new ≡ self.old ++ fact.entry ∷ []) }
+        ensures same { OnErr result (self.new ≡ self.old) }
+    {
+        let question = (fact.subject, copied(alloc, fact.name)?);
+        if let Some(_) = self.get(&question) {
+            return Ok(self.list.push(fact)?);
+        }
+        self.list.push(fact)?;
+        match self.first.insert(question, fact) {
+            Ok(_) => Ok(()),
+            Err(_) => {
+                let _ = self.list.pop();
+                Err(AllocError)
+            }
+        }
+    }
+}
+
+/// What a search knows.
 #[derive(Drop)]
 pub(crate) struct Lookup<'f, 't> {
     pub alloc: Global,
     /// The folder about which is asked.
     pub folder: &'t [u8],
-    pub facts: &'f [Fact<'t>],
-    next: Cell<usize>,
-}
-
-impl<'f, 't> Lookup<'f, 't> {
-    /// These facts.
-    pub fn new(alloc: Global, folder: &'t [u8], facts: &'f [Fact<'t>]) -> Lookup<'f, 't>
-        ensures same_folder { result.folder.now ≡ folder.now }
-        ensures same_facts { result.facts.now ≡ facts.now }
-    {
-        Lookup {
-            alloc,
-            folder,
-            facts,
-            next: Cell::new(0),
-        }
-    }
-}
-
-/// Whether a fact is about this subject and the file of this name in a folder.
-fn is_about(fact: &Fact<'_>, subject: u32, folder: &[u8], name: &[u8]) -> bool
-    ensures yes { result ≡ true
-        → (fact.now.subject ≡ subject) × (fact.now.name.now ≡ inside folder.now name.now) }
-    ensures no { result ≡ false → Differs subject (inside folder.now name.now) fact.now }
-{
-    fact.subject == subject && is_inside(fact.name, folder, name)
-}
-
-/// The fact that answers a question, if there is one.
-fn fact_among<'t>(facts: &[Fact<'t>], subject: u32, folder: &[u8], name: &[u8]) -> Option<Fact<'t>>
-    ensures { MatchOption result (IsOpen facts.now subject (inside folder.now name.now))
-        (IsFactOf facts.now subject (inside folder.now name.now)) }
-{
-    for fact in facts {
-        if is_about(fact, subject, folder, name) {
-            return Some(*fact);
-        }
-    }
-    None
-}
-
-/// The fact that answers a question, if there is one: most often the next.
-fn fact_of<'t>(
-    lookup: &Lookup<'_, 't>,
-    subject: u32,
-    folder: &[u8],
-    name: &[u8],
-) -> Option<Fact<'t>>
-    ensures { MatchOption result (IsOpen lookup.now.facts.now subject (inside folder.now name.now))
-        (IsFactOf lookup.now.facts.now subject (inside folder.now name.now)) }
-{
-    let at = lookup.next.get();
-    let facts = lookup.facts;
-    if at < facts.len() {
-        let fact = &facts[at];
-        if is_about(fact, subject, folder, name) {
-            lookup.next.set(at + 1);
-            return Some(*fact);
-        }
-    }
-    fact_among(facts, subject, folder, name)
+    pub facts: &'f Facts<'t>,
 }
 
 /// The fact that answers a question about the file of this name in a folder, or a stop with the question.
@@ -136,14 +131,12 @@ pub(crate) fn fact_in<'t>(
     ensures { MatchResult result (IsFactOf lookup.now.facts.now subject (inside folder.now name.now))
         (IsNew lookup.now.folder.now lookup.now.facts.now) }
 {
-    match fact_of(lookup, subject, folder, name) {
-        Some(fact) => Ok(fact),
-        None if lookup.facts.len() >= MOST_FACTS => Err(Stop::TooManyFacts),
-        None => {
-            let name = inside(lookup.alloc, folder, name)?;
-            Err(Stop::Ask(Question { subject, name }))
-        }
+    let question = (subject, inside(lookup.alloc, folder, name)?);
+    if let Some(fact) = lookup.facts.get(&question) {
+        return Ok(fact);
     }
+    let (subject, name) = question;
+    Err(Stop::Ask(Question { subject, name }))
 }
 
 /// The answer that a fact gives.

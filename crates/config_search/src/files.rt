@@ -1,20 +1,27 @@
 //! The files that Git reads, in its order.
-ghost use Rattle.std.specs.Prelude.{◌≡◌, ◌≤◌, ◌++◌, List, IfOk, OnOk, MatchResult, None, codes, length, map, option_copied};
+ghost use Rattle.std.specs.Prelude.{◌≡◌, ◌≤◌, ◌++◌, List, IfOk, OnOk, MatchResult, None, Some, codes, length, map, option_copied};
 ghost use Rattle.config_search.specs.declared.TheConstants.{VARIABLE};
 ghost use Rattle.std.specs.List.{prefix_len};
 ghost use Rattle.config_search.specs.System.{System, AreTrueIn};
 ghost use Rattle.config_search.specs.Shown.{IsNew, file_of};
 ghost use Rattle.config_search.specs.Files as files;
-ghost use Rattle.config_file.specs.declared.scope.Scope.TheVariants.{Global as of_user};
+ghost use Rattle.config_file.specs.declared.scope.Scope.TheVariants.{Global as of_user, System as of_system};
 
-use crate::VARIABLE;
 use crate::answer::Named;
-use crate::fact::{Lookup, Stop, answer_to};
+use crate::fact::{Lookup, Stop, answer_in, answer_to, is_word};
 use crate::name::joined;
 use crate::seek::is_on;
+use crate::{READABLE, VARIABLE};
 use bstr::ByteSlice;
 use config_file::Scope;
 use std::alloc::{AllocError, Global};
+
+/// Adds a file, whose name may be empty.
+fn push_named(names: &mut Vec<Named>, scope: Scope, name: Vec<u8>) -> Result<(), AllocError>
+    ensures { OnOk result (map file_of names.new.items ≡ map file_of names.old.items ++ files.named scope name.items) }
+{
+    Ok(names.push(Named { scope, name })?)
+}
 
 /// Adds a file. An empty name is that of no file.
 fn push(names: &mut Vec<Named>, scope: Scope, name: Vec<u8>) -> Result<(), AllocError>
@@ -23,14 +30,14 @@ fn push(names: &mut Vec<Named>, scope: Scope, name: Vec<u8>) -> Result<(), Alloc
     if name.is_empty() {
         return Ok(());
     }
-    Ok(names.push(Named { scope, name })?)
+    push_named(names, scope, name)
 }
 
 /// The name of the file of the system.
 fn system_name(lookup: &Lookup<'_, '_>) -> Result<Vec<u8>, Stop>
     ensures { MatchResult result
         (λ name. (system : System) → AreTrueIn system lookup.now.facts.now
-        → name.items ≡ files.or_default (codes "/etc/gitconfig") (system VARIABLE (codes "GIT_CONFIG_SYSTEM")))
+        → name.items ≡ files.system_name system)
         (IsNew lookup.now.folder.now lookup.now.facts.now) }
 {
     match answer_to(lookup, VARIABLE, b"GIT_CONFIG_SYSTEM")? {
@@ -218,4 +225,85 @@ pub(crate) fn push_repository(
     let name = shown_in(alloc, own, b"config.worktree")?;
     push(names, Scope::Worktree, name)?;
     Ok(())
+}
+
+/// Whether the user may read the first of these files, whose names begin in this folder.
+fn can_read(lookup: &Lookup<'_, '_>, folder: &[u8], names: &[Named]) -> Result<bool, Stop>
+    ensures { MatchResult result
+        (λ can. (system : System) → AreTrueIn system lookup.now.facts.now
+        → can ≡ files.can_read system folder.now (map file_of names.now))
+        (IsNew lookup.now.folder.now lookup.now.facts.now) }
+{
+    match names {
+        [] => Ok(false),
+        [file, ..] => Ok(is_word(answer_in(lookup, READABLE, folder, &file.name)?, b"yes")),
+    }
+}
+
+/// These files, unless the user may read only the others.
+fn or_readable(
+    lookup: &Lookup<'_, '_>,
+    folder: &[u8],
+    own: Vec<Named>,
+    others: Vec<Named>,
+) -> Result<Vec<Named>, Stop>
+    ensures { MatchResult result
+        (λ names. (system : System) → AreTrueIn system lookup.now.facts.now
+        → map file_of names.items
+        ≡ files.or_readable system folder.now (map file_of own.items) (map file_of others.items))
+        (IsNew lookup.now.folder.now lookup.now.facts.now) }
+{
+    if can_read(lookup, folder, &own)? || !can_read(lookup, folder, &others)? {
+        return Ok(own);
+    }
+    Ok(others)
+}
+
+/// The file of the user that no variable names: the one in this home folder, unless the user may read only the other.
+fn one_of_home(lookup: &Lookup<'_, '_>, folder: &[u8], home: &[u8]) -> Result<Vec<Named>, Stop>
+    ensures { MatchResult result
+        (λ names. (system : System) → AreTrueIn system lookup.now.facts.now
+        → map file_of names.items ≡ files.one_of_home system folder.now (Some home.now))
+        (IsNew lookup.now.folder.now lookup.now.facts.now) }
+{
+    let (mut own, mut others) = (Vec::new(lookup.alloc), Vec::new(lookup.alloc));
+    let xdg = answer_to(lookup, VARIABLE, b"XDG_CONFIG_HOME")?;
+    push_home(lookup.alloc, &mut own, Some(home), b".gitconfig")?;
+    push_xdg(lookup.alloc, &mut others, Some(home), xdg)?;
+    Ok(or_readable(lookup, folder, own, others)?)
+}
+
+/// The file of the user that `--global` means: the one that GIT_CONFIG_GLOBAL names, or one of the two that are theirs.
+fn one_of_user(lookup: &Lookup<'_, '_>, folder: &[u8]) -> Result<Vec<Named>, Stop>
+    ensures { MatchResult result
+        (λ names. (system : System) → AreTrueIn system lookup.now.facts.now
+        → map file_of names.items ≡ files.one_of_user system folder.now)
+        (IsNew lookup.now.folder.now lookup.now.facts.now) }
+{
+    let mut names = Vec::new(lookup.alloc);
+    if let Some(name) = answer_to(lookup, VARIABLE, b"GIT_CONFIG_GLOBAL")? {
+        let name = name.to_vec(lookup.alloc)?;
+        push_named(&mut names, Scope::Global, name)?;
+        return Ok(names);
+    }
+    match answer_to(lookup, VARIABLE, b"HOME")? {
+        Some(home) => Ok(one_of_home(lookup, folder, home)?),
+        None => Ok(names),
+    }
+}
+
+/// The files that `--system` and `--global` mean where Git works in this folder.
+pub(crate) fn scope_files(lookup: &Lookup<'_, '_>, folder: &[u8]) -> Result<Vec<Named>, Stop>
+    ensures { MatchResult result
+        (λ names. (system : System) → AreTrueIn system lookup.now.facts.now
+        → map file_of names.items
+        ≡ files.named of_system (files.system_name system) ++ files.one_of_user system folder.now)
+        (IsNew lookup.now.folder.now lookup.now.facts.now) }
+{
+    let mut names = Vec::new(lookup.alloc);
+    let name = system_name(lookup)?;
+    push_named(&mut names, Scope::System, name)?;
+    let mut of_user = one_of_user(lookup, folder)?;
+    names.append(&mut of_user)?;
+    Ok(names)
 }

@@ -1,14 +1,15 @@
 //! The format of a repository: its version, its extensions, and whether it is bare.
 ghost use Rattle.std.specs.Prelude.{◌≡◌, None, MatchResult, IfOk, IfErr, IfSome};
+ghost use Rattle.config_search.specs.System.{System, AreTrueIn};
+ghost use Rattle.config_search.specs.Questions.{MayName};
 ghost use Rattle.config_search.specs.Answers.{IsOfOneThere};
-ghost use Rattle.config_search.specs.Shown.{IsNewHalt, IsStore, AsksNothing};
+ghost use Rattle.config_search.specs.Shown.{IsNew, IsNewHalt, IsStore, AsksNothing};
 
 use crate::answer::{FaultKind, Refusal};
-use crate::fact::{Lookup, answer_in, answer_to};
-use crate::git_dir::Common;
+use crate::fact::{Lookup, Stop, answer_in, answer_to};
 use crate::halt::{Halt, fault};
 use crate::name::{inside, joined};
-use crate::protected::at_line;
+use crate::reader::at_line;
 use crate::{SETTINGS, VARIABLE};
 use bstr::ByteSlice;
 use config_file::{AddError, Scope, Setting, Settings};
@@ -308,23 +309,18 @@ impl Format {
         }
     }
 
-    /// Reads what the file of the repository says, or that of a work tree of its own. Git looks at no include here.
-    fn read_file(
+    /// Reads what the text of a file of the repository says, or that of a work tree of its own. Git looks at no include
+    /// here.
+    fn read_text(
         &mut self,
         lookup: &Lookup<'_, '_>,
-        folder: &[u8],
-        name: &[u8],
+        file: &[u8],
+        text: &[u8],
         is_own: bool,
     ) -> Result<(), Halt>
-        requires { IsStore lookup.now.facts.now self.old.store }
-        ensures { MatchResult result (λ done. IsStore lookup.now.facts.now self.new.store)
-            (IsNewHalt lookup.now.folder.now lookup.now.facts.now) }
+        ensures { IfErr result (IsNewHalt lookup.now.folder.now lookup.now.facts.now) }
     {
-        let Some(text) = answer_in(lookup, SETTINGS, folder, name)? else {
-            return Ok(());
-        };
-        let file = inside(lookup.alloc, folder, name)?;
-        for setting in &settings_in(lookup, &file, text)?.entries {
+        for setting in &settings_in(lookup, file, text)?.entries {
             let key = setting.entry.key_text(lookup.alloc)?;
             if is_own {
                 if let Err(halt) = self.read_work_tree(lookup.alloc, setting, subject_of(&key)) {
@@ -335,6 +331,37 @@ impl Format {
             }
         }
         Ok(())
+    }
+
+    /// Reads what the file of a work tree of its own says, which has this text.
+    pub fn read_own(
+        &mut self,
+        lookup: &Lookup<'_, '_>,
+        git_dir: &[u8],
+        text: &[u8],
+    ) -> Result<(), Halt>
+        ensures { IfErr result (IsNewHalt lookup.now.folder.now lookup.now.facts.now) }
+    {
+        let file = inside(lookup.alloc, git_dir, b"config.worktree")?;
+        self.read_text(lookup, &file, text, true)
+    }
+
+    /// The format of a work tree without a file of its own. What it shares with others says nothing of its top.
+    pub fn of_tree(self, is_linked: bool) -> Format
+        ensures { result.store ≡ self.store }
+    {
+        if !is_linked {
+            return self;
+        }
+        Format {
+            is_bare: false,
+            work_tree: None,
+            has_worktree_files: self.has_worktree_files,
+            store: self.store,
+            version: self.version,
+            unknown: self.unknown,
+            of_later: self.of_later,
+        }
     }
 
     /// Why Git uses no repository of this format, if it does not.
@@ -368,34 +395,38 @@ fn settings_in<'s>(
     }
 }
 
-/// The format that the file of a repository states. A file that states no version states nothing.
-fn stated(lookup: &Lookup<'_, '_>, common: &[u8]) -> Result<Format, Halt>
-    ensures { MatchResult result (λ format. IsStore lookup.now.facts.now format.store)
-        (IsNewHalt lookup.now.folder.now lookup.now.facts.now) }
+/// The format that the text of a repository's file states. One that states no version states nothing.
+fn stated(lookup: &Lookup<'_, '_>, file: &[u8], text: &[u8]) -> Result<Format, Halt>
+    ensures { IfErr result (IsNewHalt lookup.now.folder.now lookup.now.facts.now) }
 {
     let mut format = Format::new();
-    format.read_file(lookup, common, b"config", false)?;
+    format.read_text(lookup, file, text, false)?;
     match format.version {
         Some(version) if 0 <= version => Ok(format),
         _ => Ok(Format::new()),
     }
 }
 
-/// The format of a git directory. What it shares with others says nothing of the top of its work tree.
-pub(crate) fn format_of(
-    lookup: &Lookup<'_, '_>,
-    git_dir: &[u8],
-    common: &Common,
-) -> Result<Format, Halt>
+/// The format that the file in the folder which work trees share states.
+pub(crate) fn format_in(lookup: &Lookup<'_, '_>, common: &[u8]) -> Result<Format, Halt>
     ensures { MatchResult result (λ format. IsStore lookup.now.facts.now format.store)
         (IsNewHalt lookup.now.folder.now lookup.now.facts.now) }
 {
-    let mut format = stated(lookup, common.or(git_dir))?;
-    if format.has_worktree_files {
-        format.read_file(lookup, git_dir, b"config.worktree", true)?;
-    } else if common.is_linked() {
-        format.is_bare = false;
-        format.work_tree = None;
-    }
-    Ok(format)
+    let Some(text) = answer_in(lookup, SETTINGS, common, b"config")? else {
+        return Ok(Format::new());
+    };
+    let file = inside(lookup.alloc, common, b"config")?;
+    Ok(stated(lookup, &file, text)?)
+}
+
+/// The text of the file of a work tree of its own, if it is read.
+pub(crate) fn own_text<'t>(
+    lookup: &Lookup<'_, 't>,
+    git_dir: &[u8],
+) -> Result<Option<&'t [u8]>, Stop>
+    ensures { MatchResult result
+        (λ text. (system : System) → AreTrueIn system lookup.now.facts.now → IfSome text (λ t. MayName system))
+        (IsNew lookup.now.folder.now lookup.now.facts.now) }
+{
+    Ok(answer_in(lookup, SETTINGS, git_dir, b"config.worktree")?)
 }

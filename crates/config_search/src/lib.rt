@@ -1,14 +1,15 @@
-//! What Git reads in a folder, as a pure function: its caller knows the system, and tells it facts.
+//! What Git reads in a folder, by facts: a caller knows the system, and tells what he is asked.
 //!
-//! [`search`] takes a folder and a table of [`Fact`]s, each of which answers a question, and ends with an
-//! [`Answer`]: where Git works, the repository that it uses or why it uses none, and the files that it reads. If it
-//! needs what no fact tells, it stops with that question as [`Stop::Ask`]. The caller adds the fact and searches
-//! again, until no question is left. It answers each question once, and may also tell what was not asked yet. Such a
-//! loop ends: a search that has [`MOST_FACTS`] facts asks nothing more.
+//! A [`Search`] in a folder ends with an [`Answer`]: where Git works, the repository that it uses or why it uses none,
+//! the files that it reads, and the file of each scope. If it needs what no fact tells, it stops with that question as
+//! [`Stop::Ask`]. The caller tells the answer as a [`Fact`], and the search goes on where it was, since it keeps what it
+//! has found. He may also tell what was not asked yet. No question is asked again that a fact answers, so a loop over
+//! questions ends where a system ends: a folder has so many above it, and files include each other at most ten deep.
 //!
 //! A [`Question`] has a subject, one of the numbers below, and a name. Its answer is a text, or none, if the system has
 //! no answer. The name of a file that does not begin with `/` begins in the current folder of the caller. A caller
-//! whose system cannot open a file of such a name answers as if it were not there.
+//! whose system cannot open a file of such a name answers as if it were not there, but [`READABLE`] by `yes`, so that no
+//! other file takes its place.
 //!
 //! | Subject | Name | Text of the answer | None |
 //! |---|---|---|---|
@@ -28,9 +29,10 @@
 //! | [`OWNER`] | of a file | the number of its owner in decimal, a link not followed | unknown |
 //! | [`USER`] | empty | the number of the user as whom the caller runs (`geteuid`), in decimal | unknown |
 //! | [`HOME`] | of a user | the home folder of this user | no such user |
+//! | [`READABLE`] | of a file | `yes` if the user may read it (`access`), links followed | the user may not, or no such file |
+//! | [`KEEP`] | a text that the search has made | | always: the name of the fact keeps the text as long as the search needs it |
 #![tactic(auto)]
 
-mod ahead;
 pub mod answer;
 pub mod fact;
 mod files;
@@ -43,17 +45,16 @@ mod name;
 mod owner;
 mod place;
 mod protected;
+mod reader;
 mod reftable;
 mod seek;
+mod sources;
+mod stages;
 mod start;
 
 pub use crate::answer::{Answer, Fault, FaultKind, Named, Outcome, Refusal, Repository};
 pub use crate::fact::{Fact, Question, Stop};
-pub use crate::place::search;
-
-/// The number of facts from which on a search asks nothing: it stops as [`Stop::TooManyFacts`] instead. A folder below
-/// 300 others takes about 900, and each file that is included one.
-pub const MOST_FACTS: usize = 262_144;
+pub use crate::stages::Search;
 
 /// Asks for the value of a variable.
 pub const VARIABLE: u32 = 1;
@@ -87,3 +88,7 @@ pub const OWNER: u32 = 14;
 pub const USER: u32 = 15;
 /// Asks for the home folder of a user.
 pub const HOME: u32 = 16;
+/// Asks whether the user may read a file.
+pub const READABLE: u32 = 17;
+/// Asks to keep a text.
+pub const KEEP: u32 = 18;

@@ -1,5 +1,5 @@
 //! Names of files and folders.
-ghost use Rattle.std.specs.Prelude.{◌≡◌, ◌≢◌, ◌≤◌, ◌<◌, ◌++◌, ◌∷◌, [], ℕ, List, length, IfOk, OnOk, IfSome, MatchBool, MatchOption, option_copied};
+ghost use Rattle.std.specs.Prelude.{◌≡◌, ◌≢◌, ◌≤◌, ◌<◌, ◌++◌, ◌∷◌, [], ℕ, List, length, IfOk, OnErr, OnOk, IfSome, MatchBool, MatchOption, option_copied};
 ghost use Rattle.std.specs.List.{prefix_len, suffix_len};
 ghost use Rattle.config_search.specs.Names as names;
 
@@ -7,9 +7,17 @@ use std::alloc::{AllocError, Global};
 
 /// Appends to a list.
 pub(crate) fn push<T: Drop>(list: &mut Vec<T>, item: T) -> Result<(), AllocError>
-    ensures { OnOk result (list.new.items ≡ list.old.items ++ item ∷ []) }
+    ensures pushed { OnOk result (list.new.items ≡ list.old.items ++ item ∷ []) }
+    ensures same { OnErr result (list.new.items ≡ list.old.items) }
 {
     Ok(list.push(item)?)
+}
+
+/// The same text once more.
+pub(crate) fn copied(alloc: Global, text: &[u8]) -> Result<Vec<u8>, AllocError>
+    ensures { IfOk result (λ copy. copy.items ≡ text.now) }
+{
+    text.to_vec(alloc)
 }
 
 /// Three texts, one after the other.

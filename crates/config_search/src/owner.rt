@@ -1,18 +1,16 @@
 //! Which repositories Git trusts: those of the same owner, and those that settings name which no repository can change.
-ghost use Rattle.std.specs.Prelude.{◌≡◌, ◌≢◌, ◌≤◌, ◌⊎◌, ◌++◌, ℕ, List, [], true, codes, length, Decides, IfErr, IfOk, IfSome, MatchBool, MatchOption, MatchResult, map};
+ghost use Rattle.std.specs.Prelude.{◌≡◌, ◌≢◌, ◌≤◌, ◌⊎◌, ◌++◌, ℕ, List, [], true, false, codes, length, Decides, IfErr, IfOk, IfSome, MatchBool, MatchOption, MatchResult};
 ghost use Rattle.std.specs.List.{prefix_len};
 ghost use Rattle.config_file.specs.Listing.{IsListed};
 ghost use Rattle.config_file.specs.Settings.{AreListed, path_bytes};
 ghost use Rattle.config_file.specs.Views.{entry_of};
-ghost use Rattle.config_file.specs.declared.settings.Setting.{Setting as SettingOf};
 ghost use Rattle.config_search.specs.System.{System, AreTrueIn};
 ghost use Rattle.config_search.specs.Rule.{IsBelow};
 ghost use Rattle.config_search.specs.Names as names;
-ghost use Rattle.config_search.specs.Search.{Inside};
 ghost use Rattle.config_search.specs.Owner as rule;
-ghost use Rattle.config_search.specs.Protected.{AreProtected};
+ghost use Rattle.config_search.specs.Reading.{IsNamedSafe, IsWeighed};
 ghost use Rattle.config_search.specs.Trust as trust;
-ghost use Rattle.config_search.specs.Answers.{IsOfBareOne, IsOfOtherOne, RefusesIt};
+ghost use Rattle.config_search.specs.Answers.{IsOfBareOne};
 ghost use Rattle.config_search.specs.Shown.{AsksNothing, IsNew, IsNewHalt, IsSafeAfter, form_of, git_dir_of};
 ghost use Rattle.config_file.specs.KeyView.{key_of};
 ghost use Rattle.config_search.specs.Questions.{IsPlace};
@@ -21,13 +19,12 @@ use crate::answer::{FaultKind, Refusal};
 use crate::fact::{Lookup, Stop, answer_to, is_word};
 use crate::halt::{Halt, fault};
 use crate::name::{after, before, inside, joined, opened};
-use crate::protected::{protected_settings, sources_of};
 use crate::seek::{Folder, Form, GitDir, is_on, is_same};
 use crate::{HOME, OWNER, REAL, USER, VARIABLE};
 use bstr::ByteSlice;
 use config_file::path::expand;
-use config_file::{Directories, Key, Setting};
-use std::alloc::Global;
+use config_file::{Directories, Key, Setting, Settings};
+use std::alloc::{AllocError, Global};
 
 /// Whether the file of this name, which may be a link, belongs to the user. To root it also belongs if its owner became
 /// root by sudo.
@@ -84,7 +81,7 @@ fn are_owned(lookup: &Lookup<'_, '_>, folder: &[u8], git_dir: &GitDir) -> Result
 }
 
 /// Whether the git directory of a folder is the user's own. A variable may say that it is not, which Git has for tests.
-fn is_own(lookup: &Lookup<'_, '_>, folder: &[u8], git_dir: &GitDir) -> Result<bool, Stop>
+pub(crate) fn is_own(lookup: &Lookup<'_, '_>, folder: &[u8], git_dir: &GitDir) -> Result<bool, Stop>
     requires place { IsPlace lookup.now.folder.now lookup.now.facts.now folder.now }
     requires git_dir_place { IsPlace lookup.now.folder.now lookup.now.facts.now git_dir.now.name.items }
     ensures { MatchResult result
@@ -276,55 +273,63 @@ fn is_safe_after(
     Ok(names_folder(lookup, start, value, folder)?)
 }
 
-/// Whether the last of these settings with this key name the folder.
-fn name_as_safe(
-    lookup: &Lookup<'_, '_>,
-    start: &[u8],
-    folder: &[u8],
-    key: &Key<'_>,
-    settings: &[Setting<'_>],
-) -> Result<bool, Stop>
-    ensures asks { IfErr result (IsNew lookup.now.folder.now lookup.now.facts.now) }
-    ensures safe { AreListed settings.now → IfOk result
-        (λ are. (system : System) → AreTrueIn system lookup.now.facts.now
-        → Decides are (trust.AreSafe system start.now folder.now (key_of key.now) settings.now)) }
-{
-    let mut are_safe = false;
-    for setting in settings {
-        are_safe = is_safe_after(lookup, start, folder, key, setting, are_safe)?;
+/// Settings of which the first are looked through for those that name a folder as safe.
+#[derive(Drop)]
+pub(crate) struct Naming<'t> {
+    settings: Settings<'t>,
+    /// The folder, without links.
+    pub folder: &'t [u8],
+    /// How many are looked through.
+    done: usize,
+    /// Whether the folder is safe by these.
+    is_safe: bool,
+}
+
+impl<'t> Naming<'t> {
+    /// None is looked through.
+    pub fn new(settings: Settings<'t>, folder: &'t [u8]) -> Naming<'t>
+        ensures settings { result.settings.entries.items ≡ settings.entry.entries.items }
+        ensures folder { result.folder.now ≡ folder.now }
+        ensures safe { (system : System) (start : List ℕ) → IsNamedSafe system start result }
+    {
+        Naming {
+            settings,
+            folder,
+            done: 0,
+            is_safe: false,
+        }
     }
-    Ok(are_safe)
-}
 
-/// Whether these settings say that this folder is safe.
-fn say_safe(
-    lookup: &Lookup<'_, '_>,
-    start: &[u8],
-    folder: &[u8],
-    settings: &[Setting<'_>],
-) -> Result<bool, Stop>
-    ensures asks { IfErr result (IsNew lookup.now.folder.now lookup.now.facts.now) }
-    ensures safe { AreListed settings.now → IfOk result
-        (λ say. (system : System) → AreTrueIn system lookup.now.facts.now
-        → Decides say (trust.SaysSafe system start.now folder.now settings.now)) }
-{
-    let Ok(key) = Key::parse(b"safe.directory") else {
-        return Ok(false);
-    };
-    Ok(name_as_safe(lookup, start, folder, &key, settings)?)
-}
+    /// Whether the folder is safe, if all settings are looked through.
+    pub fn decides(&self) -> Option<bool>
+        ensures { (system : System) (start : List ℕ) → IsNamedSafe system start self.now
+            → IfSome result (λ is. Decides is (trust.SaysSafe system start self.now.folder.now self.now.settings.entries.items)) }
+    {
+        if self.done < self.settings.entries.len() {
+            return None;
+        }
+        Some(self.is_safe)
+    }
 
-/// Whether the settings that no repository can change say that this folder is safe.
-fn is_safe(lookup: &Lookup<'_, '_>, start: &[u8], folder: &[u8]) -> Result<bool, Halt>
-    ensures { MatchResult result
-        (λ is. (system : System) → AreTrueIn system lookup.now.facts.now
-        → (settings : List SettingOf) × AreProtected system start.now settings
-        × Decides is (trust.SaysSafe system start.now folder.now settings))
-        (IsNewHalt lookup.now.folder.now lookup.now.facts.now) }
-{
-    let sources = sources_of(lookup)?;
-    let settings = protected_settings(lookup, start, &sources)?;
-    Ok(say_safe(lookup, start, folder, &settings.entries)?)
+    /// Looks through the next setting. It stays the same where this fails.
+    pub fn look_at_next(&mut self, lookup: &Lookup<'_, 't>, start: &[u8]) -> Result<(), Stop>
+        ensures safe { (system : System) → AreTrueIn system lookup.now.facts.now
+            → AreListed self.old.settings.entries.items
+            → IsNamedSafe system start.now self.old → IsNamedSafe system start.now self.new }
+        ensures same { (self.new.settings ≡ self.old.settings) × (self.new.folder ≡ self.old.folder) }
+        ensures asks { IfErr result (IsNew lookup.now.folder.now lookup.now.facts.now) }
+    {
+        let Some(setting) = self.settings.entries.get(self.done) else {
+            return Ok(());
+        };
+        let Ok(key) = Key::parse(b"safe.directory") else {
+            return Err(Stop::Memory(AllocError));
+        };
+        let is_safe = is_safe_after(lookup, start, self.folder, &key, setting, self.is_safe)?;
+        self.is_safe = is_safe;
+        self.done = self.done.saturating_add(1);
+        Ok(())
+    }
 }
 
 /// Whether a setting of `safe.bareRepository` lets Git find bare repositories, which needs one of two words.
@@ -343,18 +348,16 @@ fn allows_bare(alloc: Global, setting: &Setting<'_>) -> Result<bool, Halt>
 }
 
 /// Whether the last setting of `safe.bareRepository` lets Git find bare repositories.
-fn allow_bare(lookup: &Lookup<'_, '_>, start: &[u8]) -> Result<bool, Halt>
-    ensures { IfErr result (IsNewHalt lookup.now.folder.now lookup.now.facts.now) }
+fn allow_bare(alloc: Global, settings: &[Setting<'_>]) -> Result<bool, Halt>
+    ensures { IfErr result AsksNothing }
 {
-    let sources = sources_of(lookup)?;
-    let settings = protected_settings(lookup, start, &sources)?;
     let mut may_be = true;
     let Ok(key) = Key::parse(b"safe.bareRepository") else {
         return Ok(may_be);
     };
-    for setting in &settings.entries {
+    for setting in settings {
         if key.is_of(&setting.entry) {
-            may_be = match allows_bare(lookup.alloc, setting) {
+            may_be = match allows_bare(alloc, setting) {
                 Ok(allows) => allows,
                 Err(halt) => return Err(halt),
             };
@@ -370,15 +373,19 @@ fn is_in_work_tree(folder: &[u8]) -> bool {
         || folder.contains_str(b"/.git/modules/")
 }
 
-/// Why Git does not use the bare repository in this folder, which it finds without GIT_DIR, if it does not.
+/// Why Git does not use the bare repository in this folder, which it finds without GIT_DIR, by these settings.
 fn refuses_bare(
     lookup: &Lookup<'_, '_>,
-    start: &[u8],
     folder: Folder<'_>,
+    settings: &[Setting<'_>],
 ) -> Result<Option<Refusal>, Halt>
-    ensures { MatchResult result (λ refusal. IfSome refusal IsOfBareOne) (IsNewHalt lookup.now.folder.now lookup.now.facts.now) }
+    ensures { MatchResult result (λ refusal. IfSome refusal IsOfBareOne)
+        (IsNewHalt lookup.now.folder.now lookup.now.facts.now) }
 {
-    let may_be = allow_bare(lookup, start)?;
+    let may_be = match allow_bare(lookup.alloc, settings) {
+        Ok(may_be) => may_be,
+        Err(halt) => return Err(halt),
+    };
     let real = answer_to(lookup, REAL, opened(folder.name))?.unwrap_or(folder.path);
     if may_be || is_in_work_tree(real) {
         return Ok(None);
@@ -386,54 +393,71 @@ fn refuses_bare(
     Ok(Some(Refusal::Bare(folder.path.to_vec(lookup.alloc)?)))
 }
 
-/// Why Git does not trust what is not owned in this folder, if it does not.
-fn refuses_owner(
+/// Whether settings decide if Git uses a git directory of a folder. They do not decide about one that GIT_DIR names,
+/// and about the user's own one only if that is the folder itself.
+pub(crate) fn is_weighed(
     lookup: &Lookup<'_, '_>,
-    start: &[u8],
-    folder: Folder<'_>,
-) -> Result<Option<Refusal>, Halt>
+    folder: &[u8],
+    git_dir: &GitDir,
+) -> Result<bool, Stop>
+    requires place { IsPlace lookup.now.folder.now lookup.now.facts.now folder.now }
+    requires git_dir_place { IsPlace lookup.now.folder.now lookup.now.facts.now git_dir.now.name.items }
     ensures { MatchResult result
-        (λ refusal. (system : System) → AreTrueIn system lookup.now.facts.now
-        → MatchOption refusal (trust.IsSafe system start.now folder.entry.name.now)
-        (λ r. trust.IsUnsafe system start.now folder.entry.name.now × IsOfOtherOne r))
-        (IsNewHalt lookup.now.folder.now lookup.now.facts.now) }
+        (λ is. (system : System) (start : List ℕ) → AreTrueIn system lookup.now.facts.now → is ≡ false
+        → trust.IsTrusted system start folder.now (git_dir_of git_dir.now))
+        (IsNew lookup.now.folder.now lookup.now.facts.now) }
 {
-    let Some(real) = answer_to(lookup, REAL, opened(folder.name))? else {
-        return Ok(Some(Refusal::Owner(folder.path.to_vec(lookup.alloc)?)));
-    };
-    if is_safe(lookup, start, real)? {
-        return Ok(None);
+    match git_dir.form {
+        Form::Given => Ok(false),
+        Form::Bare => Ok(true),
+        Form::Below => {
+            if is_own(lookup, folder, git_dir)? {
+                return Ok(false);
+            }
+            Ok(true)
+        }
     }
-    Ok(Some(Refusal::Owner(real.to_vec(lookup.alloc)?)))
 }
 
-/// Why Git does not use the git directory that it finds in this folder, if it does not. One that GIT_DIR names is used.
-pub(crate) fn refuses(
-    lookup: &Lookup<'_, '_>,
-    start: &[u8],
-    folder: Folder<'_>,
+/// What the settings that no repository can change have to do with a git directory.
+#[derive(Drop)]
+pub(crate) enum Weighed<'t> {
+    /// Git trusts it.
+    Trusted,
+    /// Git does not use it.
+    Refused(Refusal),
+    /// It is not the user's own, and its folder has this name without links.
+    Other(&'t [u8]),
+}
+
+/// Whether these settings let Git use a git directory of a folder, as far as they name no folder as safe.
+pub(crate) fn weigh<'t>(
+    lookup: &Lookup<'_, 't>,
+    folder: Folder<'t>,
     git_dir: &GitDir,
-) -> Result<Option<Refusal>, Halt>
+    settings: &[Setting<'_>],
+) -> Result<Weighed<'t>, Halt>
     requires place { IsPlace lookup.now.folder.now lookup.now.facts.now folder.name.now }
     requires git_dir_place { IsPlace lookup.now.folder.now lookup.now.facts.now git_dir.now.name.items }
     ensures { MatchResult result
-        (λ refusal. (system : System) → AreTrueIn system lookup.now.facts.now
-        → MatchOption refusal
-        (trust.IsTrusted system start.now folder.entry.name.now (git_dir_of git_dir.now))
-        (RefusesIt system start.now (Inside folder.entry.name.now (git_dir_of git_dir.now))))
+        (λ weighed. (system : System) (start : List ℕ) → AreTrueIn system lookup.now.facts.now
+        → IsWeighed system start folder.entry.name.now (git_dir_of git_dir.now) weighed)
         (IsNewHalt lookup.now.folder.now lookup.now.facts.now) }
 {
     match git_dir.form {
-        Form::Given => return Ok(None),
+        Form::Given => return Ok(Weighed::Trusted),
         Form::Bare => {
-            if let Some(refusal) = refuses_bare(lookup, start, folder)? {
-                return Ok(Some(refusal));
+            if let Some(refusal) = refuses_bare(lookup, folder, settings)? {
+                return Ok(Weighed::Refused(refusal));
             }
         }
         Form::Below => {}
     }
     if is_own(lookup, folder.name, git_dir)? {
-        return Ok(None);
+        return Ok(Weighed::Trusted);
     }
-    Ok(refuses_owner(lookup, start, folder)?)
+    match answer_to(lookup, REAL, opened(folder.name))? {
+        Some(real) => Ok(Weighed::Other(real)),
+        None => Ok(Weighed::Refused(Refusal::Owner(folder.path.to_vec(lookup.alloc)?))),
+    }
 }

@@ -1,8 +1,8 @@
-//! The search.
-ghost use Rattle.std.specs.Prelude.{◌≡◌, ◌++◌, ℕ, List, IfOk, IfErr, IfSome, OnOk, MatchResult, map, option_map};
+//! Where Git works with a git directory that it uses, and the files that it then reads.
+ghost use Rattle.std.specs.Prelude.{◌≡◌, ◌++◌, ℕ, List, IfOk, IfErr, OnOk, MatchResult, map};
 ghost use Rattle.config_search.specs.System.{System, AreTrueIn};
 ghost use Rattle.config_search.specs.Questions.{IsNeeded, IsPlace};
-ghost use Rattle.config_search.specs.Shown.{AsksNothing, IsNew, IsNewHalt, IsStore, common_of as common_shown, file_of, found_of, git_dir_of};
+ghost use Rattle.config_search.specs.Shown.{AsksNothing, IsNew, IsNewHalt, IsStore, common_of as common_shown, file_of, git_dir_of};
 ghost use Rattle.config_search.specs.Rule as rule;
 ghost use Rattle.config_search.specs.Search as search;
 ghost use Rattle.config_search.specs.Files as files;
@@ -10,17 +10,15 @@ ghost use Rattle.config_search.specs.Answers as answers;
 ghost use Rattle.config_search.specs.Trust.{IsTrusted};
 ghost use Rattle.config_search.specs.declared.TheConstants.{REAL, VARIABLE};
 
-use crate::ahead::ask_ahead;
-use crate::answer::{Answer, Fault, FaultKind, Named, Outcome, Refusal, Repository};
-use crate::fact::{Fact, Lookup, Stop, answer_to};
-use crate::files::{protected_files, push_repository};
-use crate::format::{Format, Store, format_of, given_store};
+use crate::answer::{Fault, FaultKind, Named, Outcome, Repository};
+use crate::fact::{Lookup, Stop, answer_to};
+use crate::files::{protected_files, push_repository, scope_files};
+use crate::format::{Format, Store};
 use crate::git_dir::{Common, common_of, resolved};
 use crate::halt::{Halt, fault};
 use crate::head::branch_of;
 use crate::name::{inside, opened};
-use crate::owner::refuses;
-use crate::seek::{Discovery, Folder, Form, GitDir, first_folder, seek};
+use crate::seek::{Folder, Form, GitDir};
 use crate::{REAL, VARIABLE};
 use config_text::readers::TryRead;
 use gix_config_value::Boolean;
@@ -29,11 +27,11 @@ use std::alloc::{AllocError, Global};
 /// A git directory that is found: the folder in which Git starts, that of the git directory, and the folder that it
 /// shares with others.
 #[derive(Drop)]
-struct Site<'t> {
-    start: Folder<'t>,
-    folder: Folder<'t>,
-    git_dir: GitDir,
-    common: Common,
+pub(crate) struct Site<'t> {
+    pub start: Folder<'t>,
+    pub folder: Folder<'t>,
+    pub git_dir: GitDir,
+    pub common: Common,
 }
 
 /// Where Git stops at a variable.
@@ -63,7 +61,7 @@ fn check_boolean(lookup: &Lookup<'_, '_>, name: &[u8]) -> Result<(), Halt>
 }
 
 /// Stops where Git does at a variable that has to be a boolean. One of them counts only for a search upwards.
-fn check_booleans(lookup: &Lookup<'_, '_>) -> Result<(), Halt>
+pub(crate) fn check_booleans(lookup: &Lookup<'_, '_>) -> Result<(), Halt>
     ensures { IfErr result (IsNewHalt lookup.now.folder.now lookup.now.facts.now) }
 {
     check_boolean(lookup, b"GIT_CONFIG_NOSYSTEM")?;
@@ -75,9 +73,9 @@ fn check_booleans(lookup: &Lookup<'_, '_>) -> Result<(), Halt>
 
 /// Where Git works, and what it does there.
 #[derive(Drop)]
-struct Place {
-    folder: Vec<u8>,
-    outcome: Outcome,
+pub(crate) struct Place {
+    pub folder: Vec<u8>,
+    pub outcome: Outcome,
 }
 
 /// The top of the work tree that GIT_WORK_TREE or `core.worktree` names, without links. That of `core.worktree` means
@@ -288,7 +286,11 @@ fn repository_in(
 }
 
 /// Where Git works with this git directory, if it may have this format.
-fn place_by_format(lookup: &Lookup<'_, '_>, site: &Site<'_>, format: &Format) -> Result<Place, Halt>
+pub(crate) fn place_by_format(
+    lookup: &Lookup<'_, '_>,
+    site: &Site<'_>,
+    format: &Format,
+) -> Result<Place, Halt>
     requires place { IsPlace lookup.now.folder.now lookup.now.facts.now site.now.git_dir.name.items }
     requires stored { IsStore lookup.now.facts.now format.now.store }
     ensures { MatchResult result
@@ -312,7 +314,7 @@ fn place_by_format(lookup: &Lookup<'_, '_>, site: &Site<'_>, format: &Format) ->
 
 impl Place {
     /// This folder, and what Git does there.
-    fn new(alloc: Global, folder: Folder<'_>, outcome: Outcome) -> Result<Place, AllocError>
+    pub fn new(alloc: Global, folder: Folder<'_>, outcome: Outcome) -> Result<Place, AllocError>
         ensures { IfOk result (λ place. place.outcome ≡ outcome) }
     {
         Ok(Place {
@@ -322,45 +324,9 @@ impl Place {
     }
 }
 
-/// What Git does in this folder, if it does not stop.
-fn or_stops(
-    lookup: &Lookup<'_, '_>,
-    folder: Folder<'_>,
-    place: Result<Place, Halt>,
-) -> Result<Place, Stop>
-    ensures asks { IfErr place (IsNewHalt lookup.now.folder.now lookup.now.facts.now)
-        → IfErr result (IsNew lookup.now.folder.now lookup.now.facts.now) }
-    ensures tells { (system : System) (start : List ℕ) (sought : search.Sought)
-        → IfOk place (λ p. answers.Tells system start sought p.outcome)
-        → IfOk result (λ p. answers.Tells system start sought p.outcome) }
-{
-    match place {
-        Ok(place) => Ok(place),
-        Err(Halt::Stopped(stop)) => Err(stop),
-        Err(Halt::Fault(fault)) => Ok(Place::new(lookup.alloc, folder, Outcome::Stops(fault))?),
-    }
-}
-
-/// Where Git works with this git directory, in which references are stored as it is given.
-fn used(lookup: &Lookup<'_, '_>, site: &Site<'_>, given: Option<Store>) -> Result<Place, Halt>
-    requires place { IsPlace lookup.now.folder.now lookup.now.facts.now site.now.git_dir.name.items }
-    requires stored { IfSome given (IsStore lookup.now.facts.now) }
-    ensures { MatchResult result
-        (λ place. (system : System) → AreTrueIn system lookup.now.facts.now
-        → common_shown site.now.common ≡ rule.common_of system site.now.folder.name.now site.now.git_dir.name.items
-        → IsTrusted system site.now.start.name.now site.now.folder.name.now (git_dir_of site.now.git_dir)
-        → answers.Tells system site.now.start.name.now
-        (search.Inside site.now.folder.name.now (git_dir_of site.now.git_dir)) place.outcome)
-        (IsNewHalt lookup.now.folder.now lookup.now.facts.now) }
-{
-    let mut format = format_of(lookup, &site.git_dir.name, &site.common)?;
-    format.store = given.unwrap_or(format.store);
-    Ok(place_by_format(lookup, site, &format)?)
-}
-
 /// The git directory that is found in this folder, with the folder that it shares with others. Git goes to the folder
 /// first, in which a relative GIT_COMMON_DIR then begins.
-fn site_of<'t>(
+pub(crate) fn site_of<'t>(
     lookup: &Lookup<'_, 't>,
     start: Folder<'t>,
     folder: Folder<'t>,
@@ -388,52 +354,6 @@ fn site_of<'t>(
     })
 }
 
-/// What Git does with this git directory, if it trusts it.
-fn trusted(lookup: &Lookup<'_, '_>, site: &Site<'_>) -> Result<Place, Halt>
-    requires folder_place { IsPlace lookup.now.folder.now lookup.now.facts.now site.now.folder.name.now }
-    requires place { IsPlace lookup.now.folder.now lookup.now.facts.now site.now.git_dir.name.items }
-    ensures { MatchResult result
-        (λ place. (system : System) → AreTrueIn system lookup.now.facts.now
-        → common_shown site.now.common ≡ rule.common_of system site.now.folder.name.now site.now.git_dir.name.items
-        → answers.Tells system site.now.start.name.now
-        (search.Inside site.now.folder.name.now (git_dir_of site.now.git_dir)) place.outcome)
-        (IsNewHalt lookup.now.folder.now lookup.now.facts.now) }
-{
-    let start = site.start;
-    if let Some(refusal) = refuses(lookup, start.name, site.folder, &site.git_dir)? {
-        given_store(lookup)?;
-        return Ok(Place::new(lookup.alloc, start, Outcome::Refuses(refusal))?);
-    }
-    let given = given_store(lookup)?;
-    Ok(or_stops(lookup, site.folder, used(lookup, site, given))?)
-}
-
-/// What Git does where it starts in this folder and finds this.
-fn place_of<'t>(
-    lookup: &Lookup<'_, 't>,
-    start: Folder<'t>,
-    found: Discovery<'t>,
-) -> Result<Place, Halt>
-    requires place { IsPlace lookup.now.folder.now lookup.now.facts.now start.name.now }
-    requires sought { (system : System) → AreTrueIn system lookup.now.facts.now → search.Seeks system start.name.now (found_of found) }
-    ensures { MatchResult result
-        (λ place. (system : System) → AreTrueIn system lookup.now.facts.now
-        → answers.Tells system start.entry.name.now (found_of found.entry) place.outcome)
-        (IsNewHalt lookup.now.folder.now lookup.now.facts.now) }
-{
-    check_booleans(lookup)?;
-    let outcome = match found {
-        Discovery::In(folder, git_dir) => {
-            let site = site_of(lookup, start, folder, git_dir)?;
-            return trusted(lookup, &site);
-        }
-        Discovery::Nothing => Outcome::FindsNone,
-        Discovery::Refused(given) => Outcome::Refuses(Refusal::GitDir(given.to_vec(lookup.alloc)?)),
-    };
-    given_store(lookup)?;
-    Ok(Place::new(lookup.alloc, start, outcome)?)
-}
-
 /// Adds the files of the repository that Git uses, if it uses one.
 fn push_used(alloc: Global, names: &mut Vec<Named>, outcome: &Outcome) -> Result<(), AllocError>
     ensures { OnOk result (map file_of names.new.items
@@ -458,8 +378,42 @@ fn files_of(lookup: &Lookup<'_, '_>, outcome: &Outcome) -> Result<Vec<Named>, St
     Ok(names)
 }
 
+/// The file of each scope in this place.
+fn files_of_scopes(lookup: &Lookup<'_, '_>, place: &Place) -> Result<Vec<Named>, Stop>
+    ensures { MatchResult result
+        (λ names. (system : System) → AreTrueIn system lookup.now.facts.now
+        → map file_of names.items
+        ≡ files.files_of_scopes system place.now.folder.items (answers.files_of place.now.outcome))
+        (IsNew lookup.now.folder.now lookup.now.facts.now) }
+{
+    let mut names = scope_files(lookup, &place.folder)?;
+    push_used(lookup.alloc, &mut names, &place.outcome)?;
+    Ok(names)
+}
+
+/// The files that Git reads in a place, and the file of each scope.
+#[derive(Drop)]
+pub(crate) struct Lists {
+    pub files: Vec<Named>,
+    pub of_scopes: Vec<Named>,
+}
+
+/// The lists of this place.
+pub(crate) fn lists_of(lookup: &Lookup<'_, '_>, place: &Place) -> Result<Lists, Stop>
+    ensures { MatchResult result
+        (λ lists. (system : System) → AreTrueIn system lookup.now.facts.now
+        → files.AreOnlyFiles system (answers.files_of place.now.outcome) (map file_of lists.files.items)
+        × (map file_of lists.of_scopes.items
+        ≡ files.files_of_scopes system place.now.folder.items (answers.files_of place.now.outcome)))
+        (IsNew lookup.now.folder.now lookup.now.facts.now) }
+{
+    let files = files_of(lookup, &place.outcome)?;
+    let of_scopes = files_of_scopes(lookup, place)?;
+    Ok(Lists { files, of_scopes })
+}
+
 /// What Git does in a folder that is not there.
-fn nowhere(alloc: Global, folder: &[u8]) -> Result<Place, AllocError>
+pub(crate) fn nowhere(alloc: Global, folder: &[u8]) -> Result<Place, AllocError>
     ensures { IfOk result (λ place. answers.IsNowhere place.outcome) }
 {
     Ok(Place {
@@ -471,69 +425,4 @@ fn nowhere(alloc: Global, folder: &[u8]) -> Result<Place, AllocError>
             reason: b"No such file or directory".to_vec(alloc)?,
         }),
     })
-}
-
-/// What Git does where it starts in this folder.
-fn place_from<'t>(lookup: &Lookup<'_, 't>, start: Folder<'t>) -> Result<Place, Stop>
-    requires { IsPlace lookup.now.folder.now lookup.now.facts.now start.name.now }
-    ensures { MatchResult result
-        (λ place. (system : System) → AreTrueIn system lookup.now.facts.now
-        → (sought : search.Sought) × search.OnlySeeks system start.entry.name.now sought
-        × answers.Tells system start.entry.name.now sought place.outcome)
-        (IsNew lookup.now.folder.now lookup.now.facts.now) }
-{
-    let found = seek(lookup, start)?;
-    Ok(or_stops(lookup, start, place_of(lookup, start, found))?)
-}
-
-/// What Git does in the folder about which is asked.
-fn place_in(lookup: &Lookup<'_, '_>) -> Result<Place, Stop>
-    ensures { MatchResult result
-        (λ place. (system : System) → AreTrueIn system lookup.now.facts.now
-        → answers.Does system (search.start_of lookup.now.folder.now)
-        (search.path_of system (search.start_of lookup.now.folder.now)) place.outcome)
-        (IsNew lookup.now.folder.now lookup.now.facts.now) }
-{
-    match first_folder(lookup)? {
-        Some(start) => Ok(place_from(lookup, start)?),
-        None => Ok(nowhere(lookup.alloc, lookup.folder)?),
-    }
-}
-
-/// What Git reads in the folder about which is asked, or the question that no fact answers yet.
-fn answer_by(lookup: &Lookup<'_, '_>) -> Result<Answer, Stop>
-    ensures { MatchResult result
-        (λ answer. (system : System) → AreTrueIn system lookup.now.facts.now
-        → answers.Answers system lookup.now.folder.now answer)
-        (IsNew lookup.now.folder.now lookup.now.facts.now) }
-{
-    let place = place_in(lookup)?;
-    let files = files_of(lookup, &place.outcome)?;
-    Ok(Answer {
-        folder: place.folder,
-        outcome: place.outcome,
-        files,
-    })
-}
-
-/// What Git reads in a folder, by these facts. It stops at a question that no fact answers yet, or if memory is refused.
-/// The name of the folder begins in the current folder of the caller, which is meant by an empty one and by `.`.
-///
-/// ```rust
-/// use config_search::{Stop, VARIABLE, search};
-///
-/// let Err(Stop::Ask(question)) = search(alloc, b"", &[]) else {
-///     panic!(rt; "a question");
-/// };
-/// assert_eq!(rt; question.subject, VARIABLE);
-/// assert_eq!(rt; question.name.as_slice(), b"PWD".as_slice()); // tell it as a fact, and search again
-/// ```
-pub fn search<'t>(alloc: Global, folder: &'t [u8], facts: &[Fact<'t>]) -> Result<Answer, Stop>
-    ensures { MatchResult result
-        (λ answer. (system : System) → AreTrueIn system facts.now → answers.Answers system folder.now answer)
-        (IsNew folder.now facts.now) }
-{
-    let lookup = Lookup::new(alloc, folder, facts);
-    ask_ahead(&lookup)?;
-    Ok(answer_by(&lookup)?)
 }

@@ -1,253 +1,25 @@
 //! The settings that no repository can change, which decide whether Git uses one: those of the system, of the user and of
 //! the command. No repository is known to their conditions.
-ghost use Rattle.std.specs.Prelude.{◌≡◌, ◌++◌, ◌∷◌, [], ℕ, List, None, Some, IfOk, IfErr, OnOk, MatchResult, option_copied, map, drop, length, ◌-◌, codes};
-ghost use Rattle.std.specs.Fmt.{decimal};
-ghost use Rattle.config_file.specs.Settings.{HoldsContent};
-ghost use Rattle.config_file.specs.Command.{AddsSettings, KeyValue};
+ghost use Rattle.std.specs.Prelude.{◌≡◌, ◌+◌, ◌<◌, ℕ, List, None, IfErr, IfSome, MatchOption, MatchResult, codes, is_some, length, map};
+ghost use Rattle.std.specs.List.{slice_get};
 ghost use Rattle.config_search.specs.System.{System, AreTrueIn};
 ghost use Rattle.config_search.specs.Protected as rule;
-ghost use Rattle.config_search.specs.declared.TheConstants.{VARIABLE};
-ghost use Rattle.config_search.specs.Questions.{IsNeeded};
-ghost use Rattle.config_search.specs.Shown.{IsNew, IsNewHalt, AsksNothing, MayHold, AreSources, file_of};
+ghost use Rattle.config_search.specs.Reading.{AreSources, IsFrom, IsOfFile, IsReading, IsUnread};
+ghost use Rattle.config_search.specs.Names.{inside};
+ghost use Rattle.config_search.specs.Shown.{IsNewHalt, file_of};
+ghost use Rattle.config_search.specs.declared.TheConstants.{SETTINGS};
 
+use crate::SETTINGS;
 use crate::answer::{FaultKind, Named};
-use crate::fact::{Lookup, Stop, answer_in, answer_of, answer_to, fact_in};
-use crate::files::protected_files;
+use crate::fact::{Lookup, answer_of, fact_in};
 use crate::halt::{Halt, fault};
-use crate::name::{joined, push};
-use crate::{INCLUDED, REFUSAL, SETTINGS, VARIABLE};
-use config_file::errors::{FileError, FileFault};
-use config_file::walk::include_of;
+use crate::name::push;
+use crate::reader::{Source, add_source, end_of, refusal_in};
+use crate::sources::{COMMAND, Sources};
 use config_file::{
-    AddError, CommandError, Condition, Content, Directories, Entry, FilePlace, Files, Include,
-    IncludeFault, Includes, Known, Scope, Settings, Urls, count_of, is_remote_url, push_parameters,
-    push_setting,
+    Condition, Directories, Entry, FilePlace, Includes, Known, Scope, Settings, Urls, is_remote_url,
 };
-use itoa::Buffer;
 use std::alloc::{AllocError, Global};
-
-/// Where the settings are that no repository can change: the names of files, and the text of those of the command.
-#[derive(Drop)]
-pub(crate) struct Sources {
-    files: Vec<Named>,
-    command: Vec<u8>,
-}
-
-/// The files that a text includes, as facts tell them.
-#[derive(Clone, Copy)]
-struct Included<'a, 'f, 't> {
-    lookup: &'a Lookup<'f, 't>,
-    /// The folder in which names begin.
-    start: &'a [u8],
-    /// Whether the text is that of a file, so that what it includes may begin in a folder.
-    is_file: bool,
-}
-
-/// The end of a name of this many bytes.
-fn end_of(name: &[u8], count: usize) -> &[u8]
-    ensures { result.now ≡ drop (length name.now - count) name.now }
-{
-    &name[name.len().saturating_sub(count)..]
-}
-
-impl<'t> Included<'_, '_, 't> {
-    /// What the file of this name holds, or a question.
-    fn content(&self, name: &[u8]) -> Result<Content<'t>, Stop>
-        ensures { MatchResult result (HoldsContent (MayHold self.now.lookup.now.facts.now self.now.start.now) name.now)
-            (IsNew self.now.lookup.now.folder.now self.now.lookup.now.facts.now) }
-    {
-        let fact = fact_in(self.lookup, INCLUDED, self.start, name)?;
-        if let Some(text) = answer_of(&fact) {
-            let place = FilePlace {
-                name: end_of(fact.name, name.len()),
-                real_dir: b"",
-            };
-            return Ok(Content::Text(place, text));
-        }
-        match answer_in(self.lookup, REFUSAL, self.start, name)? {
-            None => Ok(Content::Missing),
-            Some(_) => Ok(Content::Unreadable("")),
-        }
-    }
-}
-
-impl<'t> Files<'t> for Included<'_, '_, 't> {
-    ghost contents = { λ it name content. MayHold it.lookup.now.facts.now it.start.now name content };
-
-    /// What the file of this name holds. One of which facts do not tell that is taken for one that is not read.
-    fn read(&self, _alloc: Global, name: &[u8]) -> Result<Content<'t>, AllocError> {
-        if !self.is_file && !name.starts_with(b"/") {
-            return Ok(Content::Unreadable(""));
-        }
-        match self.content(name) {
-            Ok(content) => Ok(content),
-            Err(Stop::Ask(_) | Stop::TooManyFacts) => Ok(Content::Unreadable("")),
-            Err(Stop::Memory(error)) => Err(error),
-        }
-    }
-}
-
-/// Why the text of a file in a folder is not read, or `None` if there is no such file.
-fn refusal_in<'t>(
-    lookup: &Lookup<'_, 't>,
-    folder: &[u8],
-    name: &[u8],
-) -> Result<Option<&'t [u8]>, Stop>
-    ensures { IfErr result (IsNew lookup.now.folder.now lookup.now.facts.now) }
-{
-    match answer_in(lookup, REFUSAL, folder, name)? {
-        Some(b"denied") => Ok(Some(b"Permission denied")),
-        refusal => Ok(refusal),
-    }
-}
-
-/// A line of a file that cannot be read.
-pub(crate) fn at_line(alloc: Global, file: &[u8], error: FileError) -> Result<Halt, AllocError>
-    ensures { IfOk result AsksNothing }
-{
-    let kind = match error.fault {
-        FileFault::BadLine => FaultKind::Line,
-        FileFault::Nul => FaultKind::Nul,
-    };
-    fault(alloc, kind, file, error.line, error.fault.text().as_bytes())
-}
-
-/// Where Git stops at an include in this line of a file.
-fn at_include(
-    alloc: Global,
-    file: &[u8],
-    line: usize,
-    why: IncludeFault<'_>,
-) -> Result<Halt, AllocError>
-    ensures { IfOk result AsksNothing }
-{
-    let kind = match why {
-        IncludeFault::MissingValue => FaultKind::NoValue,
-        IncludeFault::UnknownDirectory => FaultKind::UnknownDirectory,
-        IncludeFault::TooDeep => FaultKind::TooDeep,
-        IncludeFault::ForbiddenUrl => FaultKind::ForbiddenUrl,
-        _ => FaultKind::Unreadable,
-    };
-    fault(alloc, kind, file, line, why.text().as_bytes())
-}
-
-/// Why Git stops at an entry that includes the file of this name, which is not read.
-fn not_read(
-    included: &Included<'_, '_, '_>,
-    file: &[u8],
-    line: usize,
-    name: &[u8],
-) -> Result<Halt, Stop>
-    ensures { MatchResult result AsksNothing (IsNew included.now.lookup.now.folder.now included.now.lookup.now.facts.now) }
-{
-    let alloc = included.lookup.alloc;
-    if !included.is_file && !name.starts_with(b"/") {
-        let why = b"relative config includes must come from files";
-        return Ok(fault(alloc, FaultKind::Relative, file, line, why)?);
-    }
-    fact_in(included.lookup, INCLUDED, included.start, name)?;
-    let why = refusal_in(included.lookup, included.start, name)?.unwrap_or_default();
-    let front = joined(alloc, b"cannot read ", name, b": ")?;
-    let reason = joined(alloc, &front, why, b"")?;
-    Ok(fault(alloc, FaultKind::Unreadable, file, line, &reason)?)
-}
-
-/// Why Git stops at the last of these entries, whose file is not read.
-fn at_last(
-    included: &Included<'_, '_, '_>,
-    known: &Known<'_>,
-    settings: &Settings<'_>,
-    why: IncludeFault<'_>,
-) -> Result<Halt, Stop>
-    ensures { MatchResult result AsksNothing (IsNew included.now.lookup.now.folder.now included.now.lookup.now.facts.now) }
-{
-    let alloc = included.lookup.alloc;
-    let Some(last) = settings.entries.last() else {
-        return Ok(at_include(alloc, b"", 0, why)?);
-    };
-    let place = FilePlace {
-        name: last.file,
-        real_dir: b"",
-    };
-    match include_of(alloc, known, place, &last.entry)? {
-        Include::Named(name) => not_read(included, last.file, last.entry.line, &name),
-        _ => Ok(at_include(alloc, last.file, last.entry.line, why)?),
-    }
-}
-
-/// Why Git stops in a text, of which these settings are read.
-fn stop_of(
-    included: &Included<'_, '_, '_>,
-    known: &Known<'_>,
-    settings: &Settings<'_>,
-    error: AddError<'_>,
-) -> Result<Halt, Stop>
-    ensures { MatchResult result AsksNothing (IsNew included.now.lookup.now.folder.now included.now.lookup.now.facts.now) }
-{
-    let alloc = included.lookup.alloc;
-    match error {
-        AddError::Line { file, error } => Ok(at_line(alloc, file, error)?),
-        AddError::Include {
-            fault: why @ IncludeFault::Unreadable(_),
-            ..
-        } => at_last(included, known, settings, why),
-        AddError::Include { file, line, fault } => Ok(at_include(alloc, file, line, fault)?),
-        _ => Err(Stop::Memory(AllocError)),
-    }
-}
-
-/// Adds the settings of a text of this name, and of what it includes.
-fn add_text<'s, 't: 's>(
-    included: &Included<'_, '_, 't>,
-    known: &Known<'_>,
-    settings: &mut Settings<'s>,
-    scope: Scope,
-    name: &'s [u8],
-    text: &'s [u8],
-) -> Result<(), Halt>
-    ensures { MatchResult result
-        (λ done. (system : System) → AreTrueIn system included.now.lookup.now.facts.now
-        → rule.AddsText system included.now.start.now known.now name.now text.now
-        settings.old.entries.items settings.new.entries.items)
-        (IsNewHalt included.now.lookup.now.folder.now included.now.lookup.now.facts.now) }
-{
-    let place = FilePlace {
-        name,
-        real_dir: b"",
-    };
-    let alloc = included.lookup.alloc;
-    match settings.add_with_includes(alloc, scope, included, known, place, text) {
-        Ok(()) => Ok(()),
-        Err(error) => Err(stop_of(included, known, settings, error)?),
-    }
-}
-
-/// Adds the settings of a file, and of what it includes, if it is read. One of the user may be denied to him.
-fn add_file<'s, 't: 's>(
-    lookup: &Lookup<'_, 't>,
-    start: &[u8],
-    known: &Known<'_>,
-    settings: &mut Settings<'s>,
-    named: &'s Named,
-) -> Result<(), Halt>
-    ensures { MatchResult result
-        (λ done. (system : System) → AreTrueIn system lookup.now.facts.now
-        → rule.AddsFile system start.now known.now (file_of named.now)
-        settings.old.entries.items settings.new.entries.items)
-        (IsNewHalt lookup.now.folder.now lookup.now.facts.now) }
-{
-    let Some(text) = answer_in(lookup, SETTINGS, start, &named.name)? else {
-        check_unread(lookup, start, named)?;
-        return Ok(());
-    };
-    let included = Included {
-        lookup,
-        start,
-        is_file: true,
-    };
-    add_text(&included, known, settings, named.scope, &named.name, text)?;
-    Ok(())
-}
 
 /// Stops where Git does at a file that is not read: one that is there, unless it is a file of the user who may not read
 /// it.
@@ -261,108 +33,116 @@ fn check_unread(lookup: &Lookup<'_, '_>, start: &[u8], named: &Named) -> Result<
     }
 }
 
-/// The refusal of the settings of a command.
-fn of_command(alloc: Global, error: CommandError) -> Result<Halt, AllocError>
-    ensures { IfOk result AsksNothing }
+/// The text of a file, if it is read. Names begin in this folder.
+pub(crate) fn source_of<'t>(
+    lookup: &Lookup<'_, 't>,
+    start: &[u8],
+    named: &Named,
+) -> Result<Option<Source<'t>>, Halt>
+    ensures { MatchResult result
+        (λ found. (system : System) → AreTrueIn system lookup.now.facts.now
+        → MatchOption found (system SETTINGS (inside start.now named.now.name.items) ≡ None)
+        (IsOfFile system start.now named.now))
+        (IsNewHalt lookup.now.folder.now lookup.now.facts.now) }
 {
-    match error {
-        CommandError::Memory(error) => Ok(Halt::from(error)),
-        error => {
-            let reason = format!(in alloc; "{error}")?;
-            let kind = FaultKind::Command;
-            fault(alloc, kind, COMMAND, 0, reason.as_bytes())
+    let fact = fact_in(lookup, SETTINGS, start, &named.name)?;
+    let Some(text) = answer_of(&fact) else {
+        check_unread(lookup, start, named)?;
+        return Ok(None);
+    };
+    let place = FilePlace {
+        name: end_of(fact.name, &named.name),
+        real_dir: b"",
+    };
+    Ok(Some(Source {
+        scope: named.scope,
+        place,
+        text,
+        is_file: true,
+    }))
+}
+
+impl<'t> Sources<'t> {
+    /// The settings of the command.
+    pub fn of_command(&self) -> Source<'t>
+        ensures text { result.text.now ≡ self.now.command.now }
+        ensures name { result.place.name.now ≡ codes "command line" }
+    {
+        let place = FilePlace {
+            name: COMMAND,
+            real_dir: b"",
+        };
+        Source {
+            scope: Scope::Command,
+            place,
+            text: self.command,
+            is_file: false,
         }
     }
 }
 
-/// The name of the text of the settings of a command.
-const COMMAND: &[u8] = b"command line";
-
-/// The value of the variable with this name and this number.
-fn numbered<'t>(
-    lookup: &Lookup<'_, 't>,
-    name: &[u8],
-    number: usize,
-) -> Result<Option<&'t [u8]>, Stop>
-    requires { IsNeeded lookup.now.folder.now lookup.now.facts.now VARIABLE (name.now ++ decimal number) }
-    ensures { MatchResult result
-        (λ answer. (system : System) → AreTrueIn system lookup.now.facts.now
-        → option_copied answer ≡ system VARIABLE (name.now ++ decimal number))
-        (IsNew lookup.now.folder.now lookup.now.facts.now) }
-{
-    let mut digits = Buffer::new();
-    let name = joined(lookup.alloc, name, digits.format(number).as_bytes(), b"")?;
-    Ok(answer_to(lookup, VARIABLE, &name)?)
+/// Settings that are read of the first of the files.
+#[derive(Drop)]
+pub(crate) struct Reading<'t> {
+    pub sources: Sources<'t>,
+    pub settings: Settings<'t>,
+    /// How many files are read.
+    pub done: usize,
 }
 
-/// Appends the setting of this number.
-fn push_numbered(lookup: &Lookup<'_, '_>, text: &mut Vec<u8>, number: usize) -> Result<(), Halt>
-    ensures { MatchResult result
-        (λ done. (system : System) → AreTrueIn system lookup.now.facts.now
-        → (setting : KeyValue) × (line : List ℕ) × rule.IsNumbered system number setting
-        × AddsSettings line (setting ∷ []) × (text.new.items ≡ text.old.items ++ line))
-        (IsNewHalt lookup.now.folder.now lookup.now.facts.now) }
-{
-    let Some(key) = numbered(lookup, b"GIT_CONFIG_KEY_", number)? else {
-        return Err(of_command(lookup.alloc, CommandError::MissingKey(number))?);
-    };
-    let Some(value) = numbered(lookup, b"GIT_CONFIG_VALUE_", number)? else {
-        return Err(of_command(lookup.alloc, CommandError::MissingValue(number))?);
-    };
-    match push_setting(lookup.alloc, text, key, Some(value)) {
-        Ok(()) => Ok(()),
-        Err(error) => Err(of_command(lookup.alloc, error)?),
+impl<'t> Reading<'t> {
+    /// Nothing is read.
+    pub fn new(alloc: Global, sources: Sources<'t>) -> Reading<'t>
+        ensures { (system : System) (start : List ℕ) → AreSources system sources.entry
+            → IsReading system start result }
+    {
+        Reading {
+            sources,
+            settings: Settings::new(alloc),
+            done: 0,
+        }
     }
-}
 
-/// The settings that GIT_CONFIG_COUNT counts, as the text of a file.
-fn counted_text(lookup: &Lookup<'_, '_>) -> Result<Vec<u8>, Halt>
-    ensures { MatchResult result
-        (λ text. (system : System) → AreTrueIn system lookup.now.facts.now
-        → (settings : List KeyValue) × AddsSettings text.items settings
-        × rule.AreCounted system (system VARIABLE (codes "GIT_CONFIG_COUNT")) settings)
-        (IsNewHalt lookup.now.folder.now lookup.now.facts.now) }
-{
-    let mut text = Vec::new(lookup.alloc);
-    let Some(count) = answer_to(lookup, VARIABLE, b"GIT_CONFIG_COUNT")? else {
-        return Ok(text);
-    };
-    let count = match count_of(count) {
-        Ok(count) => count,
-        Err(error) => return Err(of_command(lookup.alloc, error)?),
-    };
-    for number in 0..count {
-        push_numbered(lookup, &mut text, number)?;
+    /// Whether there is a file that is not read yet.
+    pub fn has_next(&self) -> bool
+        ensures { result ≡ is_some (slice_get self.now.sources.files.items self.now.done) }
+    {
+        match self.sources.files.get(self.done) {
+            Some(_) => true,
+            None => false,
+        }
     }
-    Ok(text)
-}
 
-/// The settings of the command as the text of a file: first those of GIT_CONFIG_COUNT, and then those of
-/// GIT_CONFIG_PARAMETERS, in which `git -c` hands them on.
-fn command_text(lookup: &Lookup<'_, '_>) -> Result<Vec<u8>, Halt>
-    ensures { MatchResult result
-        (λ text. (system : System) → AreTrueIn system lookup.now.facts.now → rule.IsOfCommand system text.items)
-        (IsNewHalt lookup.now.folder.now lookup.now.facts.now) }
-{
-    let mut text = counted_text(lookup)?;
-    let Some(parameters) = answer_to(lookup, VARIABLE, b"GIT_CONFIG_PARAMETERS")? else {
-        return Ok(text);
-    };
-    match push_parameters(lookup.alloc, &mut text, parameters) {
-        Ok(()) => Ok(text),
-        Err(error) => Err(of_command(lookup.alloc, error)?),
+    /// The same, with one more file that is read.
+    pub fn with_next(self) -> Reading<'t>
+        ensures sources { result.sources ≡ self.entry.sources }
+        ensures settings { result.settings ≡ self.entry.settings }
+        ensures done { self.entry.done < length self.entry.sources.files.items
+            → result.done ≡ self.entry.done + 1 }
+    {
+        Reading {
+            sources: self.sources,
+            settings: self.settings,
+            done: self.done.saturating_add(1),
+        }
     }
-}
 
-/// Where the settings are that no repository can change.
-pub(crate) fn sources_of(lookup: &Lookup<'_, '_>) -> Result<Sources, Halt>
-    ensures { MatchResult result
-        (λ sources. (system : System) → AreTrueIn system lookup.now.facts.now → AreSources system sources)
-        (IsNewHalt lookup.now.folder.now lookup.now.facts.now) }
-{
-    let files = protected_files(lookup)?;
-    let command = command_text(lookup)?;
-    Ok(Sources { files, command })
+    /// The text that comes next, or `None` if the next file is not read. Names begin in this folder.
+    pub fn next_source(
+        &self,
+        lookup: &Lookup<'_, 't>,
+        start: &[u8],
+    ) -> Result<Option<Source<'t>>, Halt>
+        ensures { MatchResult result
+            (λ found. (system : System) → AreTrueIn system lookup.now.facts.now
+            → MatchOption found (IsUnread system start.now self.now) (IsFrom system start.now self.now))
+            (IsNewHalt lookup.now.folder.now lookup.now.facts.now) }
+    {
+        match self.sources.files.get(self.done) {
+            Some(named) => Ok(source_of(lookup, start, named)?),
+            None => Ok(Some(self.sources.of_command())),
+        }
+    }
 }
 
 /// Whether an entry has a condition on the URLs of remotes.
@@ -380,7 +160,7 @@ fn asks_for_urls(alloc: Global, entry: &Entry<'_>) -> Result<bool, AllocError> {
 }
 
 /// Whether one of these settings has such a condition.
-fn ask_for_urls(alloc: Global, settings: &Settings<'_>) -> Result<bool, AllocError> {
+fn have_url_condition(alloc: Global, settings: &Settings<'_>) -> Result<bool, AllocError> {
     for setting in &settings.entries {
         if asks_for_urls(alloc, &setting.entry)? {
             return Ok(true);
@@ -402,13 +182,33 @@ fn urls_in<'s>(alloc: Global, settings: &'s Settings<'_>) -> Result<Vec<&'s [u8]
     Ok(urls)
 }
 
-/// The settings of these files and of what they include.
-fn settings_of<'s, 't: 's>(
+/// Adds the settings of a file, and of what it includes, if it is read.
+fn add_file<'t>(
     lookup: &Lookup<'_, 't>,
     start: &[u8],
     known: &Known<'_>,
-    files: &'s [Named],
-) -> Result<Settings<'s>, Halt>
+    settings: &mut Settings<'t>,
+    named: &Named,
+) -> Result<(), Halt>
+    ensures { MatchResult result
+        (λ done. (system : System) → AreTrueIn system lookup.now.facts.now
+        → rule.AddsFile system start.now known.now (file_of named.now)
+        settings.old.entries.items settings.new.entries.items)
+        (IsNewHalt lookup.now.folder.now lookup.now.facts.now) }
+{
+    match source_of(lookup, start, named)? {
+        Some(source) => Ok(add_source(lookup, start, known, settings, source)?),
+        None => Ok(()),
+    }
+}
+
+/// The settings of these files and of what they include.
+fn settings_of<'t>(
+    lookup: &Lookup<'_, 't>,
+    start: &[u8],
+    known: &Known<'_>,
+    files: &[Named],
+) -> Result<Settings<'t>, Halt>
     ensures { MatchResult result
         (λ settings. (system : System) → AreTrueIn system lookup.now.facts.now
         → rule.AreIn system start.now known.now (map file_of files.now) settings.entries.items)
@@ -421,59 +221,31 @@ fn settings_of<'s, 't: 's>(
     Ok(settings)
 }
 
-/// The settings of these sources, where the URLs of remotes are these.
-fn settings_by<'s, 't: 's>(
+/// The settings once more, where a condition asks about the URLs of remotes, which are known by now. `None` if no
+/// condition does.
+pub(crate) fn with_urls<'t>(
     lookup: &Lookup<'_, 't>,
     start: &[u8],
-    sources: &'s Sources,
-    urls: Urls<'_>,
-) -> Result<Settings<'s>, Halt>
+    sources: &Sources<'t>,
+    settings: &Settings<'t>,
+) -> Result<Option<Settings<'t>>, Halt>
     ensures { MatchResult result
-        (λ settings. (system : System) → AreTrueIn system lookup.now.facts.now → AreSources system sources.now
-        → rule.AreProtected system start.now settings.entries.items)
+        (λ found. (system : System) → AreTrueIn system lookup.now.facts.now → AreSources system sources.now
+        → IfSome found (λ more. rule.AreProtected system start.now more.entries.items))
         (IsNewHalt lookup.now.folder.now lookup.now.facts.now) }
 {
-    let directories = Directories {
-        home: answer_to(lookup, VARIABLE, b"HOME")?,
-        install_dir: None,
-    };
-    let known = Known {
-        directories,
-        includes: Includes::AsGit(None, urls),
-    };
-    let mut settings = settings_of(lookup, start, &known, &sources.files)?;
-    let included = Included {
-        lookup,
-        start,
-        is_file: false,
-    };
-    add_text(
-        &included,
-        &known,
-        &mut settings,
-        Scope::Command,
-        COMMAND,
-        &sources.command,
-    )?;
-    Ok(settings)
-}
-
-/// The settings that no repository can change, in order. Names begin in the folder `start`. If a condition asks about
-/// the URLs of remotes, these are sought first.
-pub(crate) fn protected_settings<'s, 't: 's>(
-    lookup: &Lookup<'_, 't>,
-    start: &[u8],
-    sources: &'s Sources,
-) -> Result<Settings<'s>, Halt>
-    ensures { MatchResult result
-        (λ settings. (system : System) → AreTrueIn system lookup.now.facts.now → AreSources system sources.now
-        → rule.AreProtected system start.now settings.entries.items)
-        (IsNewHalt lookup.now.folder.now lookup.now.facts.now) }
-{
-    let settings = settings_by(lookup, start, sources, Urls::Sought)?;
-    if !ask_for_urls(lookup.alloc, &settings)? {
-        return Ok(settings);
+    if !have_url_condition(lookup.alloc, settings)? {
+        return Ok(None);
     }
-    let urls = urls_in(lookup.alloc, &settings)?;
-    Ok(settings_by(lookup, start, sources, Urls::Known(&urls))?)
+    let urls = urls_in(lookup.alloc, settings)?;
+    let known = Known {
+        directories: Directories {
+            home: sources.home,
+            install_dir: None,
+        },
+        includes: Includes::AsGit(None, Urls::Known(&urls)),
+    };
+    let mut more = settings_of(lookup, start, &known, &sources.files)?;
+    add_source(lookup, start, &known, &mut more, sources.of_command())?;
+    Ok(Some(more))
 }

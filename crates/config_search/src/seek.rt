@@ -1,6 +1,7 @@
 //! Seeks the git directory of a folder, as Git does: GIT_DIR, or the first one upwards.
 
-ghost use Rattle.std.specs.Prelude.{◌≡◌, ℕ, List, [], true, false, None, Contains, codes, map, MatchBool, MatchResult, IfSome, option_copied, option_map};
+ghost use Rattle.std.specs.Prelude.{◌≡◌, ◌≤◌, ◌∷◌, ℕ, Bool, List, [], true, false, None, Contains, codes, length, map, MatchBool, MatchResult, IfErr, IfSome, option_copied, option_map};
+ghost use Rattle.std.specs.List.{prefix_len};
 ghost use Rattle.config_search.specs.System.{System, AreTrueIn};
 ghost use Rattle.config_search.specs.Questions.{IsNeeded, IsPlace};
 ghost use Rattle.config_search.specs.Shown.{IsNew, AreLimits, form_of, found_of, git_dir_of};
@@ -11,7 +12,7 @@ ghost use Rattle.config_search.specs.declared.TheConstants.{VARIABLE, DEVICE};
 
 use crate::fact::{Lookup, Stop, answer_in, answer_to, is_known, is_word};
 use crate::git_dir::{has_folder, is_git_dir, linked};
-use crate::name::{inside, opened, parent, push};
+use crate::name::{inside, opened, push};
 use crate::{CURRENT, DEVICE, IDENTITY, KIND, REAL, VARIABLE};
 use config_text::readers::TryRead;
 use gix_config_value::Boolean;
@@ -254,7 +255,11 @@ fn find_bare(lookup: &Lookup<'_, '_>, start: &[u8], folder: &[u8]) -> Result<Opt
 }
 
 /// The git directory of a folder, if it has one or is one.
-fn find_in(lookup: &Lookup<'_, '_>, start: &[u8], folder: &[u8]) -> Result<Option<GitDir>, Stop>
+pub(crate) fn find_in(
+    lookup: &Lookup<'_, '_>,
+    start: &[u8],
+    folder: &[u8],
+) -> Result<Option<GitDir>, Stop>
     requires start_place { IsPlace lookup.now.folder.now lookup.now.facts.now start.now }
     requires place { IsPlace lookup.now.folder.now lookup.now.facts.now folder.now }
     ensures { MatchResult result
@@ -306,42 +311,24 @@ fn counts(is_resolved: bool, part: &[u8]) -> bool
     is_resolved && !part.is_empty()
 }
 
-/// The folders that this text names, between which are colons, without links. Those after an empty one are taken as
-/// they are.
-fn ceilings_in<'t>(lookup: &Lookup<'_, 't>, text: &'t [u8]) -> Result<Vec<&'t [u8]>, Stop>
-    ensures { MatchResult result
-        (λ found. (system : System) → AreTrueIn system lookup.now.facts.now
-        → map (λ c. c.now) found.items ≡ search.ceilings_in system true [] text.now)
-        (IsNew lookup.now.folder.now lookup.now.facts.now) }
+/// How many bytes a text has before its first colon.
+fn part_length(text: &[u8]) -> usize
+    ensures count { result ≡ prefix_len search.is_no_colon text.now }
+    ensures within { result ≤ length text.now }
 {
-    let mut found = Vec::new(lookup.alloc);
-    let mut is_resolved = true;
-    let mut start = 0;
-    for (i, byte) in text.iter().enumerate() {
-        if *byte == b':' {
-            let folder = &text[start..i];
-            is_resolved = counts(is_resolved, folder);
-            let at = ceiling(lookup, folder, is_resolved)?;
-            push(&mut found, at)?;
-            start = i + 1;
-        }
-    }
-    let folder = &text[start..];
-    let at = ceiling(lookup, folder, counts(is_resolved, folder))?;
-    push(&mut found, at)?;
-    Ok(found)
+    text.iter().take_while(|byte| **byte != b':').count()
 }
 
-/// The folders of GIT_CEILING_DIRECTORIES.
-fn ceilings<'t>(lookup: &Lookup<'_, 't>) -> Result<Vec<&'t [u8]>, Stop>
-    ensures { MatchResult result
-        (λ found. (system : System) → AreTrueIn system lookup.now.facts.now
-        → map (λ c. c.now) found.items ≡ search.ceilings system)
-        (IsNew lookup.now.folder.now lookup.now.facts.now) }
+/// The first part of a list between colons, and what follows its colon, if it has one.
+fn cut(text: &[u8]) -> (&[u8], Option<&[u8]>)
+    ensures { (system : System) (resolves : Bool) → search.ceilings_in system resolves [] text.now
+        ≡ search.ceiling system (search.counts resolves result.0.now) result.0.now
+        ∷ search.ceilings_left system (search.counts resolves result.0.now) (option_copied result.1) }
 {
-    match answer_to(lookup, VARIABLE, b"GIT_CEILING_DIRECTORIES")? {
-        Some(text) => Ok(ceilings_in(lookup, text)?),
-        None => Ok(Vec::new(lookup.alloc)),
+    let (part, rest) = text.split_at(part_length(text));
+    match rest {
+        [] => (part, None),
+        [_, more @ ..] => (part, Some(more)),
     }
 }
 
@@ -378,16 +365,21 @@ fn device_of<'t>(
 
 /// Where a search upwards ends.
 #[derive(Drop)]
-struct Limits<'t> {
+pub(crate) struct Limits<'t> {
     /// Whether it goes on in other devices than that of the first folder.
     crosses: bool,
     device: Option<&'t [u8]>,
+    /// The first folders of GIT_CEILING_DIRECTORIES.
     ceilings: Vec<&'t [u8]>,
+    /// Whether links count in the next one.
+    is_resolved: bool,
+    /// Those that are not looked at yet.
+    rest: Option<&'t [u8]>,
 }
 
 impl<'t> Limits<'t> {
-    /// What the environment says of a search that begins in this folder.
-    fn new(lookup: &Lookup<'_, 't>, folder: &[u8]) -> Result<Limits<'t>, Stop>
+    /// What the environment says of a search that begins in this folder. No ceiling is looked at.
+    pub fn new(lookup: &Lookup<'_, 't>, folder: &[u8]) -> Result<Limits<'t>, Stop>
         requires { IsPlace lookup.now.folder.now lookup.now.facts.now folder.now }
         ensures { MatchResult result
             (λ limits. (system : System) → AreTrueIn system lookup.now.facts.now
@@ -396,20 +388,50 @@ impl<'t> Limits<'t> {
     {
         let crosses = is_on(lookup, b"GIT_DISCOVERY_ACROSS_FILESYSTEM")?;
         let device = device_of(lookup, crosses, folder)?;
-        let ceilings = ceilings(lookup)?;
+        let rest = answer_to(lookup, VARIABLE, b"GIT_CEILING_DIRECTORIES")?;
         Ok(Limits {
             crosses,
             device,
-            ceilings,
+            ceilings: Vec::new(lookup.alloc),
+            is_resolved: true,
+            rest,
         })
     }
 
+    /// Whether all ceilings are looked at.
+    pub fn are_whole(&self) -> bool
+        ensures { result ≡ true → self.now.rest ≡ None }
+    {
+        match self.rest {
+            Some(_) => false,
+            None => true,
+        }
+    }
+
+    /// Looks at the next ceiling. All stays the same where this fails.
+    pub fn push_next(&mut self, lookup: &Lookup<'_, 't>) -> Result<(), Stop>
+        ensures limits { (system : System) (folder : List ℕ) → AreTrueIn system lookup.now.facts.now
+            → AreLimits system folder self.old → AreLimits system folder self.new }
+        ensures asks { IfErr result (IsNew lookup.now.folder.now lookup.now.facts.now) }
+    {
+        let Some(text) = self.rest else {
+            return Ok(());
+        };
+        let (part, more) = cut(text);
+        let is_resolved = counts(self.is_resolved, part);
+        let at = ceiling(lookup, part, is_resolved)?;
+        push(&mut self.ceilings, at)?;
+        self.is_resolved = is_resolved;
+        self.rest = more;
+        Ok(())
+    }
+
     /// Whether the search ends before this folder.
-    fn end_at(&self, lookup: &Lookup<'_, '_>, folder: &[u8]) -> Result<bool, Stop>
+    pub fn end_at(&self, lookup: &Lookup<'_, '_>, folder: &[u8]) -> Result<bool, Stop>
         requires { IsPlace lookup.now.folder.now lookup.now.facts.now folder.now }
         ensures { MatchResult result
             (λ ends. (system : System) (start : List ℕ) → AreTrueIn system lookup.now.facts.now
-            → AreLimits system start self.now
+            → AreLimits system start self.now → self.now.rest ≡ None
             → MatchBool ends (search.Ends system start folder.now) (¬ (search.Ends system start folder.now)))
             (IsNew lookup.now.folder.now lookup.now.facts.now) }
     {
@@ -426,42 +448,8 @@ impl<'t> Limits<'t> {
     }
 }
 
-/// The git directory of the first folder above this path that has one. The search ends at a ceiling, and on another
-/// device unless GIT_DISCOVERY_ACROSS_FILESYSTEM says otherwise.
-fn find_above<'t>(
-    lookup: &Lookup<'_, 't>,
-    start: &[u8],
-    limits: &Limits<'t>,
-    lowest: &'t [u8],
-) -> Result<Discovery<'t>, Stop>
-    requires start_place { IsPlace lookup.now.folder.now lookup.now.facts.now start.now }
-    requires place { IsPlace lookup.now.folder.now lookup.now.facts.now lowest.now }
-    ensures { MatchResult result
-        (λ found. (system : System) → AreTrueIn system lookup.now.facts.now
-        → AreLimits system start.now limits.now → search.Above system start.now lowest.now (found_of found))
-        (IsNew lookup.now.folder.now lookup.now.facts.now) }
-{
-    let mut folder = lowest;
-    'up: loop {
-        let Some(above) = parent(folder) else {
-            return Ok(Discovery::Nothing);
-        };
-        if limits.end_at(lookup, above)? {
-            return Ok(Discovery::Nothing);
-        }
-        if let Some(git_dir) = find_in(lookup, start, above)? {
-            let place = Folder {
-                name: above,
-                path: above,
-            };
-            return Ok(Discovery::In(place, git_dir));
-        }
-        folder = above;
-    }
-}
-
 /// The git directory that GIT_DIR names, or to which the file of that name links.
-fn find_given<'t>(
+pub(crate) fn find_given<'t>(
     lookup: &Lookup<'_, 't>,
     start: Folder<'t>,
     given: &'t [u8],
@@ -483,36 +471,4 @@ fn find_given<'t>(
         return Ok(Discovery::In(start, git_dir));
     }
     Ok(Discovery::Refused(given))
-}
-
-/// The git directory of a folder: that of the folder itself, or of the first one above it.
-fn find_upwards<'t>(lookup: &Lookup<'_, 't>, start: Folder<'t>) -> Result<Discovery<'t>, Stop>
-    requires { IsPlace lookup.now.folder.now lookup.now.facts.now start.name.now }
-    ensures { MatchResult result
-        (λ found. (system : System) → AreTrueIn system lookup.now.facts.now
-        → system VARIABLE (codes "GIT_DIR") ≡ None → search.Seeks system start.entry.name.now (found_of found))
-        (IsNew lookup.now.folder.now lookup.now.facts.now) }
-{
-    if let Some(git_dir) = find_in(lookup, start.name, start.name)? {
-        return Ok(Discovery::In(start, git_dir));
-    }
-    let limits = Limits::new(lookup, start.name)?;
-    match real_folder(lookup, start.name)? {
-        Some(lowest) => Ok(find_above(lookup, start.name, &limits, lowest)?),
-        None => Ok(Discovery::Nothing),
-    }
-}
-
-/// The git directory of a folder: GIT_DIR, or the first one upwards.
-pub(crate) fn seek<'t>(lookup: &Lookup<'_, 't>, start: Folder<'t>) -> Result<Discovery<'t>, Stop>
-    requires { IsPlace lookup.now.folder.now lookup.now.facts.now start.name.now }
-    ensures { MatchResult result
-        (λ found. (system : System) → AreTrueIn system lookup.now.facts.now
-        → search.Seeks system start.entry.name.now (found_of found))
-        (IsNew lookup.now.folder.now lookup.now.facts.now) }
-{
-    match answer_to(lookup, VARIABLE, b"GIT_DIR")? {
-        Some(given) => Ok(find_given(lookup, start, given)?),
-        None => Ok(find_upwards(lookup, start)?),
-    }
 }

@@ -10,7 +10,7 @@ use config_file::{AddError, Content, FilePlace, Files, IncludeFault, Scope};
 use config_host::disk::ReadError;
 use config_host::reading::{files_of, seek_urls};
 use config_host::repository::{Location, find};
-use config_host::sources::{Named, Source, file_of_scope, has_worktrees, sources, system_name};
+use config_host::sources::{Named, Source, has_worktrees, sources};
 use config_host::surroundings::{Followed, FoundRepository, has_conditions};
 use config_host::{Disk, HereError, Refusal, Surroundings};
 use std::alloc::{AllocError, Global};
@@ -260,20 +260,17 @@ pub fn file_of<'t>(
     scope: Scope,
 ) -> Result<Option<&'t [u8]>, HereError<'t>> {
     let wanted = match (scope, place.repository) {
-        (Scope::System, _) => return Ok(Some(system_name(disk)?)),
         (Scope::Worktree, Some(repository)) => scope_of_worktree(rt, disk, repository)?,
         _ => Some(scope),
     };
     let Some(wanted) = wanted else {
         return Ok(None);
     };
-    match file_of_scope(disk, &place.files, wanted)? {
-        Some(named) => Ok(Some(named.name)),
-        None => {
-            tell_no_file(rt, scope);
-            Ok(None)
-        }
+    let file = place.file_of(wanted);
+    if file.is_none() {
+        tell_no_file(rt, scope);
     }
+    Ok(file)
 }
 
 /// Adds what Git reads here, and then the text with the settings of the command line.

@@ -2,8 +2,8 @@
  *
  * A text is a pointer and a length. It may be any bytes, and needs no NUL at its end; if the length is 0, the pointer
  * may be null. A call reads only the bytes that it is given, writes only what its comment says, and keeps no pointer
- * after it returns, except that gcv_enter keeps some in a walk. There is no global state, so threads may call at the
- * same time, if no memory that one call writes is used by another.
+ * after it returns, except that gcv_enter keeps some in a walk, and a search those of its folder and facts. There is no
+ * global state, so threads may call at the same time, if no memory that one call writes is used by another.
  *
  * What a call writes must not overlap what it reads, or what else it writes. Pointers to what it writes, and to the
  * structs that it reads, must not be null, except for `fault` and `line`, which may always be null, and a buffer of
@@ -81,7 +81,7 @@ typedef GCV_ENUM(gcv_status) {
     GCV_BAD_VALUE = 33, GCV_BAD_SECTION = 34, GCV_SEVERAL = 35,
     GCV_FORBIDDEN_URL = 36, /* the URL of a remote is in a file that is included on a condition */
     GCV_ASKS = 37,          /* a search needs a fact that it was not told */
-    GCV_TOO_MANY_FACTS = 38, /* a search needs one more, and has 262,144 */
+    GCV_TOO_MANY_FACTS = 38, /* no call returns this: a search takes as many facts as there is memory for */
     /* only of calls over files: one is not read, and errno says why; the settings of a command include a relative name;
      * another program holds the lock of a file; the lock is not made or the new text not written, and errno says why */
     GCV_NOT_READ = 64, GCV_RELATIVE = 65, GCV_LOCKED = 66, GCV_NOT_WRITTEN = 67,
@@ -377,14 +377,14 @@ typedef const char *gcv_get_variable(void *state, const char *name);
 GCV_CALL((1, 5)) gcv_command_text(gcv_get_variable *get, void *state, char *GCV_TO buffer, size_t capacity,
                                   size_t *size);
 
-/* The search for what Git reads in a folder. It opens nothing: its caller tells it facts about the system. gcv_search
- * returns GCV_ASKS if it needs a fact that is not there, and `out->subject` and `out->name` say which. The caller adds
- * it and calls again with all facts, until there is another status. It may also tell facts that were not asked for. A
- * search that has 262,144 facts asks nothing more, and returns GCV_TOO_MANY_FACTS where it would.
+/* The search for what Git reads in a folder. It opens nothing: its caller tells it facts about the system. Where it
+ * needs one, gcv_continue_search returns GCV_ASKS, and `out->subject` and `out->name` say which. The caller tells it this
+ * fact and continues the search, until there is another status. Each fact is told once, and nothing begins anew. A
+ * search may also be told what it did not ask.
  *
- * A fact has a subject, a name, and a text if `has` is 1; `has` is 0 if the system has no answer. Neither pointer may be
- * null. A name of a file that does not begin with / begins in the caller's current folder. These are the subjects, with
- * the name that each is about, the text of its answer, and after a semicolon when there is none:
+ * A fact has a subject, a name, and a text if `has` is 1; `has` is 0 if the system has no answer. A name of a file that
+ * does not begin with / begins in the caller's current folder. These are the subjects, with the name that each is
+ * about, the text of its answer, and after a semicolon when there is none. A subject of a later version has no answer:
  * - GCV_VARIABLE: of a variable, its value; it is not set
  * - GCV_CURRENT: empty, the current folder from the root without links; unknown
  * - GCV_FILE_KIND: of a file, what it is itself (lstat): "link", "folder", "file", "other", or "unknown" if the system
@@ -401,11 +401,13 @@ GCV_CALL((1, 5)) gcv_command_text(gcv_get_variable *get, void *state, char *GCV_
  * - GCV_IDENTITY: of a file, bytes that tell it from all other files, such as device and inode (stat); unknown
  * - GCV_OWNER: of a file, the number of its owner in decimal (lstat); unknown
  * - GCV_USER: empty, the number of the user in decimal (geteuid); unknown
- * - GCV_HOME: of a user, the home folder of this user; no such user */
+ * - GCV_HOME: of a user, the home folder of this user; no such user
+ * - GCV_READABLE: of a file, "yes" if the user may read it (access, R_OK); the user may not, or no such file
+ * - GCV_KEEP: a text that the search has made, which lives as long as the name of this fact; always */
 typedef GCV_ENUM(gcv_subject) {
     GCV_VARIABLE = 1, GCV_CURRENT = 2, GCV_FILE_KIND = 3, GCV_LEADS = 4, GCV_LINK = 5, GCV_REAL = 6, GCV_TEXT = 7,
     GCV_BLOCK = 8, GCV_SETTINGS = 9, GCV_INCLUDED = 10, GCV_REFUSAL = 11, GCV_DEVICE = 12, GCV_IDENTITY = 13,
-    GCV_OWNER = 14, GCV_USER = 15, GCV_HOME = 16
+    GCV_OWNER = 14, GCV_USER = 15, GCV_HOME = 16, GCV_READABLE = 17, GCV_KEEP = 18
 } gcv_subject;
 typedef struct gcv_fact {
     const char *name; size_t name_length; const char *text; size_t text_length;
@@ -437,13 +439,26 @@ typedef struct gcv_found {
     uint32_t kind; const char *reason; /* GCV_REFUSES and GCV_STOPS: why, also in Git's words */
     const char *file; size_t line; /* GCV_STOPS: where, and line 0 if it is no line */
     const char *files; size_t count; /* the files in Git's order: for each a byte, its gcv_scope, and its name */
+    const char *of_scopes; size_t scope_count; /* as `files`, the one that `git config --global` or the like changes */
     size_t size; /* how many bytes of the buffer the texts take */
 } gcv_found;
 
-/* Searches in a folder, whose name may be empty or "." for the current one. Writes `out` and the texts. After
- * GCV_SHORT_BUFFER the buffer is unchanged, and needs the capacity `out->size`. It allocates, and keeps nothing. */
-GCV_CALL((7)) gcv_search(const char *folder, size_t length, const gcv_fact *facts, size_t count,
-                         char *GCV_TO buffer, size_t capacity, gcv_found *GCV_TO out);
+/* A search. Its memory is the library's, so do not copy the struct. */
+typedef struct gcv_search { void *memory; } gcv_search;
+
+/* gcv_begin_search begins a search in a folder, whose name may be empty or "." for the current one. gcv_tell_fact tells
+ * it a fact. Both keep pointers: the folder, and the name and the text of each fact, must stay valid and unchanged
+ * until gcv_free_search. The name of a question is in the buffer, so copy it for its fact. gcv_continue_search goes on
+ * as far as the facts lead, and writes `out` and the texts. After GCV_SHORT_BUFFER the buffer is unchanged, and needs
+ * the capacity `out->size`. Neither that nor GCV_NO_MEMORY loses anything: call again, and it tells the same.
+ *
+ * Whatever the status of gcv_begin_search, gcv_free_search frees `*out`, which needs no value before. The other two take
+ * only a search that has begun. A search is in one call at a time. All but gcv_free_search allocate. */
+GCV_CALL((3)) gcv_begin_search(const char *folder, size_t length, gcv_search *GCV_TO out);
+GCV_CALL((1, 2)) gcv_tell_fact(gcv_search *GCV_TO search, const gcv_fact *fact);
+GCV_CALL((1, 4)) gcv_continue_search(gcv_search *GCV_TO search, char *GCV_TO buffer, size_t capacity,
+                                     gcv_found *GCV_TO out);
+GCV_NONNULL((1)) void gcv_free_search(gcv_search *search);
 
 /* Answers to a search. A gcv_answer_call writes the text of the answer, with memory of malloc, or null if there is none,
  * and returns GCV_OK, or why to stop. gcv_answer answers by this system, and needs no state. gcv_find_here searches in a
@@ -466,9 +481,9 @@ typedef struct gcv_here {
 /* Reads what Git reads in a folder, null for the current one: it searches by gcv_answer, and reads by gcv_open_file.
  * Returns the statuses of gcv_read_files, also for what the search has read, and GCV_BAD_FORMAT; `settings.file` and
  * `.line` say where. Whatever the status, gcv_free_here frees `*out`, which needs no value before. gcv_file_of_scope
- * returns the name of the file that `git config --local` or the like would change, for gcv_set_in_file, or null if Git
- * reads none of the scope here, as of GCV_WORKTREE without its extension. gcv_scope_text returns the name of a scope, as
- * `git config --show-scope` prints it. */
+ * returns the name of the file that `git config --local` or the like would change, for gcv_set_in_file, or null if the
+ * scope has none here, as GCV_WORKTREE without its extension, or an empty name. gcv_scope_text returns the name of a
+ * scope, as `git config --show-scope` prints it. */
 GCV_CALL((2)) gcv_read_here(const char *folder, gcv_here *out);
 GCV_NONNULL((1)) const char *gcv_file_of_scope(const gcv_here *here, gcv_scope scope);
 GCV_NONNULL((1)) void gcv_free_here(gcv_here *here);

@@ -3,6 +3,7 @@ pub mod Edited
 pub mod EntryRoles
 pub mod Frames
 pub mod GivenKnown
+pub mod HeldMemory
 pub mod NameTags
 pub mod NumbersApart
 pub mod OneAnswer

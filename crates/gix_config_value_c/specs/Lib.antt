@@ -9,6 +9,7 @@ pub mod Colors
 pub mod Commands
 pub mod Edits
 pub mod Files
+pub mod Held
 pub mod Roles
 pub mod Keys
 pub mod Paths

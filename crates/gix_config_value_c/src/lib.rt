@@ -2,7 +2,7 @@
 //!
 //! `raw.h` declares these calls, and `calls.c` makes those of the header of them. A slice is a pointer and a
 //! length in C. The pointer is not null here, since `calls.c` passes some address if the length is 0. No call
-//! keeps a pointer after it returns.
+//! keeps a pointer after it returns, but those of a search: its texts stay as they are until it has ended.
 #![tactic(auto)]
 
 mod buffer;
@@ -11,6 +11,7 @@ mod commands;
 mod edits;
 mod faults;
 mod files;
+mod held;
 mod keys;
 pub mod laws;
 mod numbers;

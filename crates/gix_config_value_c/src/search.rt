@@ -1,9 +1,12 @@
-//! The search for what Git reads in a folder. C tells it facts, and is asked for those that it needs.
+//! The search for what Git reads in a folder. C holds it, tells it facts, and is asked for those that it needs.
+ghost use Rattle.std.specs.Prelude.{◌≡◌, None, is_some, true};
+ghost use Rattle.gix_config_value_c.specs.Held.{Begins, Refuses, Tells};
 
+use crate::held::GcvSearch;
 use crate::status::Status;
 use config_file::Scope;
 use config_search::{
-    Answer, Fact, Fault, FaultKind, Named, Outcome, Refusal, Repository, Stop, search,
+    Answer, Fact, Fault, FaultKind, Named, Outcome, Refusal, Repository, Search, Stop,
 };
 use std::alloc::{AllocError, Global};
 
@@ -28,6 +31,10 @@ pub struct GcvFound {
     pub files: usize,
     /// How many files there are.
     pub count: usize,
+    /// The file of each scope, as the files.
+    pub of_scopes: usize,
+    /// How many scopes have one.
+    pub scope_count: usize,
     /// The line on which Git stops.
     pub line: usize,
     /// The number of bytes that the texts take.
@@ -72,6 +79,8 @@ impl Told {
                 reason: 0,
                 files: 0,
                 count: 0,
+                of_scopes: 0,
+                scope_count: 0,
                 line: 0,
                 size: 0,
                 subject: 0,
@@ -131,15 +140,14 @@ impl Told {
         }
     }
 
-    /// Tells which files Git reads.
-    fn push_files(&mut self, files: &[Named]) -> Result<(), AllocError> {
-        self.found.files = self.bytes.len();
-        self.found.count = files.len();
+    /// Appends files, and returns where they begin.
+    fn push_files(&mut self, files: &[Named]) -> Result<usize, AllocError> {
+        let at = self.bytes.len();
         for file in files {
             self.bytes.push(scope_number(file.scope))?;
             self.push(&file.name)?;
         }
-        Ok(())
+        Ok(at)
     }
 
     /// Tells the answer, after an empty text for those that do not belong to it.
@@ -147,7 +155,11 @@ impl Told {
         self.push(b"")?;
         self.found.folder = self.push(&answer.folder)?;
         self.push_outcome(alloc, &answer.outcome)?;
-        self.push_files(&answer.files)
+        self.found.count = answer.files.len();
+        self.found.files = self.push_files(&answer.files)?;
+        self.found.scope_count = answer.of_scopes.len();
+        self.found.of_scopes = self.push_files(&answer.of_scopes)?;
+        Ok(())
     }
 }
 
@@ -196,14 +208,12 @@ fn fault_number(kind: FaultKind) -> u32 {
     }
 }
 
-/// What the search in a folder tells by these facts, and the status of that.
-fn search_told(
-    alloc: Global,
-    folder: &[u8],
-    facts: &[Fact<'_>],
-) -> Result<(Told, u32), AllocError> {
+/// What a search tells next, and the status of that.
+fn told_next(alloc: Global, search: &mut Search<'static>) -> Result<(Told, u32), AllocError>
+    ensures { search.new ≡ search.old }
+{
     let mut told = Told::new(alloc);
-    match search(alloc, folder, facts) {
+    match search.next() {
         Ok(answer) => {
             told.push_answer(alloc, &answer)?;
             Ok((told, Status::Ok as u32))
@@ -213,26 +223,13 @@ fn search_told(
             told.push(&question.name)?;
             Ok((told, Status::Asks as u32))
         }
-        Err(Stop::TooManyFacts) => Ok((told, Status::TooManyFacts as u32)),
         Err(Stop::Memory(error)) => Err(error),
     }
 }
 
-/// Searches for what Git reads in a folder, by these facts. Puts the texts that it tells at the front of the buffer, and
-/// tells the rest in `out`.
-///
-/// Returns `Asks` if it needs a fact that is not there: `subject` and `folder` are the question. Returns `TooManyFacts`
-/// if it needs one and has `MOST_FACTS`. Returns `ShortBuffer` if the buffer is shorter than the texts, and then only
-/// writes `out`. Returns `NoMemory` if memory is refused, and then writes nothing.
-#[unsafe(no_mangle)]
-pub extern "C" fn gcv_raw_search(
-    alloc: Global,
-    folder: &[u8],
-    facts: &[Fact<'_>],
-    buffer: &mut [u8],
-    out: &mut GcvFound,
-) -> u32 {
-    let Ok((Told { bytes, mut found }, status)) = search_told(alloc, folder, facts) else {
+/// Puts what a search has told into the memory of C, if there is room for its texts, and returns the status.
+fn put_told(told: Result<(Told, u32), AllocError>, buffer: &mut [u8], out: &mut GcvFound) -> u32 {
+    let Ok((Told { bytes, mut found }, status)) = told else {
         return Status::NoMemory as u32;
     };
     found.size = bytes.len();
@@ -242,4 +239,78 @@ pub extern "C" fn gcv_raw_search(
     }
     buffer[..bytes.len()].copy_from_slice(&bytes);
     status
+}
+
+/// Begins a search in a folder, and hands it to C. C keeps the folder as it is until the search has ended.
+///
+/// Returns `NoMemory` if memory is refused, and then hands nothing to C.
+#[unsafe(no_mangle)]
+pub extern "C" fn gcv_raw_begin_search(
+    alloc: Global,
+    folder: &'static [u8],
+    out: &mut GcvSearch,
+) -> u32
+    ensures begun { Begins folder.now out.new.told result }
+    ensures refused { Refuses out.old.told out.new.told result }
+{
+    match Box::new(alloc, Search::new(alloc, folder)) {
+        Ok(search) => {
+            out.put(search);
+            Status::Ok as u32
+        }
+        Err(_) => Status::NoMemory as u32,
+    }
+}
+
+/// Tells a search that C holds a fact. C keeps the texts of the fact as they are until the search has ended.
+///
+/// Returns `NoMemory` if memory is refused, and then has told nothing.
+#[unsafe(no_mangle)]
+pub extern "C" fn gcv_raw_tell_fact(
+    alloc: Global,
+    search: &mut GcvSearch,
+    fact: &Fact<'static>,
+) -> u32
+    requires { is_some search.old.told ≡ true }
+    ensures held { is_some search.new.told ≡ true }
+    ensures told { Tells fact.now search.old.told search.new.told result }
+{
+    let mut held = search.take(alloc);
+    let told = held.tell(*fact);
+    search.put(held);
+    match told {
+        Ok(()) => Status::Ok as u32,
+        Err(_) => Status::NoMemory as u32,
+    }
+}
+
+/// Goes on with a search that C holds. Puts the texts that it tells at the front of the buffer, and tells the rest in
+/// `out`.
+///
+/// Returns `Asks` if it needs a fact that it was not told: `subject` and `folder` are the question. Returns
+/// `ShortBuffer` if the buffer is shorter than the texts, and then only writes `out`. Returns `NoMemory` if memory is
+/// refused, and then writes nothing. After both the next call tells the same.
+#[unsafe(no_mangle)]
+pub extern "C" fn gcv_raw_continue_search(
+    alloc: Global,
+    search: &mut GcvSearch,
+    buffer: &mut [u8],
+    out: &mut GcvFound,
+) -> u32
+    requires { is_some search.old.told ≡ true }
+    ensures { search.new.told ≡ search.old.told }
+{
+    let mut held = search.take(alloc);
+    let told = told_next(alloc, &mut held);
+    search.put(held);
+    put_told(told, buffer, out)
+}
+
+/// Ends a search that C holds, and frees its memory.
+#[unsafe(no_mangle)]
+pub extern "C" fn gcv_raw_end_search(alloc: Global, search: &mut GcvSearch)
+    requires { is_some search.old.told ≡ true }
+    ensures { search.new.told ≡ None }
+{
+    drop(search.take(alloc));
 }

@@ -77,6 +77,6 @@ pub enum Status {
     ForbiddenUrl = 36,
     /// A search needs a fact that it was not told.
     Asks = 37,
-    /// A search needs one more fact, and has as many as it takes.
+    /// No call returns this: a search takes as many facts as there is memory for. The number stays taken.
     TooManyFacts = 38,
 }

@@ -1113,6 +1113,94 @@ static void command_after_files(void)
     unsetenv("GIT_CONFIG_COUNT");
 }
 
+/* A system that is nowhere: what it answers, and nothing else. It has a repository in /w. */
+typedef struct answered {
+    gcv_subject subject;
+    const char *name, *text;
+} answered;
+static const answered nowhere[] = {
+    {GCV_CURRENT, "", "/w"}, {GCV_REAL, "/w", "/w"}, {GCV_LEADS, "/w", "folder"}, {GCV_FILE_KIND, "/w/.git", "folder"},
+    {GCV_LEADS, "/w/.git", "folder"}, {GCV_REAL, "/w/.git", "/w/.git"}, {GCV_FILE_KIND, "/w/.git/HEAD", "file"},
+    {GCV_TEXT, "/w/.git/HEAD", "ref: refs/heads/main\n"}, {GCV_LEADS, "/w/.git/objects", "folder"},
+    {GCV_LEADS, "/w/.git/refs", "folder"}, {GCV_SETTINGS, "/w/.git/config", "[core]\n\tbare = no\n"},
+    {GCV_OWNER, "/w", "7"}, {GCV_OWNER, "/w/.git", "7"}, {GCV_USER, "", "7"}, {GCV_VARIABLE, "HOME", "/h"},
+};
+enum { ANSWERS = sizeof nowhere / sizeof nowhere[0], MOST_QUESTIONS = 200 };
+
+/* The fact with this name, whose texts stay, and what the system answers. */
+static gcv_fact fact_about(gcv_subject subject, const char *name, size_t length)
+{
+    gcv_fact fact = {name, length, NULL, 0, subject, 0};
+    for (size_t at = 0; at < ANSWERS; at++) {
+        const answered *of = &nowhere[at];
+        if (of->subject == subject && strlen(of->name) == length && memcmp(of->name, name, length) == 0) {
+            fact.text = of->text;
+            fact.text_length = strlen(of->text);
+            fact.has = 1;
+        }
+    }
+    return fact;
+}
+
+/* Continues a search in each buffer up to the one that has room. The others are left alone, and nothing is lost. */
+static gcv_status continued(gcv_search *search, gcv_found *found)
+{
+    size_t size = 0;
+    for (size_t capacity = 0;; capacity++) {
+        char *buffer = (char *)(buffer_area.end - capacity);
+        memset(buffer - MARGIN, PATTERN, capacity + MARGIN);
+        gcv_status status = gcv_continue_search(search, capacity == 0 ? NULL : buffer, capacity, found);
+        if (status != GCV_SHORT_BUFFER) {
+            return found->size == capacity && (size == 0 || size == capacity) ? status : UNTOUCHED;
+        }
+        if (found->size <= capacity || (size > 0 && found->size != size) || !is_untouched(buffer_area, capacity, 0)) {
+            return UNTOUCHED;
+        }
+        size = found->size;
+    }
+}
+
+/* A search in this system, which is told all that it answers before it asks, or each fact when it asks for it. */
+static int searched(int is_told_before, char *asked[], size_t *questions)
+{
+    gcv_search search;
+    gcv_found found;
+    gcv_status status;
+    HOLDS(gcv_begin_search("/w", 2, &search) == GCV_OK && search.memory);
+    for (size_t at = 0; is_told_before && at < ANSWERS; at++) {
+        gcv_fact fact = fact_about(nowhere[at].subject, nowhere[at].name, strlen(nowhere[at].name));
+        HOLDS(gcv_tell_fact(&search, &fact) == GCV_OK);
+    }
+    while ((status = continued(&search, &found)) == GCV_ASKS) {
+        HOLDS(*questions < MOST_QUESTIONS && found.name[found.name_length] == '\0');
+        char *name = (char *)malloc(found.name_length + 1);
+        HOLDS(name);
+        memcpy(name, found.name, found.name_length);
+        asked[(*questions)++] = name;
+        gcv_fact fact = fact_about(found.subject, name, found.name_length);
+        HOLDS(!is_told_before || fact.has == 0);
+        HOLDS(gcv_tell_fact(&search, &fact) == GCV_OK);
+    }
+    HOLDS(status == GCV_OK && found.outcome == GCV_USES && strcmp(found.git_dir, "/w/.git") == 0);
+    HOLDS(strcmp(found.branch, "main") == 0 && found.count > 0 && strcmp(found.reason, "") == 0);
+    gcv_free_search(&search);
+    HOLDS(!search.memory);
+    gcv_free_search(&search);
+    return 1;
+}
+
+static void searches(void)
+{
+    for (int is_told_before = 0; is_told_before < 2; is_told_before++) {
+        char *asked[MOST_QUESTIONS];
+        size_t questions = 0;
+        count(searched(is_told_before, asked, &questions), "a search by facts");
+        for (size_t at = 0; at < questions; at++) {
+            free(asked[at]);
+        }
+    }
+}
+
 typedef gcv_status edit_by_two(const char *, size_t, const char *, size_t, const char *, size_t, char *, size_t, size_t *, size_t *);
 typedef gcv_status edit_by_one(const char *, size_t, const char *, size_t, char *, size_t, size_t *, size_t *);
 
@@ -1432,6 +1520,7 @@ int main(void)
     overwritten();
     commands();
     command_after_files();
+    searches();
     edits();
     edited_files();
     patterns();

@@ -89,14 +89,14 @@ ZEROS = ("GCV_FAULT_NONE", "GCV_NO_SUFFIX", "GCV_NO_COLORS", "GCV_NO_NAME")
 OF_FILES = 64
 OTHER_NAMES = {"GCV_FAULT_ILL_FORMED_WHOLE": "GCV_FAULT_ILL_FORMED_PATH", "GCV_KIND": "GCV_FILE_KIND"}
 # the types of C for those of Rattle, and their sizes
-TYPES = {"i64": "int64_t", "u32": "uint32_t", "u8": "uint8_t", "usize": "size_t"}
-TYPES |= {f"Gcv{it.title()}": f"gcv_{it}" for it in ("integer", "name", "color", "frame")}
+TYPES = {"i64": "int64_t", "u32": "uint32_t", "u8": "uint8_t", "usize": "size_t", "*mut u8": "void *"}
+TYPES |= {f"Gcv{it.title()}": f"gcv_{it}" for it in ("integer", "name", "color", "frame", "search")}
 TYPES |= {"Fact": "gcv_fact"} | {f"Gcv{it.title()}": f"gcv_raw_{it}" for it in ("known", "step", "found")}
 # the enums of C are numbers of 32 bits, and a text is of chars
 NUMBERED = re.compile(r"\bgcv_(status|kind|fault|suffix|depth|tag|role|subject|outcome|edit)\b")
 # the pointers to what is in slices: bytes, and texts
-SLICES = {"&[u8]": "const uint8_t *", "&[&[u8]]": "const gcv_text *", "&[Fact]": "const gcv_fact *"}
-SIZES = {"int64_t": (8, 8), "uint32_t": (4, 4), "uint8_t": (1, 1), "size_t": (8, 8)}
+SLICES = {"&[u8]": "const uint8_t *", "&[&[u8]]": "const gcv_text *"}
+SIZES = {"int64_t": (8, 8), "uint32_t": (4, 4), "uint8_t": (1, 1), "size_t": (8, 8), "void *": (8, 8)}
 SIZES |= dict.fromkeys(SLICES.values(), (8, 8))
 LIFETIMES = re.compile(r"<'[^>]*>|'\w+ ")
 
@@ -145,8 +145,8 @@ def sources():
 
 
 def fields_of(body):
-    """The fields of a struct of Rattle, as C has them. A slice is a pointer and a length."""
-    for name, kind in re.findall(r"^    pub (\w+): (.*),$", body, re.MULTILINE):
+    """The fields of a struct of Rattle, as C has them. A slice is a pointer and a length; a ghost field is nothing."""
+    for name, kind in re.findall(r"^    (?:pub )?(\w+): (.*),$", body, re.MULTILINE):
         if kind in SLICES:
             yield from ((name, SLICES[kind]), (f"{name}_length", "size_t"))
         else:
@@ -163,7 +163,7 @@ def structs():
         struct, wanted = TYPES[name], list(fields_of(body))
         told = re.search(rf"^typedef struct {struct} \{{(.*?)\}} {struct};$", header, re.MULTILINE | re.DOTALL)
         told = NUMBERED.sub("uint32_t", told[1] if told else "")
-        given = re.findall(r"(\w+ |const \w+ \*)(\w+);", re.sub(r"/\*.*?\*/", "", told))
+        given = re.findall(r"(\w+ |const \w+ \*|void \*)(\w+);", re.sub(r"/\*.*?\*/", "", told))
         given = [(name, kind.strip()) for kind, name in given]
         yield f"the header, {struct}", given, wanted
         size, widest, offsets = 0, 1, {}

@@ -272,6 +272,50 @@ static gcv_status command(const void *state, char *buffer, size_t capacity, size
     return gcv_command_text(variable, NULL, buffer, capacity, size);
 }
 
+/* Searches where nothing is known. Where memory is refused, the call is made again, and nothing is lost. */
+static gcv_status search_on(void)
+{
+    char names[64][64];
+    size_t questions = 0;
+    gcv_search search;
+    gcv_found found;
+    gcv_status status = gcv_begin_search("/w", 2, &search);
+    if (status == GCV_NO_MEMORY) {
+        gcv_free_search(&search);
+        status = gcv_begin_search("/w", 2, &search);
+    }
+    while (status == GCV_OK || status == GCV_NO_MEMORY) {
+        status = gcv_continue_search(&search, (char *)(buffer_area.end - 4096), 4096, &found);
+        if (status == GCV_NO_MEMORY) {
+            status = gcv_continue_search(&search, (char *)(buffer_area.end - 4096), 4096, &found);
+        }
+        if (status != GCV_ASKS || questions == 64 || found.name_length > 64) {
+            break;
+        }
+        memcpy(names[questions], found.name, found.name_length);
+        gcv_fact fact = {names[questions++], found.name_length, NULL, 0, found.subject, 0};
+        status = gcv_tell_fact(&search, &fact);
+        if (status == GCV_NO_MEMORY) {
+            status = gcv_tell_fact(&search, &fact);
+        }
+    }
+    gcv_free_search(&search);
+    return status == GCV_OK && found.outcome == GCV_STOPS ? status : UNTOUCHED;
+}
+
+static int resumes(void)
+{
+    requests = refused_at = blocks = 0;
+    HOLDS(search_on() == GCV_OK && blocks == 0);
+    unsigned long wanted = requests;
+    for (refused_at = 1; refused_at <= wanted; refused_at++) {
+        requests = 0;
+        HOLDS(search_on() == GCV_OK && requests > wanted && blocks == 0);
+    }
+    refused_at = 0;
+    return 1;
+}
+
 /* Reads all that Git reads in the current folder, where 4 settings are. */
 static gcv_status read_here(void)
 {
@@ -381,6 +425,7 @@ int main(void)
     close(made);
     unlink(file_name);
     count(tells_here(), "a search");
+    count(resumes(), "a search that goes on where memory was refused");
     static gcv_user room;
     requests = 0;
     count((gcv_find_user(&room, "root", 4), requests == 0), "find_user");

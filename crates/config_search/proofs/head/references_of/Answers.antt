@@ -1,5 +1,4 @@
-use Rattle.std.proofs.Common.{List, ℕ, sym, subst}
-use Rattle.config_search.specs.Questions.{Keeps, in_named, in_place}
+use Rattle.config_search.specs.Questions.{in_named, in_place}
 use Rattle.config_search.proofs.Places.{shared_place}
 use Rattle.config_search.proofs.head.references_of.Goals as goal
 

@@ -1,13 +1,9 @@
-use Rattle.std.proofs.Common.{inl, inr, refl, sym}
+use Rattle.std.proofs.Common.{inl, inr, refl}
 use Rattle.config_search.proofs.protected.add_file.Goals as goal
 
-pub returns-in_default : goal.returns-in_default
-returns-in_default c = λ system agrees.
-    inl (sym (rw (c.in_default.is, c.deref.ensures.value) at c.in_ok-text.ensures system agrees), refl)
+pub returns-in_ok-add_source-in-Some : goal.returns-in_ok-add_source-in-Some
+returns-in_ok-add_source-in-Some c = λ system agrees. let is = rw c.in-Some.is at (c.in_ok-source.ensures system agrees) in
+    inr (c.in-Some.source.text.now, is.0, (c.in-Some.source.place, is.1, c.in_ok-add_source-in-Some.ensures system agrees))
 
-pub returns : goal.returns
-returns c = λ system agrees. inr (
-  c.in-Some.text.now,
-  sym (rw (c.in-Some.is, c.deref.ensures.value) at c.in_ok-text.ensures system agrees),
-  rw c.deref-2.ensures.value at c.in_ok-add_text.ensures system agrees,
-)
+pub returns-in-None : goal.returns-in-None
+returns-in-None c = λ system agrees. inl (rw c.in-None.is at (c.in_ok-source.ensures system agrees), refl)
