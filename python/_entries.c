@@ -303,17 +303,44 @@ static gcv_status follow(Entries *self, Walk *walk, const gcv_step *step, PyObje
     return status;
 }
 
+/* The code of an InvalidFile, by the reason for which Git stops. */
+static const char *code_of(gcv_status why)
+{
+    switch (why) {
+    case GCV_BAD_LINE:
+        return "bad_line";
+    case GCV_NUL:
+        return "nul";
+    case GCV_NO_VALUE:
+        return "no_value";
+    case GCV_NO_DIRECTORY:
+        return "no_directory";
+    case GCV_TOO_DEEP:
+        return "too_deep";
+    case GCV_FORBIDDEN_URL:
+        return "remote_url";
+    case GCV_NOT_READ:
+        return "unreadable";
+    case GCV_RELATIVE:
+        return "relative";
+    case GCV_BAD_FORMAT:
+        return "bad_format";
+    case GCV_BAD_COMMAND:
+        return "bad_command";
+    case GCV_NO_FOLDER:
+        return "no_folder";
+    default:
+        return "";
+    }
+}
+
 /* Raises an exception for the status with which a walk ended, unless there is one: InvalidFile, at the last step. */
 static void raise_for(const State *state, gcv_status status, const gcv_step *step)
 {
-    const char *code = status == GCV_BAD_LINE   ? "bad_line"
-                       : status == GCV_NUL      ? "nul"
-                       : status == GCV_NO_VALUE ? "no_value"
-                                                : "too_deep";
     if (status == GCV_NO_MEMORY)
         PyErr_NoMemory();
     else if (!PyErr_Occurred())
-        (void)refuse_file(state, code, status,
+        (void)refuse_file(state, code_of(status), status,
                           PyUnicode_DecodeFSDefaultAndSize(step->file, (Py_ssize_t)step->file_length), step->line);
 }
 
@@ -929,7 +956,8 @@ static PyObject *files_of(const char *at, size_t count)
     return files;
 }
 
-/* What Git finds in the folder of this name, given as `bytes`: the members of a gcv_found in a tuple. */
+/* What Git finds in the folder of this name, given as `bytes`: the members of a gcv_found in a tuple, with a code for
+ * its kind. */
 PyObject *here_found(PyObject *Py_UNUSED(module), PyObject *name)
 {
     char *folder, *texts = NULL;
@@ -938,8 +966,8 @@ PyObject *here_found(PyObject *Py_UNUSED(module), PyObject *name)
         return NULL;
     if (gcv_find_here(folder, answer, NULL, &texts, &found) != GCV_OK)
         return PyErr_NoMemory();
-    PyObject *result = Py_BuildValue("IyyyyIyynNN", (unsigned)found.outcome, found.folder, found.git_dir,
-                                     found.real_git_dir, found.branch, (unsigned)found.kind, found.reason, found.file,
+    PyObject *result = Py_BuildValue("IyyyysyynNN", (unsigned)found.outcome, found.folder, found.git_dir,
+                                     found.real_git_dir, found.branch, code_of(found.kind), found.reason, found.file,
                                      (Py_ssize_t)found.line, files_of(found.files, found.count),
                                      files_of(found.of_scopes, found.scope_count));
     free(texts);

@@ -115,6 +115,10 @@ const char *gcv_status_text(gcv_status status)
         return "a search needs more facts than it takes";
     case GCV_BAD_FORMAT:
         return "Git does not know the format of the repository";
+    case GCV_BAD_COMMAND:
+        return "the settings of the command are refused";
+    case GCV_NO_FOLDER:
+        return "there is no such folder";
     }
     return "unknown status";
 }

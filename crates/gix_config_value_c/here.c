@@ -442,19 +442,18 @@ static const char *variable(void *state, const char *name)
     return getenv(name);
 }
 
-/* The status of where a search stops. */
+/* The status of where a search stops. That of settings of the command says what is wrong with them. */
 static gcv_status stop_of(const gcv_found *found)
 {
-    /* by `kind` of a gcv_found, of which the last one is for settings of the command */
-    static const gcv_status stops[] = {GCV_OK,       GCV_NOT_READ, GCV_NOT_READ, GCV_BAD_LINE,
-                                       GCV_NUL,      GCV_NO_VALUE, GCV_NO_DIRECTORY, GCV_NOT_READ,
-                                       GCV_RELATIVE, GCV_TOO_DEEP, GCV_FORBIDDEN_URL, GCV_BAD_FORMAT};
     size_t size = 0;
-    if (found->kind < sizeof stops / sizeof *stops) {
-        return stops[found->kind];
+    if (found->kind == GCV_NO_FOLDER) {
+        return GCV_NOT_READ;
+    }
+    if (found->kind != GCV_BAD_COMMAND) {
+        return (gcv_status)found->kind;
     }
     gcv_status status = gcv_command_text(variable, NULL, NULL, 0, &size);
-    return status == GCV_OK || status == GCV_SHORT_BUFFER ? GCV_BAD_FORMAT : status;
+    return status == GCV_OK || status == GCV_SHORT_BUFFER ? GCV_BAD_COMMAND : status;
 }
 
 /* Searches, and reads what is found. */

@@ -13,12 +13,9 @@ Repository = namedtuple("Repository", "path real_path branch")
 # name of each file, and the file of each scope, which `git config` changes
 Place = namedtuple("Place", "folder repository refusal files of_scopes")
 
-# the numbers of a gcv_outcome, of a gcv_scope, and of where Git stops, with the codes of InvalidFile
+# the numbers of a gcv_outcome and of a gcv_scope
 USES, REFUSES, STOPS = 1, 2, 3
 SCOPES = {1: "system", 2: "global", 3: "local", 4: "worktree"}
-NO_FOLDER, NO_FILE, OF_COMMAND = 1, 2, 12
-CODES = {3: "bad_line", 4: "nul", 5: "no_value", 6: "no_directory", 7: "unreadable", 8: "relative", 9: "too_deep",
-         10: "remote_url", 11: "bad_format"}
 
 
 def _join(folder, name):
@@ -28,25 +25,25 @@ def _join(folder, name):
     return folder + name if folder.endswith("/") else f"{folder}/{name}"
 
 
-def _stop(name, kind, reason, file, line):
+def _stop(name, code, reason, file, line):
     """Raises the error of where Git stops. The system says why it does not open a folder or a file."""
-    if kind == NO_FOLDER:
+    if code == "no_folder":
         os.stat(_join(name, os.curdir))
-    elif kind == NO_FILE:
+    elif code == "unreadable" and not line:
         _walk.opened(file)
-    elif kind == OF_COMMAND:
+    elif code == "bad_command":
         _core.command_text()
     else:
-        raise InvalidFile(CODES[kind], reason, file, line)
+        raise InvalidFile(code, reason, file, line)
     raise OSError(errno.EIO, reason, file or name)
 
 
 def find(name):
     """Where Git works if it is started in the folder of this name, and what it reads there."""
-    outcome, folder, path, real_path, branch, kind, reason, file, line, *lists = _core.find_here(os.fsencode(name))
+    outcome, folder, path, real_path, branch, code, reason, file, line, *lists = _core.find_here(os.fsencode(name))
     reason = os.fsdecode(reason)
     if outcome == STOPS:
-        _stop(name, kind, reason, os.fsdecode(file), line)
+        _stop(name, code, reason, os.fsdecode(file), line)
     folder = os.fsdecode(folder)
     files, of_scopes = ([(SCOPES[scope], _join(folder, os.fsdecode(file))) for scope, file in its] for its in lists)
     repository = Repository(path, real_path, branch) if outcome == USES else None

@@ -39,8 +39,8 @@ abbrev pub Reads : {R : Type 0} → (List ℕ → Content → Type 0) → Known 
 Reads contents known receives choice text old new (Ok _) = (found : List (List ℕ × Entry))
     × GivesEach receives choice text.scope old found new
     × WalksText contents known text.place text.text.now (map found_item found) true
-Reads contents known receives choice text old new (Err (Git error)) =
+Reads contents known receives choice text old new (Err (Git told)) =
     (found : List (List ℕ × Entry)) × (file : List ℕ) × (stop : Stop)
-    × GivesEach receives choice text.scope old found new × TellsStop file stop error
+    × GivesEach receives choice text.scope old found new × TellsStop file stop told
     × WalksText contents known text.place text.text.now (map found_item found ++ (file, Stops stop) ∷ []) false
 Reads contents known receives choice text old new (Err (System _)) = ⊤

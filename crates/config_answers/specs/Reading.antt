@@ -45,9 +45,9 @@ GivesNext contents known receives choice scope from to old new (Ok true) = (foun
     × Gives receives choice scope found old new × Comes contents known from (found_item found ∷ []) to
 GivesNext contents known receives choice scope from to old new (Ok false) =
     (new ≡ old) × (to ≡ []) × Comes contents known from [] to
-GivesNext contents known receives choice scope from to old new (Err (Git error)) =
+GivesNext contents known receives choice scope from to old new (Err (Git told)) =
     (found : List (List ℕ × Entry)) × (file : List ℕ) × (stop : Stop)
-    × GivesEach receives choice scope old found new × TellsStop file stop error
+    × GivesEach receives choice scope old found new × TellsStop file stop told
     × ((frames : List Frame) × (length frames ≤ 11)
     × Comes contents known from (map found_item found ++ (file, Stops stop) ∷ []) frames)
 GivesNext contents known receives choice scope from to old new (Err (System _)) = ⊤

@@ -11,8 +11,8 @@ use crate::choice::{Choice, bytes_of};
 use config_file::entry::EntryForm;
 use config_file::walk::include_of;
 use config_file::{
-    AddError, Entries, Entry, FilePlace, Files, Frame, Include, IncludeFault, Known, Next, Scope,
-    Setting, Step, Walk, next_of,
+    Entries, Entry, FilePlace, Files, Frame, Include, Known, Next, Scope, Setting, Step, Stop,
+    Walk, Why, next_of,
 };
 use std::alloc::{AllocError, Global};
 use std::io;
@@ -70,7 +70,7 @@ pub struct Text<'t> {
 /// ```rust
 /// use config_answers::choice::{Choice, Keys};
 /// use config_answers::read::{Stopped, Text};
-/// use config_file::{AddError, Content, Directories, FilePlace, Files, Includes, Known, Scope};
+/// use config_file::{Content, Directories, FilePlace, Files, Includes, Known, Scope};
 /// use std::alloc::{AllocError, Global};
 ///
 /// #[derive(Drop)]
@@ -99,13 +99,13 @@ pub struct Text<'t> {
 /// let text = Text { scope: Scope::Local, place, text: b"[a]\n\tb = 1\n\tc = 2\n[us er]" };
 /// let mut found = Vec::new(alloc);
 /// let end = choice.read(alloc, &NoFiles, &known, text, &mut found);
-/// assert!(rt; matches!(end, Err(Stopped::Git(AddError::Line { error, .. })) if error.line == 4));
+/// assert!(rt; matches!(end, Err(Stopped::Git(stop)) if stop.line == 4));
 /// assert_eq!(rt; found.len(), 1); // of a.b
 /// ```
 #[derive(Drop)]
 pub enum Stopped<'t> {
     /// Git stops there. What comes before is handed on.
-    Git(AddError<'t>),
+    Git(Stop<&'t [u8]>),
     /// Memory or the system refuses it.
     System(io::Error),
 }
@@ -279,8 +279,7 @@ impl Choice<'_, '_> {
         let (place, entry, include) = match step {
             Step::Entry(place, entry, include) => (place, entry, include),
             Step::Line(place, error) => {
-                let file = place.name;
-                return Err(Stopped::Git(AddError::Line { file, error }));
+                return Err(Stopped::Git(Stop::at(place.name, error.line, error.why)));
             }
             Step::Ends => return Ok(false),
         };
@@ -298,11 +297,13 @@ impl Choice<'_, '_> {
         match next {
             Next::Behind => Ok(true),
             Next::In(place, text) if walk.enter(place, text) => Ok(true),
-            Next::In(_, _) => {
-                let fault = IncludeFault::TooDeep;
-                Err(Stopped::Git(AddError::Include { file, line, fault }))
-            }
-            Next::Stops(fault) => Err(Stopped::Git(AddError::Include { file, line, fault })),
+            Next::In(_, _) => Err(Stopped::Git(Stop::at(file, line, Why::TooDeep))),
+            Next::Stops(why, words) => Err(Stopped::Git(Stop {
+                file,
+                line,
+                why,
+                words,
+            })),
         }
     }
 

@@ -4,8 +4,9 @@ use Rattle.std.specs.Prelude.{None, Some, option_map, option_copied}
 use Rattle.std.specs.Fmt.{decimal}
 use Rattle.std.specs.List.{AllZip}
 use Rattle.config_file.specs.declared.errors.FileError as errors
-use Rattle.config_file.specs.declared.errors.FileFault.{FileFault}
-use Rattle.config_file.specs.declared.errors.FileFault.TheVariants.{BadLine, Nul}
+use Rattle.config_file.specs.Errors.{why_text}
+use Rattle.config_file.specs.declared.errors.Why.{Why}
+use Rattle.config_file.specs.declared.errors.Why.TheVariants.{BadLine}
 use Rattle.config_file.specs.File.{Entry, IsFile}
 use Rattle.config_file.specs.Key.{written}
 use Rattle.config_file.specs.KeyView.{key_of}
@@ -103,9 +104,9 @@ unknown_finding before setting unknown = record {
 }
 
 -- why a file is refused at a line
-abbrev pub file_fault_shown : FileFault → List ℕ
-file_fault_shown BadLine = codes "Git cannot read this line, and reads nothing of the file"
-file_fault_shown Nul = codes "a NUL byte outside a comment"
+abbrev pub stop_shown : Why → List ℕ
+stop_shown BadLine = codes "Git cannot read this line, and reads nothing of the file"
+stop_shown why = why_text why
 
 abbrev pub refused_finding : List ℕ → errors.FileError → Finding
 refused_finding file error = record {
@@ -117,7 +118,7 @@ refused_finding file error = record {
   key = None;
   row = None;
   value = None;
-  reason = file_fault_shown error.fault;
+  reason = stop_shown error.why;
   fault = None;
   suggested_key = None;
   suggested_value = None;

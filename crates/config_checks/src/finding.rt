@@ -10,7 +10,7 @@ ghost use Rattle.config_checks.specs.Findings.{piece_shown, shown, range_text, v
 ghost use Rattle.config_checks.specs.Findings.{more_text, few_words_text, no_word_front, list_text};
 ghost use Rattle.config_checks.specs.Findings.{word_asked, meant_text, no_word_text, reason_text};
 ghost use Rattle.config_checks.specs.Report.{value_meant, instead_of, fault_of_form, fault_of, key_meant};
-ghost use Rattle.config_checks.specs.Report.{file_fault_shown};
+ghost use Rattle.config_checks.specs.Report.{stop_shown};
 ghost use Rattle.config_checks.specs.Settings.{value_of};
 
 use crate::code::Code;
@@ -20,7 +20,7 @@ use crate::setting::Setting;
 use crate::suggestion::UnknownKey;
 use crate::version::Version;
 use bstr::decode_utf8;
-use config_file::errors::FileFault;
+use config_file::Why;
 use config_file::key::Key;
 use gix_config_value::integer::Amount;
 use itoa::Buffer;
@@ -390,11 +390,11 @@ pub(crate) fn key_meant(
 }
 
 /// Why a file is refused at a line.
-pub(crate) fn file_fault_shown(fault: FileFault) -> &'static str
-    ensures { result.now ≡ file_fault_shown fault }
+pub(crate) fn stop_shown(why: Why) -> &'static str
+    ensures { result.now ≡ stop_shown why }
 {
-    match fault {
-        FileFault::BadLine => "Git cannot read this line, and reads nothing of the file",
-        FileFault::Nul => "a NUL byte outside a comment",
+    match why {
+        Why::BadLine => "Git cannot read this line, and reads nothing of the file",
+        why => why.text(),
     }
 }

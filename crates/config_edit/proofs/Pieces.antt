@@ -13,8 +13,8 @@ use Rattle.config_edit.specs.declared.piece.Held.TheVariants as held
 use Rattle.config_file.specs.Bytes.{is_space, is_key_byte, is_name_byte, is_blank, is_comment_sign}
 use Rattle.config_file.specs.Bytes.{is_comment_byte, IsAtLineEnd, BeginsWithLetter}
 use Rattle.config_file.specs.Runs.{Run, StopsRun}
-use Rattle.config_file.specs.declared.errors.FileFault.{FileFault}
-use Rattle.config_file.specs.Header.{Section, Header, HeaderStops, plain, quoted, closes, fault_at}
+use Rattle.config_file.specs.declared.errors.Why.{Why}
+use Rattle.config_file.specs.Header.{Section, Header, HeaderStops, plain, quoted, closes, why_at}
 use Rattle.config_file.specs.Value.{TakesValue, closed, open_end, EndsValue}
 use Rattle.config_file.specs.File as file
 use Rattle.config_file.specs.File.{Entry, entry_at, TakesKey, TakesEntry, EntryStops, alone, valued, Reads}
@@ -391,17 +391,17 @@ refused blanks joined all stops (section, line, entries, reads) =
     let (error, stop) = stops section line in
     let same : None ≡ Some error = (reads_once (rw joined at reads) (blanks_read blanks all stop)).1 in cc
 
-pub header_stops : {after : List ℕ} {lines : ℕ} {fault : FileFault} → HeaderStops after lines fault
+pub header_stops : {after : List ℕ} {lines : ℕ} {why : Why} → HeaderStops after lines why
     → (section : Option Section) (line : ℕ)
     → (error : FileError) × Reads section line (91 ∷ after) [] (Some error)
-header_stops {lines = lines} {fault = fault} stops section line =
-    (file.error_at (line + lines) fault, file.header_refused refl stops)
+header_stops {lines = lines} {why = why} stops section line =
+    (file.error_at (line + lines) why, file.header_refused refl stops)
 
-pub entry_stops : {at : List ℕ} {lines : ℕ} {fault : FileFault} → BeginsWithLetter at
-    → EntryStops at lines fault
+pub entry_stops : {at : List ℕ} {lines : ℕ} {why : Why} → BeginsWithLetter at
+    → EntryStops at lines why
     → (section : Option Section) (line : ℕ) → (error : FileError) × Reads section line at [] (Some error)
-entry_stops {lines = lines} {fault = fault} (b, more, begins, letter) stops section line =
-    (file.error_at (line + lines) fault, rw begins (file.entry_refused letter (rw begins at stops)))
+entry_stops {lines = lines} {why = why} (b, more, begins, letter) stops section line =
+    (file.error_at (line + lines) why, rw begins (file.entry_refused letter (rw begins at stops)))
 
 pub nothing_stops : (at : List ℕ) → StartsLine at → GoesOn at → (section : Option Section) (line : ℕ)
     → (error : FileError) × Reads section line at [] (Some error)
@@ -421,7 +421,7 @@ nothing_stops (c ∷ rest) (no_blank, no_bracket, no_letter) (
     let same : b ≡ c = cc in
     let sign : is_comment_sign c ≡ false = rw (sym same) no_sign in
     let feed : c ≢ 10 = λ is. no_line (same ∙ is) in (
-      file.error_at line (fault_at (c ∷ rest)),
+      file.error_at line (why_at (c ∷ rest)),
       file.no_item (begins_none c no_blank feed sign no_bracket no_letter),
     )
 

@@ -4,7 +4,7 @@ use Rattle.std.proofs.Common.{◌∙◌, subst, arith, length-append, ◌==◌}
 use Rattle.std.proofs.lemmas.Bool.{true≢false}
 use Rattle.std.proofs.lemmas.List.Sums.{count_by-le-length}
 use Rattle.std.specs.Char.{is_ascii_alphabetic}
-use Rattle.config_file.specs.declared.errors.FileFault.{FileFault}
+use Rattle.config_file.specs.declared.errors.Why.{Why}
 use Rattle.config_file.specs.Runs.{Run, StopsRun}
 use Rattle.config_file.specs.Header as header
 use Rattle.config_file.specs.Header.{Section, Header, HeaderStops}
@@ -34,7 +34,7 @@ header_shortens (header.quoted {text = text} {name = name} {inner = inner} opens
     let third = length_joined inner raw (34 ∷ b ∷ rest) takes.joined in
     omega arith
 
-pub header_stops_soon : {text : List ℕ} {lines : ℕ} {fault : FileFault} → HeaderStops text lines fault
+pub header_stops_soon : {text : List ℕ} {lines : ℕ} {why : Why} → HeaderStops text lines why
     → lines ≤ 1
 header_stops_soon (header.name run none header.at_end) = omega arith
 header_stops_soon (header.name run none header.empty) = omega arith
@@ -54,7 +54,7 @@ value_bound (value.closed {raw = raw} {text = text} {rest = rest} joined spells 
     omega (arith, line_feeds_fit raw)
 value_bound (value.open_end {raw = raw} spells) = omega (arith, line_feeds_fit raw)
 
-pub value_stops_bound : {text : List ℕ} {lines : ℕ} {fault : FileFault} → ValueStops text lines fault
+pub value_stops_bound : {text : List ℕ} {lines : ℕ} {why : Why} → ValueStops text lines why
     → lines ≤ length text
 value_stops_bound (value.nul {b = b} {text = text} raw rest joined part e) =
     omega (arith, length_joined text raw (b ∷ rest) joined, line_feeds_fit raw)
@@ -90,7 +90,7 @@ entry_bound {b = b} letter (file.valued {key = key} takes e taken) =
     let g = run_shortens takes.space_run in
     omega (arith, value_bound taken)
 
-pub entry_stops_bound : {text : List ℕ} {lines : ℕ} {fault : FileFault} → EntryStops text lines fault
+pub entry_stops_bound : {text : List ℕ} {lines : ℕ} {why : Why} → EntryStops text lines why
     → lines ≤ length text
 entry_stops_bound (file.key takes h l) = omega arith
 entry_stops_bound (file.value takes e stops) =

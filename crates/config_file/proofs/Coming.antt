@@ -1,12 +1,14 @@
 -- A loop over the steps of a walk: what it comes to, and the settings that are added of that.
-use Rattle.std.proofs.Common.{arith, inl, inr, ◌≡◌, ◌≤◌, ◌++◌, ℕ, Bool, true, false, List, [], ◌∷◌, subst}
+use denote.Ref.{Bor}
+use Rattle.std.proofs.Common.{ap, arith, inl, inr, sym, ◌∙◌, ◌≡◌, ◌≤◌, ◌++◌, ℕ, Bool, true, false, List, [], ◌∷◌, subst}
 use Rattle.std.proofs.Common.{refl, length, map}
 use Rattle.std.specs.Prelude.{Ok, Err}
 use Rattle.std.proofs.lemmas.List.{append_assoc, append-nil, map-append}
 use Rattle.std.proofs.lemmas.List.Elements.{Contains-push, Contains-append_left, Contains-append_right}
 use Rattle.std.proofs.lemmas.List.Elements.{Contains-append_cases, Contains-push_cases}
+use Rattle.config_file.specs.Errors.{why_text}
 use Rattle.config_file.specs.File.{Entry}
-use Rattle.config_file.specs.Settings.{AddsEach, AddsWalk, TellsStop, found_item, IsPassed, IsEntered, IsStop}
+use Rattle.config_file.specs.Settings.{AddsEach, AddsWalk, IsSaid, TellsStop, found_item, IsPassed, IsEntered, IsStop, line_of, why_of}
 use Rattle.config_file.specs.Walk.{Content, Item, Stops, Stop, WalksText}
 use Rattle.config_file.specs.Walk as w
 use Rattle.config_file.specs.Reading.Adds.{Comes, AddsNext}
@@ -21,14 +23,20 @@ use Rattle.config_file.specs.declared.walk.Include.TheVariants as what
 use Rattle.config_file.specs.declared.walk.Step.TheVariants as step
 use Rattle.config_file.specs.declared.settings.AddError.{AddError}
 use Rattle.config_file.specs.declared.settings.AddError.TheVariants as error
-use Rattle.config_file.specs.declared.settings.IncludeFault.{IncludeFault}
-use Rattle.config_file.specs.declared.settings.IncludeFault.TheVariants as fault
+use Rattle.config_file.specs.declared.errors.Stop.{Stop as Told}
 use Rattle.config_file.specs.declared.settings.Setting.{Setting}
 use Rattle.config_file.specs.declared.walk.Frame.{Frame}
 use Rattle.config_file.specs.declared.walk.Known.{Known}
 use Rattle.config_file.specs.declared.walk.FilePlace.{FilePlace}
 use Rattle.config_file.proofs.Adding.{adds_none, adds_both}
 use Rattle.config_file.proofs.Steps.{all_of, cut_here, walks_as}
+
+-- a stop is told in the words of its reason
+pub told_in_words : {file : List ℕ} {stop : Stop} {told : Told (Bor (List ℕ))} → told.file.now ≡ file
+    → told.line ≡ line_of stop → told.why ≡ why_of stop → told.words.now ≡ why_text (why_of stop)
+    → TellsStop file stop told
+told_in_words file line why words =
+    record { file = file; line = line; why = why; words = λ other. words ∙ ap why_text (sym why) }
 
 none_said : (name : List ℕ) (content : Content) → Said [] name content → ⊥
 none_said name content said = let below = said.1 in omega arith
@@ -105,38 +113,39 @@ module _ (contents : List ℕ → Content → Type 0) (known : Known) where
 
   -- an entry at which Git stops
   pub stop_comes : (old new : List Frame) (place : FilePlace) (entry : code.Entry) (include : Include)
-      (why : IncludeFault)
+      (told : Told (Bor (List ℕ)))
       → ((answers : List (List ℕ × Content)) → Takes answers known old (step.Entry place entry include) new)
-      → IsStop contents include why
-      → (stop : Stop) × TellsStop place.name.now stop (error.Include place.name entry.line why)
+      → IsStop contents include told.why → IsSaid told.why told.words.now
+      → told.file.now ≡ place.name.now → told.line ≡ (entry_of entry).line
+      → (stop : Stop) × TellsStop place.name.now stop told
       × Comes contents known old (found_item (place.name.now, entry_of entry) ∷ (place.name.now, Stops stop) ∷ []) new
-  stop_comes old new place entry MissingValue why takes is = (
+  stop_comes old new place entry MissingValue told takes is said file line = (
     w.NoValue (entry_of entry),
-    (refl, refl, rw is tt),
+    record { file = file; line = line; why = is; words = said },
     comes_from old new
         (found_item (place.name.now, entry_of entry) ∷ (place.name.now, Stops (w.NoValue (entry_of entry))) ∷ []) takes,
   )
-  stop_comes old new place entry UnknownDirectory why takes is = (
+  stop_comes old new place entry UnknownDirectory told takes is said file line = (
     w.Unknown (entry_of entry),
-    (refl, refl, rw is tt),
+    record { file = file; line = line; why = is; words = said },
     comes_from old new
         (found_item (place.name.now, entry_of entry) ∷ (place.name.now, Stops (w.Unknown (entry_of entry))) ∷ []) takes,
   )
-  stop_comes old new place entry what.ForbiddenUrl why takes is = (
+  stop_comes old new place entry what.ForbiddenUrl told takes is said file line = (
     w.ForbiddenUrl (entry_of entry),
-    (refl, refl, rw is tt),
+    record { file = file; line = line; why = is; words = said },
     comes_from old new
         (found_item (place.name.now, entry_of entry) ∷ (place.name.now, Stops (w.ForbiddenUrl (entry_of entry))) ∷ [])
         takes,
   )
-  stop_comes old new place entry (Named name) (fault.Unreadable why) takes is = (
+  stop_comes old new place entry (Named name) told takes (is, holds) said file line = (
     w.NotRead (entry_of entry),
-    (refl, refl, tt),
+    record { file = file; line = line; why = is; words = said },
     comes_with old new
         (found_item (place.name.now, entry_of entry) ∷ (place.name.now, Stops (w.NotRead (entry_of entry))) ∷ [])
-        name.items w.Unreadable is (λ answers said. (takes answers).not_read said),
+        name.items w.Unreadable holds (λ answers said. (takes answers).not_read said),
   )
-  stop_comes old new place entry include why takes is = absurd is
+  stop_comes old new place entry include told takes is said file line = absurd is
 
   -- a line that cannot be read
   pub line_next : (old new : List Frame) (place : FilePlace) (at : FileError)
@@ -241,7 +250,7 @@ module _ {contents : List ℕ → Content → Type 0} {known : Known} {place : F
       → AddsNext contents known frames to now newer (Err e)
       → AddsWalk contents known place text start newer (Err e)
   keeps_error newer to (error.Memory r) fits same = keeps_memory newer r fits same
-  keeps_error newer to e fits (more, file, stop, adds, tells, (last, small, step)) = (
+  keeps_error newer to (error.Stops told) fits (more, file, stop, adds, tells, (last, small, step)) = (
     keeps.came.found ++ more,
     file,
     stop,

@@ -17,33 +17,33 @@ use Rattle.config_file.proofs.OneHeader.{HeaderHas}
 use Rattle.config_file.proofs.OneEntry as one_entry
 use Rattle.config_file.proofs.OneEntry.{EntryHas}
 use Rattle.config_file.specs.declared.errors.FileError.{FileError}
-use Rattle.config_file.specs.declared.errors.FileFault.{FileFault}
-use Rattle.config_file.specs.declared.errors.FileFault.TheVariants.{BadLine}
+use Rattle.config_file.specs.declared.errors.Why.{Why}
+use Rattle.config_file.specs.declared.errors.Why.TheVariants.{BadLine}
 use Rattle.config_file.specs.Bytes.{is_name_byte, is_key_byte, is_blank, is_space, is_comment_sign}
 use Rattle.config_file.specs.Bytes.{is_comment_byte, IsAtLineEnd}
 use Rattle.config_file.specs.Runs.{Run, StopsRun}
 use Rattle.config_file.specs.Header as header
-use Rattle.config_file.specs.Header.{Section, ClosesSubsection, SubsectionStops, fault_at}
+use Rattle.config_file.specs.Header.{Section, ClosesSubsection, SubsectionStops, why_at}
 use Rattle.config_file.specs.File as file
 use Rattle.config_file.specs.File.{Entry, TakesKey, Reads, IsFile, Begins, after_mark, IsPartOfMark}
 
 pub not_empty : (b : ℕ) (rest : List ℕ) → b ∷ rest ≢ []
 not_empty b rest e = cc
 
-abbrev ClosingIs : List ℕ → Result (List ℕ × List ℕ) (ℕ × FileFault) → Type 0
+abbrev ClosingIs : List ℕ → Result (List ℕ × List ℕ) (ℕ × Why) → Type 0
 ClosingIs text (Ok p) = ClosesSubsection text p.0 p.1
 ClosingIs text (Err stop) = SubsectionStops text stop.0 stop.1
 
 abbrev closing_of : (text : List ℕ) (o : Result (List ℕ × List ℕ) (List ℕ)) → SubsectionHas text o
-    → (c : Result (List ℕ × List ℕ) (ℕ × FileFault)) × ClosingIs text c
-closing_of text (Err rest) place = (Err (0, fault_at rest), header.within place)
+    → (c : Result (List ℕ × List ℕ) (ℕ × Why)) × ClosingIs text c
+closing_of text (Err rest) place = (Err (0, why_at rest), header.within place)
 closing_of text (Ok (raw, [])) takes = (Err (1, BadLine), header.closed_at_line_end takes tt)
 closing_of text (Ok (raw, b ∷ rest)) takes =
     elim (equal b 93) [
       | inl is ↦ (Ok (raw, rest), header.closes takes is)
       | inr other ↦ elim (line_end_decided (b ∷ rest)) [
         | inl end ↦ (Err (1, BadLine), header.closed_at_line_end takes end)
-        | inr not_end ↦ (Err (0, fault_at (b ∷ rest)), header.closed takes other not_end)
+        | inr not_end ↦ (Err (0, why_at (b ∷ rest)), header.closed takes other not_end)
       ]
     ]
 
@@ -53,19 +53,19 @@ HasHeader text = (o : one_header.Outcome) × HeaderHas text o
 abbrev named : {text : List ℕ} (name after : List ℕ) → Run is_name_byte text name after
     → StopsRun is_blank after → HasHeader text
 named name [] run none = (Err (1, BadLine), header.name run none header.at_end)
-named [] (b ∷ rest) run none = (Err (0, fault_at (b ∷ rest)), header.name run none header.empty)
+named [] (b ∷ rest) run none = (Err (0, why_at (b ∷ rest)), header.name run none header.empty)
 named (n ∷ name) (b ∷ rest) run none =
     elim (equal b 93) [
       | inl is ↦ (Ok ((n ∷ name, None), rest), header.plain run (not_empty n name) is)
       | inr other ↦
-          (Err (0, fault_at (b ∷ rest)), header.name run none (header.not_closed other))
+          (Err (0, why_at (b ∷ rest)), header.name run none (header.not_closed other))
     ]
 
 abbrev with_subsection : {text inner : List ℕ} (name : List ℕ) → header.OpensSubsection text name inner
-    → (c : Result (List ℕ × List ℕ) (ℕ × FileFault)) → ClosingIs inner c → HasHeader text
+    → (c : Result (List ℕ × List ℕ) (ℕ × Why)) → ClosingIs inner c → HasHeader text
 with_subsection name opens (Ok (raw, rest)) closed = (Ok ((name, Some raw), rest), header.quoted opens closed)
-with_subsection name opens (Err (lines, fault)) stopped =
-    (Err (lines, fault), header.subsection opens stopped)
+with_subsection name opens (Err (lines, why)) stopped =
+    (Err (lines, why), header.subsection opens stopped)
 
 abbrev blanked : {text : List ℕ} (name after blanks more : List ℕ) → Run is_name_byte text name after
     → Run is_blank after blanks more → HasHeader text
@@ -80,7 +80,7 @@ blanked name after (x ∷ blanks) (b ∷ inner) run blank_run =
           let opens = opened after (x ∷ blanks) (b ∷ inner) run blank_run (not_empty x blanks) (rw is) in
           with_subsection name opens c closing
       | inr other ↦
-          (Err (0, fault_at (b ∷ inner)), header.blanks run blank_run (not_empty x blanks) other)
+          (Err (0, why_at (b ∷ inner)), header.blanks run blank_run (not_empty x blanks) other)
     ]
 
 abbrev each_header : (text : List ℕ) → HasHeader text
@@ -97,8 +97,8 @@ abbrev with_value : {text : List ℕ} (key : List ℕ) (b : ℕ) (after : List �
     → b ≡ 61 → (o : one_value.Outcome) → ValueHas after o → HasEntry text
 with_value key b after takes is (Ok (raw, lines, rest)) taken =
     (Ok (key, Some raw, lines, rest), file.valued takes is taken)
-with_value key b after takes is (Err (lines, fault)) stopped =
-    (Err (lines, fault), file.value takes is stopped)
+with_value key b after takes is (Err (lines, why)) stopped =
+    (Err (lines, why), file.value takes is stopped)
 
 abbrev after_key : {text : List ℕ} (key rest : List ℕ) → TakesKey text key rest
     → Decided (IsAtLineEnd rest) → HasEntry text
@@ -107,7 +107,7 @@ after_key key [] takes (inr not_end) = absurd (not_end tt)
 after_key key (b ∷ after) takes (inr not_end) =
     elim (equal b 61) [
       | inl is ↦ with_value key b after takes is (value_of after) (value_holds after)
-      | inr other ↦ (Err (0, fault_at (b ∷ after)), file.key takes other not_end)
+      | inr other ↦ (Err (0, why_at (b ∷ after)), file.key takes other not_end)
     ]
 
 abbrev each_entry : (text : List ℕ) → HasEntry text
@@ -134,8 +134,8 @@ after_header n more section line b text room is (Ok (next, rest)) has =
     let shorter = header_shortens has in
     let (entries, error, reads) = more (Some next) line rest (omega arith) in
     (entries, error, file.header is has reads)
-after_header n more section line b text room is (Err (lines, fault)) has =
-    ([], Some (file.error_at (line + lines) fault), file.header_refused is has)
+after_header n more section line b text room is (Err (lines, why)) has =
+    ([], Some (file.error_at (line + lines) why), file.header_refused is has)
 
 abbrev after_entry : (n : ℕ) → AreRead n → (section : Option Section) (line b : ℕ) (text : List ℕ)
     → length text ≤ n → is_ascii_alphabetic b ≡ true → (o : one_entry.Outcome)
@@ -144,8 +144,8 @@ after_entry n more section line b text room is (Ok (key, v, lines, rest)) has =
     let shorter = entry_shortens (b ∷ text) refl is has in
     let (entries, error, reads) = more section (line + lines) rest (omega arith) in
     (file.entry_at section key v (line + lines) ∷ entries, error, file.entry is has reads)
-after_entry n more section line b text room is (Err (lines, fault)) has =
-    ([], Some (file.error_at (line + lines) fault), file.entry_refused is has)
+after_entry n more section line b text room is (Err (lines, why)) has =
+    ([], Some (file.error_at (line + lines) why), file.entry_refused is has)
 
 abbrev after_byte : (n : ℕ) → AreRead n → (section : Option Section) (line b : ℕ) (text : List ℕ)
     → length text ≤ n → HasReading section line (b ∷ text)
@@ -176,7 +176,7 @@ after_byte n more section line b text room =
               | inr not_letter ↦
                   let none =
                   begins_none b not_blank not_line not_sign not_bracket not_letter in
-                  ([], Some (file.error_at line (fault_at (b ∷ text))), file.no_item none)
+                  ([], Some (file.error_at line (why_at (b ∷ text))), file.no_item none)
             ]
           ]
         ]

@@ -8,9 +8,9 @@ use Rattle.config_file.proofs.Subsections as subsections
 use Rattle.config_file.proofs.OneValue as one_value
 use Rattle.config_file.proofs.OneValue.{ValueHas, value_of, value_is}
 use Rattle.config_file.proofs.OneSubsection.{SubsectionHas, subsection_of, subsection_is}
-use Rattle.config_file.specs.declared.errors.FileFault.TheVariants.{BadLine, Nul}
+use Rattle.config_file.specs.declared.errors.Why.TheVariants.{BadLine, Nul}
 use Rattle.config_file.specs.Bytes.{is_text_byte}
-use Rattle.config_file.specs.Header.{fault_at}
+use Rattle.config_file.specs.Header.{why_at}
 use Rattle.config_file.specs.Value.{escape, line_feeds, IsNoEscape}
 use Rattle.config_file.specs.Reading.Scans.{PassedValue, PassedSubsection, Escapes, letter, line}
 use Rattle.config_file.specs.Reading.Scans.{line_after_return, goes_on, EndsScan}
@@ -23,16 +23,16 @@ HasValue text = (o : one_value.Outcome) × ValueHas text o
 
 value_ends : {text : List ℕ} (q : Bool) (at : List ℕ) → PassedValue text q at → EndsScan q at → HasValue text
 value_ends true at passed ends =
-    (Err (line_feeds passed.raw, fault_at at), values.ends_in_quotes true passed.raw passed ends refl passed.joined)
+    (Err (line_feeds passed.raw, why_at at), values.ends_in_quotes true passed.raw passed ends refl passed.joined)
 value_ends false [] passed ends =
     (Ok (passed.raw, line_feeds passed.raw, []), values.ends_closed false [] passed.raw passed ends refl refl passed.joined)
 value_ends false (b ∷ rest) passed ends =
     elim (cases_Bool (b == 0)) [
       | inl is ↦
-          let nul : fault_at (b ∷ rest) ≡ Nul = ap (λ x. if x then Nul else BadLine) is in
+          let nul : why_at (b ∷ rest) ≡ Nul = ap (λ x. if x then Nul else BadLine) is in
           (Err (line_feeds passed.raw, Nul), values.ends_at_nul false (b ∷ rest) passed.raw passed refl nul passed.joined)
       | inr other ↦
-          let bad : fault_at (b ∷ rest) ≡ BadLine = ap (λ x. if x then Nul else BadLine) other in
+          let bad : why_at (b ∷ rest) ≡ BadLine = ap (λ x. if x then Nul else BadLine) other in
           (Ok (passed.raw, line_feeds passed.raw, b ∷ rest), values.ends_closed false (b ∷ rest) passed.raw passed ends refl bad passed.joined)
     ]
 
@@ -79,7 +79,7 @@ value_backslash n more q b rest room passed is (goes after escapes shorter) =
     more q after (omega arith) (values.passed_escape (b ∷ rest) passed refl is escapes)
 value_backslash n more q b rest room passed is (ends none) = value_at_end q b passed is none
 value_backslash n more q b rest room passed is (stops none) =
-    (Err (line_feeds passed.raw, fault_at rest), values.stops_after_backslash q (b ∷ rest) passed.raw passed (rw is refl) none passed.joined)
+    (Err (line_feeds passed.raw, why_at rest), values.stops_after_backslash q (b ∷ rest) passed.raw passed (rw is refl) none passed.joined)
 
 value_turn : (n : ℕ) {text : List ℕ} → Finds n text → (q : Bool) (b : ℕ) (rest : List ℕ) → length rest ≤ n
     → PassedValue text q (b ∷ rest) → HasValue text

@@ -2,15 +2,15 @@
 use Rattle.std.proofs.Common.{◌≡◌, ◌≢◌, ℕ, List, [], ◌∷◌, refl}
 use Rattle.config_file.specs.Bytes.{is_name_byte, is_blank}
 use Rattle.config_file.specs.Runs.{Run, StopsRun}
-use Rattle.config_file.specs.Header.{fault_at, BeginsWithout, OpensSubsection, NameStops, empty, not_closed}
+use Rattle.config_file.specs.Header.{why_at, BeginsWithout, OpensSubsection, NameStops, empty, not_closed}
 
 pub name_stops_empty : (name after : List ℕ) → after ≢ [] → name ≡ []
-    → NameStops name after 0 (fault_at after)
+    → NameStops name after 0 (why_at after)
 name_stops_empty name [] some e = absurd (some refl)
 name_stops_empty name (b ∷ rest) some e = rw e empty
 
 pub name_stops_not_closed : (name after : List ℕ) → after ≢ [] → BeginsWithout 93 after
-    → NameStops name after 0 (fault_at after)
+    → NameStops name after 0 (why_at after)
 name_stops_not_closed name [] some h = absurd (some refl)
 name_stops_not_closed name (b ∷ rest) some h = not_closed h
 

@@ -101,7 +101,8 @@ last (Some (file, stop)) = (file, Stops stop) ∷ []
 
 abbrev Tells : Result (Unit {0}) AddError → Option (List ℕ × Stop) → Type 0
 Tells (Ok _) stop = stop ≡ None
-Tells (Err e) stop = (file : List ℕ) × (at : Stop) × (stop ≡ Some (file, at)) × TellsStop file at e
+Tells (Err (error.Memory _)) stop = ⊥
+Tells (Err (error.Stops told)) stop = (file : List ℕ) × (at : Stop) × (stop ≡ Some (file, at)) × TellsStop file at told
 
 record Reached (contents : List ℕ → Content → Type 0) (known : Known) (place : FilePlace) (text : List ℕ)
     (old new : List Setting) (result : Result (Unit {0}) AddError) : Type 0 where
@@ -126,7 +127,7 @@ reached (Ok u) memory (found, adds, walks) = record {
   tells = refl;
 }
 reached (Err (error.Memory e)) memory is = absurd memory
-reached (Err e) memory (found, file, stop, adds, tells, walks) = record {
+reached (Err (error.Stops told)) memory (found, file, stop, adds, tells, walks) = record {
   found = found;
   stop = Some (file, stop);
   whole = false;
@@ -168,9 +169,11 @@ same_found f g s t v w first second (inr is) =
 same_end : (a b : Result (Unit {0}) AddError) (s t : Option (List ℕ × Stop)) → s ≡ t → Tells a s → Tells b t
     → IsSameEnd a b
 same_end (Ok u) (Ok v) s t same is so = tt
-same_end (Ok u) (Err f) s t same is (file, stop, at, tells) = cc
-same_end (Err e) (Ok v) s t same (file, stop, at, tells) so = cc
-same_end (Err e) (Err f) s t same (file, stop, is, tells) (other, end, so, also) =
+same_end (Ok u) (Err (error.Stops f)) s t same is (file, stop, at, tells) = cc
+same_end (Err (error.Stops e)) (Ok v) s t same (file, stop, at, tells) so = cc
+same_end (Err (error.Memory e)) b s t same is so = absurd is
+same_end a (Err (error.Memory f)) s t same is so = absurd so
+same_end (Err (error.Stops e)) (Err (error.Stops f)) s t same (file, stop, is, tells) (other, end, so, also) =
     let parts = same_Some (file, stop) (other, end) (sym is ∙ same ∙ so) in
     (file, stop, tells, rw (ap (λ p. p.0) parts, ap (λ p. p.1) parts) also)
 
@@ -271,10 +274,8 @@ walk_keeps_listed contents known place text old new (Ok u) (found, adds, walks) 
     still_listed found [] old new (rw (append-nil (map found_item found)) (text_read {text = text} walks)) adds listed
 walk_keeps_listed contents known place text old new (Err (error.Memory e)) (found, adds, walks) listed =
     still_listed found [] old new (rw (append-nil (map found_item found)) (text_read {text = text} walks)) adds listed
-walk_keeps_listed contents known place text old new (Err (error.Line n at)) (found, file, stop, adds, tells, walks) listed =
+walk_keeps_listed contents known place text old new (Err (error.Stops told)) (found, file, stop, adds, tells, walks) listed =
     still_listed found ((file, Stops stop) ∷ []) old new (text_read {text = text} walks) adds listed
-walk_keeps_listed contents known place text old new (Err (error.Include n line why)) (found, file, stop, adds, tells, walks)
-    listed = still_listed found ((file, Stops stop) ∷ []) old new (text_read {text = text} walks) adds listed
 
 of_one : (file : List ℕ) (entries more : List Entry) → AllByRecursion IsRead (entries ++ more)
     → AreRead (map found_item (map (λ entry. (file, entry)) entries) ++ [])
@@ -285,8 +286,7 @@ pub file_keeps_listed : (file text : List ℕ) (old new : List Setting) (result 
     → AddsFile file text old new result → AreListed old → AreListed new
 file_keeps_listed file text old new (Ok u) (entries, is, adds) listed =
     still_listed _ [] old new (of_one file entries [] (rw (append-nil entries) (of_file is))) adds listed
-file_keeps_listed file text old new (Err (error.Line name at)) (same, (entries, is, adds)) listed =
+file_keeps_listed file text old new (Err (error.Stops told)) (at, tells, (entries, is, adds)) listed =
     still_listed _ [] old new (of_one file entries [] (rw (append-nil entries) (of_file is))) adds listed
 file_keeps_listed file text old new (Err (error.Memory e)) (entries, (rest, end, is), adds) listed =
     still_listed _ [] old new (of_one file entries rest (of_file is)) adds listed
-file_keeps_listed file text old new (Err (error.Include name line why)) is listed = absurd is

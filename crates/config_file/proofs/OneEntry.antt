@@ -7,14 +7,14 @@ use Rattle.config_file.proofs.Runs.{run_split}
 use Rattle.config_file.proofs.OneValue as one_value
 use Rattle.config_file.proofs.OneValue.{ValueHas, value_of, value_is}
 use Rattle.config_file.proofs.Pick.{choose, chosen, not_chosen, line_end_decided, test_false}
-use Rattle.config_file.specs.declared.errors.FileFault.{FileFault}
+use Rattle.config_file.specs.declared.errors.Why.{Why}
 use Rattle.config_file.specs.Bytes.{IsAtLineEnd, is_key_byte, is_space}
-use Rattle.config_file.specs.Header.{BeginsWithout, fault_at}
+use Rattle.config_file.specs.Header.{BeginsWithout, why_at}
 use Rattle.config_file.specs.File as file
 use Rattle.config_file.specs.File.{TakesKey, TakesEntry, EntryStops}
 
 abbrev pub Outcome : Type 0
-Outcome = Result (List ℕ × Option (List ℕ) × ℕ × List ℕ) (ℕ × FileFault)
+Outcome = Result (List ℕ × Option (List ℕ) × ℕ × List ℕ) (ℕ × Why)
 
 abbrev with_key : List ℕ → one_value.Outcome → Outcome
 with_key key (Ok p) = Ok (key, Some p.0, p.1, p.2)
@@ -22,9 +22,9 @@ with_key key (Err stop) = Err stop
 
 -- the outcome after this key
 abbrev after_key : List ℕ → List ℕ → Outcome
-after_key key [] = Err (0, fault_at [])
+after_key key [] = Err (0, why_at [])
 after_key key (b ∷ after) =
-    if b == 61 then with_key key (value_of after) else Err (0, fault_at (b ∷ after))
+    if b == 61 then with_key key (value_of after) else Err (0, why_at (b ∷ after))
 
 abbrev ends_of : List ℕ → List ℕ → Outcome
 ends_of key rest = choose (line_end_decided rest) (Ok (key, None, 0, rest)) (after_key key rest)
@@ -59,10 +59,10 @@ valued_ends key after b o is has =
     here ∙ going key (b ∷ after) (no_line_end b after is)
 
 stopped_ends : (key rest : List ℕ) → BeginsWithout 61 rest → ¬ (IsAtLineEnd rest)
-    → Err (0, fault_at rest) ≡ ends_of key rest
+    → Err (0, why_at rest) ≡ ends_of key rest
 stopped_ends key [] other h = absurd (h tt)
 stopped_ends key (b ∷ after) other h =
-    let here : Err (0, fault_at (b ∷ after)) ≡ after_key key (b ∷ after) = rw (test_false b 61 other) in
+    let here : Err (0, why_at (b ∷ after)) ≡ after_key key (b ∷ after) = rw (test_false b 61 other) in
     here ∙ going key (b ∷ after) h
 
 abbrev pub EntryHas : List ℕ → Outcome → Type 0
@@ -74,10 +74,10 @@ entry_is text (Ok (key, v, lines, rest)) (file.alone takes end) =
     sym (chosen (line_end_decided rest) (Ok (key, None, 0, rest)) (after_key key rest) end) ∙ ends_at takes
 entry_is text (Ok (key, v, lines, rest)) (file.valued {b = b} {after = after} {raw = raw} takes is taken) =
     valued_ends key after b (Ok (raw, lines, rest)) is taken ∙ ends_at takes
-entry_is text (Err (lines, fault)) (file.key {key = key} {rest = rest} takes other h) =
+entry_is text (Err (lines, why)) (file.key {key = key} {rest = rest} takes other h) =
     stopped_ends key rest other h ∙ ends_at takes
-entry_is text (Err (lines, fault)) (file.value {b = b} {key = key} {after = after} takes is stopped) =
-    valued_ends key after b (Err (lines, fault)) is stopped ∙ ends_at takes
+entry_is text (Err (lines, why)) (file.value {b = b} {key = key} {after = after} takes is stopped) =
+    valued_ends key after b (Err (lines, why)) is stopped ∙ ends_at takes
 
 pub entry_only : (text : List ℕ) (a b : Outcome) → EntryHas text a → EntryHas text b → a ≡ b
 entry_only text a b first second = entry_is text a first ∙ sym (entry_is text b second)

@@ -15,7 +15,7 @@ use Rattle.config_file.proofs.OneEntry.{EntryHas, entry_only}
 use Rattle.config_file.specs.declared.errors.FileError.{FileError}
 use Rattle.config_file.specs.Bytes.{is_blank, is_comment_sign, is_comment_byte, IsAtLineEnd}
 use Rattle.config_file.specs.Runs.{Run}
-use Rattle.config_file.specs.Header.{Section, fault_at}
+use Rattle.config_file.specs.Header.{Section, why_at}
 use Rattle.config_file.specs.File as file
 use Rattle.config_file.specs.File.{Entry, Reads, Begins, IsFile, begins_item, after_mark, IsPartOfMark}
 
@@ -68,14 +68,14 @@ kind_nothing b is =
 abbrev AfterHeader : Option Section → ℕ → List Entry → Option FileError → one_header.Outcome → Type 0
 AfterHeader section line left error (Ok p) = Reads (Some p.0) line p.1 left error
 AfterHeader section line left error (Err stop) =
-    (left ≡ []) × (error ≡ Some (record { line = line + stop.0; fault = stop.1 }))
+    (left ≡ []) × (error ≡ Some (record { line = line + stop.0; why = stop.1 }))
 
 abbrev AfterEntry : Option Section → ℕ → List Entry → Option FileError → one_entry.Outcome → Type 0
 AfterEntry section line left error (Ok p) =
     (later : List Entry) × Reads section (line + p.2) p.3 later error
     × (left ≡ record { section = section; key = p.0; value = p.1; line = line + p.2 } ∷ later)
 AfterEntry section line left error (Err stop) =
-    (left ≡ []) × (error ≡ Some (record { line = line + stop.0; fault = stop.1 }))
+    (left ≡ []) × (error ≡ Some (record { line = line + stop.0; why = stop.1 }))
 
 -- what a reading states after its first byte, by the kind of item that begins there
 abbrev Turn : Option Section → ℕ → ℕ → List ℕ → List Entry → Option FileError → Kind → Type 0
@@ -88,7 +88,7 @@ Turn section line b text left error header =
 Turn section line b text left error entry =
     (o : one_entry.Outcome) × is_ascii_alphabetic b ≡ true × EntryHas (b ∷ text) o × AfterEntry section line left error o
 Turn section line b text left error nothing =
-    (left ≡ []) × (error ≡ Some (record { line = line; fault = fault_at (b ∷ text) }))
+    (left ≡ []) × (error ≡ Some (record { line = line; why = why_at (b ∷ text) }))
 
 turn : {section : Option Section} {line b : ℕ} {text : List ℕ} {left : List Entry} {error : Option FileError}
     → Reads section line (b ∷ text) left error
@@ -101,10 +101,10 @@ turn (file.header {next = next} {b = b} {rest = rest} is taken h) =
     (header, kind_header b is, (Ok (next, rest), taken, h))
 turn (file.entry {lines = lines} {b = b} {key = key} {rest = rest} {value = v} {entries = later} is taken h) =
     (entry, kind_entry b is, (Ok (key, v, lines, rest), is, taken, (later, h, refl)))
-turn (file.header_refused {lines = lines} {b = b} {fault = fault} is stops) =
-    (header, kind_header b is, (Err (lines, fault), stops, (refl, refl)))
-turn (file.entry_refused {lines = lines} {b = b} {fault = fault} is stops) =
-    (entry, kind_entry b is, (Err (lines, fault), is, stops, (refl, refl)))
+turn (file.header_refused {lines = lines} {b = b} {why = why} is stops) =
+    (header, kind_header b is, (Err (lines, why), stops, (refl, refl)))
+turn (file.entry_refused {lines = lines} {b = b} {why = why} is stops) =
+    (entry, kind_entry b is, (Err (lines, why), is, stops, (refl, refl)))
 turn (file.no_item {b = b} is) = (nothing, kind_nothing b is, (refl, refl))
 
 at_kind : {section : Option Section} {line b : ℕ} {text : List ℕ} {left : List Entry}
@@ -149,10 +149,10 @@ reads_once {section = section} {line = line}
     let (later, more, same) = entry_at (Ok (key, v, lines, rest)) has is second in
     let (lefts, errors) = reads_once first more in
     (ap (◌∷◌ (file.entry_at section key v (line + lines))) lefts ∙ sym same, errors)
-reads_once (file.header_refused {lines = lines} {fault = fault} is has) second =
-    let (none, same) = header_at (Err (lines, fault)) has is second in (sym none, sym same)
-reads_once (file.entry_refused {lines = lines} {fault = fault} is has) second =
-    let (none, same) = entry_at (Err (lines, fault)) has is second in (sym none, sym same)
+reads_once (file.header_refused {lines = lines} {why = why} is has) second =
+    let (none, same) = header_at (Err (lines, why)) has is second in (sym none, sym same)
+reads_once (file.entry_refused {lines = lines} {why = why} is has) second =
+    let (none, same) = entry_at (Err (lines, why)) has is second in (sym none, sym same)
 reads_once (file.no_item {b = c} is) second =
     let (none, same) = at_kind nothing (kind_nothing c is) second in (sym none, sym same)
 

@@ -5,10 +5,10 @@ use Rattle.std.proofs.Common.{arith, if◌then◌else◌, append-nil, inl, inr, 
 use Rattle.std.proofs.lemmas.Bool.Decides.{nat_tests}
 use Rattle.config_file.proofs.OneRun.{before, before_is}
 use Rattle.config_file.proofs.Pick.{pick, pick_first, pick_third, equal, test_false}
-use Rattle.config_file.specs.declared.errors.FileFault.{FileFault}
-use Rattle.config_file.specs.declared.errors.FileFault.TheVariants.{BadLine, Nul}
+use Rattle.config_file.specs.declared.errors.Why.{Why}
+use Rattle.config_file.specs.declared.errors.Why.TheVariants.{BadLine, Nul}
 use Rattle.config_file.specs.Bytes.{is_plain, is_blank, is_comment_sign, EndsText}
-use Rattle.config_file.specs.Header.{fault_at}
+use Rattle.config_file.specs.Header.{why_at}
 use Rattle.config_file.specs.Value as value
 use Rattle.config_file.specs.Value.{Ending, outside, inside, at_backslash, Spells, TakesValue, ValueStops}
 use Rattle.config_file.specs.Value.{IsPart, EndsValue, IsNoEscape, line_feeds, escape}
@@ -79,19 +79,19 @@ pub before_backslash : {w : ℕ → ℕ} {q : Bool} {so_far raw spelled held : L
 before_backslash s = before_stop (scans s)
 
 abbrev pub Outcome : Type 0
-Outcome = Result (List ℕ × ℕ × List ℕ) (ℕ × FileFault)
+Outcome = Result (List ℕ × ℕ × List ℕ) (ℕ × Why)
 
 abbrev finish_at_backslash : List ℕ → Bool → List ℕ → Outcome
 finish_at_backslash raw true [] = Err (line_feeds raw + 1, BadLine)
 finish_at_backslash raw false [] = Ok (raw ++ 92 ∷ [], line_feeds (raw ++ 92 ∷ []) + 1, [])
-finish_at_backslash raw q (e ∷ rest) = Err (line_feeds raw, fault_at (e ∷ rest))
+finish_at_backslash raw q (e ∷ rest) = Err (line_feeds raw, why_at (e ∷ rest))
 
 -- the outcome of a scan that stops before this rest, after these bytes, in quotes or not
 abbrev finish : List ℕ → Bool → List ℕ → Outcome
 finish raw true [] = Err (line_feeds raw, BadLine)
 finish raw false [] = Ok (raw, line_feeds raw, [])
 finish raw true (b ∷ rest) =
-    if b == 92 then finish_at_backslash raw true rest else Err (line_feeds raw, fault_at (b ∷ rest))
+    if b == 92 then finish_at_backslash raw true rest else Err (line_feeds raw, why_at (b ∷ rest))
 finish raw false (b ∷ rest) =
     pick (b == 92) (b == 0) (finish_at_backslash raw false rest) (Err (line_feeds raw, Nul)) (Ok (raw, line_feeds raw, b ∷ rest))
 
@@ -158,7 +158,7 @@ no_step_in_quotes (b ∷ rest) h =
     no_step_byte true b rest not_quote not_backslash h
 
 finish_in_quotes : (raw rest : List ℕ) → EndsText rest
-    → Err (line_feeds raw, fault_at rest) ≡ finish raw true rest
+    → Err (line_feeds raw, why_at rest) ≡ finish raw true rest
 finish_in_quotes raw [] h = refl
 finish_in_quotes raw (b ∷ rest) h =
     let (not_quote, not_backslash, not_plain) = ends_text_byte b h in rw not_backslash
@@ -178,13 +178,13 @@ no_step_after_backslash q (e ∷ f ∷ rest) h =
     pick_third _ _ (Some (q, f ∷ rest)) (Some (q, f ∷ rest)) (step_return q e (f ∷ rest)) (ap is_some h.0) (test_false e 10 h.1) ∙ no_return q e f rest h.2
 
 finish_after_backslash : (q : Bool) (raw rest : List ℕ) → IsNoEscape rest
-    → Err (line_feeds raw, fault_at rest) ≡ finish raw q (92 ∷ rest)
+    → Err (line_feeds raw, why_at rest) ≡ finish raw q (92 ∷ rest)
 finish_after_backslash q raw [] h = absurd h
 finish_after_backslash true raw (e ∷ rest) h = refl
 finish_after_backslash false raw (e ∷ rest) h = refl
 
-stopped_is : {text : List ℕ} {lines : ℕ} {fault : FileFault} → ValueStops text lines fault
-    → Err (lines, fault) ≡ value_of text
+stopped_is : {text : List ℕ} {lines : ℕ} {why : Why} → ValueStops text lines why
+    → Err (lines, why) ≡ value_of text
 stopped_is (value.nul raw rest joined part is) =
     outcome_after false raw (0 ∷ rest) (joined ∙ rw is) part refl
 stopped_is (value.unclosed raw rest joined part end) =
@@ -202,4 +202,4 @@ ValueHas text (Err stop) = ValueStops text stop.0 stop.1
 
 pub value_is : (text : List ℕ) (outcome : Outcome) → ValueHas text outcome → outcome ≡ value_of text
 value_is text (Ok (raw, lines, rest)) has = taken_is has
-value_is text (Err (lines, fault)) has = stopped_is has
+value_is text (Err (lines, why)) has = stopped_is has

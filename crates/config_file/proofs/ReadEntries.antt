@@ -3,7 +3,7 @@ use Rattle.std.proofs.Common.{◌≡◌, ℕ, List, ◌∷◌, refl}
 use Rattle.config_file.specs.Bytes.{is_key_byte, is_space}
 use Rattle.config_file.specs.File as file
 use Rattle.config_file.specs.File.{TakesKey, TakesEntry, EntryStops}
-use Rattle.config_file.specs.Header.{fault_at}
+use Rattle.config_file.specs.Header.{why_at}
 use Rattle.config_file.specs.Reading.Ends.{EndsEntryAs, EndsValueAs, value_as}
 use Rattle.config_file.specs.Runs.{Run}
 use Rattle.config_file.specs.declared.entry.EntryForm.{EntryForm}
@@ -32,7 +32,7 @@ is_taken Refused raw some stops = absurd (some refl)
 
 -- an entry that is refused stops the reader
 pub is_stopped : {text : List ℕ} {lines : ℕ} (form : EntryForm) (key raw rest : List ℕ) → form ≡ Refused
-    → EndsEntryAs form text key raw lines rest → EntryStops text lines (fault_at rest)
+    → EndsEntryAs form text key raw lines rest → EntryStops text lines (why_at rest)
 is_stopped Alone key raw rest is ends = cc
 is_stopped Plain key raw rest is ends = cc
 is_stopped Marked key raw rest is ends = cc

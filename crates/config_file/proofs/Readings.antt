@@ -4,11 +4,11 @@ use Rattle.std.proofs.Common.{ap, ◌∙◌, arith, refl, option_map}
 use Rattle.std.proofs.lemmas.Bool.Decides.{nat_tests}
 use Rattle.std.specs.Char.{is_ascii_alphabetic}
 use Rattle.config_file.specs.declared.errors.FileError.{FileError}
-use Rattle.config_file.specs.declared.errors.FileFault.{FileFault}
+use Rattle.config_file.specs.declared.errors.Why.{Why}
 use Rattle.config_file.specs.declared.entry.Entry as code
 use Rattle.config_file.specs.declared.reader.Entries as reader
 use Rattle.config_file.specs.Bytes.{is_blank, is_comment_sign}
-use Rattle.config_file.specs.Header.{Section, fault_at}
+use Rattle.config_file.specs.Header.{Section, why_at}
 use Rattle.config_file.specs.File as file
 use Rattle.config_file.specs.File.{Entry, TakesEntry, EntryStops, Reads, begins_item, entry_at}
 use Rattle.config_file.specs.Left.{Advances, HasLeft, GivesEntry, last_entry}
@@ -17,18 +17,18 @@ use Rattle.config_file.specs.Views.{entry_of, section_of}
 use Rattle.config_file.specs.declared.entry.EntryForm.{EntryForm}
 use Rattle.config_file.specs.declared.entry.EntryForm.TheVariants.{Alone, Plain, Marked, Refused}
 
--- a text that is refused with an error of this line and this fault is refused with an equal error
-pub refused_as : {section : Option Section} {line at_line : ℕ} {fault : FileFault} {text : List ℕ} (error : FileError)
-    → error.line ≡ at_line → error.fault ≡ fault
-    → Reads section line text [] (Some (record { line = at_line; fault = fault })) → Reads section line text [] (Some error)
-refused_as error same_line same_fault h = rw (← same_line, ← same_fault) at h
+-- a text that is refused with an error of this line and for this reason is refused with an equal error
+pub refused_as : {section : Option Section} {line at_line : ℕ} {why : Why} {text : List ℕ} (error : FileError)
+    → error.line ≡ at_line → error.why ≡ why
+    → Reads section line text [] (Some (record { line = at_line; why = why })) → Reads section line text [] (Some error)
+refused_as error same_line same_why h = rw (← same_line, ← same_why) at h
 
 module _ {section : Option Section} {line : ℕ} (error : FileError) where
   pub no_item : {b : ℕ} {rest : List ℕ} (at : List ℕ) → at ≡ b ∷ rest → begins_item b ≡ false
-      → error.line ≡ line + 0 → error.fault ≡ fault_at at → Reads section line at [] (Some error)
-  no_item {b = b} at e other same_line same_fault =
+      → error.line ≡ line + 0 → error.why ≡ why_at at → Reads section line at [] (Some error)
+  no_item {b = b} at e other same_line same_why =
       let same : error.line ≡ line = omega arith in
-      refused_as error same (same_fault ∙ ap fault_at e) (rw e (file.no_item other))
+      refused_as error same (same_why ∙ ap why_at e) (rw e (file.no_item other))
 
 pub at_entry : {section : Option Section} {line b lines : ℕ} {rest key after : List ℕ} {value : Option (List ℕ)} (left : List Entry) (error : Option FileError) (at : List ℕ)
     → at ≡ b ∷ rest → is_ascii_alphabetic b ≡ true → TakesEntry at key value lines after

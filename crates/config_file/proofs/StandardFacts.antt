@@ -9,7 +9,7 @@ use Prim.Native.String.{String}
 use Rattle.config_file.proofs.Fronts.{is_front, lacks}
 use Rattle.config_file.proofs.PatternsOnLiterals.{AreMatched, all_matched}
 use Rattle.config_file.proofs.OnLiterals.{Row, Lists, AreListed, lists, all_listed}
-use Rattle.config_file.specs.declared.errors.FileFault.TheVariants.{BadLine, Nul}
+use Rattle.config_file.specs.declared.errors.Why.TheVariants.{BadLine, Nul}
 use Rattle.config_file.specs.declared.errors.FileError.{FileError}
 use Rattle.config_file.specs.declared.include.Condition.TheVariants.{GitDir, GitDirIgnoringCase, OnBranch}
 use Rattle.config_file.specs.declared.include.Condition.TheVariants.{HasRemoteUrl, Unknown}

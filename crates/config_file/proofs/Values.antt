@@ -1,15 +1,15 @@
 -- The scan of a value.
 use Rattle.std.proofs.Common.{◌≡◌, ◌≢◌, ℕ, ◌+◌, Bool, true, false, not, List, [], ◌∷◌, ◌++◌, Option, Some}
 use Rattle.std.proofs.Common.{None, is_some, refl, sym, ap, ◌∙◌, append_assoc, append-nil, arith, inl, inr, subst}
-use Rattle.std.proofs.Common.{◌⊎◌, ◌==◌, ◌≤◌, length, length-append}
+use Rattle.std.proofs.Common.{◌⊎◌, ◌==◌, ◌≤◌, if◌then◌else◌, length, length-append}
 use Rattle.std.proofs.lemmas.List.{append_cancel_right}
 use Rattle.std.proofs.lemmas.List.Sums.{count_by-le-length}
 use Rattle.std.specs.List.{list_all}
 use Rattle.std.proofs.lemmas.Bool.{cases_Bool, and_parts}
 use Rattle.std.proofs.lemmas.Bool.Decides.{nat_tests}
-use Rattle.config_file.specs.declared.errors.FileFault.TheVariants.{BadLine, Nul}
+use Rattle.config_file.specs.declared.errors.Why.TheVariants.{BadLine, Nul}
 use Rattle.config_file.specs.Bytes.{is_plain, is_blank, is_comment_sign, is_comment_byte, EndsText}
-use Rattle.config_file.specs.Header.{fault_at}
+use Rattle.config_file.specs.Header.{why_at}
 use Rattle.config_file.specs.Value.{Ending, outside, inside, at_backslash, Spells, itself, ends_outside}
 use Rattle.config_file.specs.Value.{ends_inside, ends_at_backslash, quote, escaped, continued}
 use Rattle.config_file.specs.Value.{continued_after_return, blank, plain, IsPart, EndsValue, IsNoEscape}
@@ -105,36 +105,43 @@ ends_text (b ∷ rest) h = h
 
 pub ends_in_quotes : {text at : List ℕ} (q : Bool) (raw : List ℕ) → PassedValue text q at → EndsScan q at
     → q ≡ true → text ≡ raw ++ at
-    → ValueStops text (line_feeds raw) (fault_at at)
+    → ValueStops text (line_feeds raw) (why_at at)
 ends_in_quotes {at = at} true raw passed h e joined =
     unclosed raw at joined (part true raw passed joined) (ends_text at h)
 ends_in_quotes false raw passed h e joined = cc
 
-nul_byte : (b : ℕ) (rest : List ℕ) → fault_at (b ∷ rest) ≡ Nul → b ≡ 0
+nul_byte : (b : ℕ) (rest : List ℕ) → why_at (b ∷ rest) ≡ Nul → b ≡ 0
 nul_byte b rest e =
     elim (cases_Bool (b == 0)) [ inl is ↦ grind (arith, nat_tests) | inr other ↦ let no : BadLine ≡ Nul = rw other at e in cc ]
 
 pub ends_at_nul : {text : List ℕ} (q : Bool) (at raw : List ℕ) → PassedValue text q at → q ≡ false
-    → fault_at at ≡ Nul → text ≡ raw ++ at
+    → why_at at ≡ Nul → text ≡ raw ++ at
     → ValueStops text (line_feeds raw) Nul
 ends_at_nul true at raw passed off e joined = cc
 ends_at_nul false [] raw passed off e joined = cc
 ends_at_nul false (b ∷ rest) raw passed off e joined =
     nul raw rest joined (part false raw passed joined) (nul_byte b rest e)
 
-not_nul : (b : ℕ) (rest : List ℕ) → fault_at (b ∷ rest) ≡ BadLine → b ≢ 0
+pub bad_unless_nul : (at : List ℕ) → ¬ (why_at at ≡ Nul) → why_at at ≡ BadLine
+bad_unless_nul [] other = refl
+bad_unless_nul (b ∷ rest) other = elim (cases_Bool (b == 0)) [
+  | inl is ↦ absurd (other (ap (λ x. if x then Nul else BadLine) is))
+  | inr none ↦ ap (λ x. if x then Nul else BadLine) none
+]
+
+not_nul : (b : ℕ) (rest : List ℕ) → why_at (b ∷ rest) ≡ BadLine → b ≢ 0
 not_nul b rest e is = let no : Nul ≡ BadLine = rw is at e in cc
 
 ends_byte : (b : ℕ) → goes_on false b ≡ false → b ≢ 0 → (b ≡ 10) ⊎ (is_comment_sign b ≡ true)
 ends_byte b h not_nul =
     elim (cases_Bool (is_comment_sign b)) [ inl is ↦ inr is | inr other ↦ inl (grind (arith, nat_tests)) ]
 
-ends_value : (at : List ℕ) → EndsScan false at → fault_at at ≡ BadLine → EndsValue at
+ends_value : (at : List ℕ) → EndsScan false at → why_at at ≡ BadLine → EndsValue at
 ends_value [] h e = tt
 ends_value (b ∷ rest) h e = ends_byte b h (not_nul b rest e)
 
 pub ends_closed : {text : List ℕ} (q : Bool) (at raw : List ℕ) → PassedValue text q at → EndsScan q at
-    → q ≡ false → fault_at at ≡ BadLine → text ≡ raw ++ at
+    → q ≡ false → why_at at ≡ BadLine → text ≡ raw ++ at
     → TakesValue text raw (line_feeds raw) at
 ends_closed true at raw passed h off e joined = cc
 ends_closed false at raw passed h off e joined =
@@ -245,20 +252,20 @@ plain_lines {raw = raw} run = lines_of raw _ run.joined (plain_line raw run.pass
 
 -- plain bytes that no mark follows are a value, or are refused at a NUL
 pub takes_plain : {text raw rest : List ℕ} → Run is_plain_byte text raw rest → begins_with_mark rest ≡ false
-    → fault_at rest ≡ BadLine → TakesValue text raw 0 rest
+    → why_at rest ≡ BadLine → TakesValue text raw 0 rest
 takes_plain {text = text} {raw = raw} {rest = rest} run none bad =
     subst (λ lines. TakesValue text raw lines rest) (plain_line raw run.pass)
     (ends_closed false rest raw (passed_plain run) (plain_scan_ends rest run.longest none) refl bad run.joined)
 
-pub stops_plain : {text raw rest : List ℕ} → Run is_plain_byte text raw rest → fault_at rest ≡ Nul
-    → ValueStops text 0 (fault_at rest)
+pub stops_plain : {text raw rest : List ℕ} → Run is_plain_byte text raw rest → why_at rest ≡ Nul
+    → ValueStops text 0 (why_at rest)
 stops_plain {text = text} {raw = raw} {rest = rest} run is =
     rw is (subst (λ lines. ValueStops text lines Nul) (plain_line raw run.pass)
     (ends_at_nul false rest raw (passed_plain run) refl is run.joined))
 
 pub stops_after_backslash : {text rest : List ℕ} (q : Bool) (at raw : List ℕ) → PassedValue text q at
     → at ≡ 92 ∷ rest → IsNoEscape rest → text ≡ raw ++ at
-    → ValueStops text (line_feeds raw) (fault_at rest)
+    → ValueStops text (line_feeds raw) (why_at rest)
 stops_after_backslash {rest = rest} q at raw passed e is_none joined =
     no_escape q raw rest (joined ∙ ap (◌++◌ raw) e) (part q raw passed joined) refl is_none
 

@@ -5,12 +5,12 @@
 use Rattle.std.specs.Prelude.{◌≡◌, ℕ, ◌+◌, Bool, true, false, List, [], ◌∷◌, Option, Some, None}
 use Rattle.std.specs.Prelude.{if◌then◌else◌, ◌==◌, ◌&&◌, ◌||◌, ◌⊎◌}
 use Rattle.std.specs.Char.{is_ascii_alphabetic}
-use Rattle.config_file.specs.declared.errors.FileFault.{FileFault}
+use Rattle.config_file.specs.declared.errors.Why.{Why}
 use Rattle.config_file.specs.declared.errors.FileError.{FileError}
 use Rattle.config_file.specs.Bytes.{line_feed, left_bracket, equals_sign, is_key_byte, is_space, is_blank}
 use Rattle.config_file.specs.Bytes.{is_comment_sign, is_comment_byte, IsAtLineEnd}
 use Rattle.config_file.specs.Runs.{Run}
-use Rattle.config_file.specs.Header.{Section, Header, HeaderStops, fault_at, BeginsWithout}
+use Rattle.config_file.specs.Header.{Section, Header, HeaderStops, why_at, BeginsWithout}
 use Rattle.config_file.specs.Value.{TakesValue, ValueStops}
 
 -- an entry: its section if a header precedes it, its key, the bytes of its value if it has `=`, and its line
@@ -23,8 +23,8 @@ pub record Entry : Type 0 where
 abbrev pub entry_at : Option Section → List ℕ → Option (List ℕ) → ℕ → Entry
 entry_at section key value line = record { section = section; key = key; value = value; line = line }
 
-abbrev pub error_at : ℕ → FileFault → FileError
-error_at line fault = record { line = line; fault = fault }
+abbrev pub error_at : ℕ → Why → FileError
+error_at line why = record { line = line; why = why }
 
 -- the text begins with this key, then has any number of spaces and TABs, and then this rest
 pub record TakesKey (text key rest : List ℕ) : Type 0 where
@@ -42,14 +42,14 @@ pub data TakesEntry : List ℕ → List ℕ → Option (List ℕ) → ℕ → Li
       → TakesKey text key (b ∷ after) → b ≡ equals_sign → TakesValue after raw lines rest
       → TakesEntry text key (Some raw) lines rest
 
--- an entry that is refused: how many lines after its first one the error is, and the fault
-pub data EntryStops : List ℕ → ℕ → FileFault → Type 0 where
+-- an entry that is refused: how many lines after its first one the error is, and why
+pub data EntryStops : List ℕ → ℕ → Why → Type 0 where
   key : {text key rest : List ℕ}
       → TakesKey text key rest → BeginsWithout equals_sign rest → ¬ (IsAtLineEnd rest)
-      → EntryStops text 0 (fault_at rest)
-  value : {b lines : ℕ} {fault : FileFault} {text key after : List ℕ}
-      → TakesKey text key (b ∷ after) → b ≡ equals_sign → ValueStops after lines fault
-      → EntryStops text lines fault
+      → EntryStops text 0 (why_at rest)
+  value : {b lines : ℕ} {why : Why} {text key after : List ℕ}
+      → TakesKey text key (b ∷ after) → b ≡ equals_sign → ValueStops after lines why
+      → EntryStops text lines why
 
 -- whether an item can begin with this byte: a line end, a blank, a comment, a header or an entry
 abbrev pub begins_item : ℕ → Bool
@@ -81,15 +81,15 @@ pub data Reads : Option Section → ℕ → List ℕ → List Entry → Option F
       → is_ascii_alphabetic b ≡ true → TakesEntry (b ∷ text) key value lines rest
       → Reads section (line + lines) rest entries error
       → Reads section line (b ∷ text) (entry_at section key value (line + lines) ∷ entries) error
-  header_refused : {section : Option Section} {line lines b : ℕ} {fault : FileFault} {text : List ℕ}
-      → b ≡ left_bracket → HeaderStops text lines fault
-      → Reads section line (b ∷ text) [] (Some (error_at (line + lines) fault))
-  entry_refused : {section : Option Section} {line lines b : ℕ} {fault : FileFault} {text : List ℕ}
-      → is_ascii_alphabetic b ≡ true → EntryStops (b ∷ text) lines fault
-      → Reads section line (b ∷ text) [] (Some (error_at (line + lines) fault))
+  header_refused : {section : Option Section} {line lines b : ℕ} {why : Why} {text : List ℕ}
+      → b ≡ left_bracket → HeaderStops text lines why
+      → Reads section line (b ∷ text) [] (Some (error_at (line + lines) why))
+  entry_refused : {section : Option Section} {line lines b : ℕ} {why : Why} {text : List ℕ}
+      → is_ascii_alphabetic b ≡ true → EntryStops (b ∷ text) lines why
+      → Reads section line (b ∷ text) [] (Some (error_at (line + lines) why))
   no_item : {section : Option Section} {line b : ℕ} {text : List ℕ}
       → begins_item b ≡ false
-      → Reads section line (b ∷ text) [] (Some (error_at line (fault_at (b ∷ text))))
+      → Reads section line (b ∷ text) [] (Some (error_at line (why_at (b ∷ text))))
 
 -- what follows the byte order mark, if the text begins with it
 abbrev pub after_mark : List ℕ → Option (List ℕ)

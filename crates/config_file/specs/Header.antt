@@ -1,7 +1,7 @@
 -- Section headers, after their `[`.
 use Rattle.std.specs.Prelude.{◌≡◌, ◌≢◌, ℕ, List, [], ◌∷◌, Option, Some, None, if◌then◌else◌, ◌==◌, ⊤}
-use Rattle.config_file.specs.declared.errors.FileFault.{FileFault}
-use Rattle.config_file.specs.declared.errors.FileFault.TheVariants.{BadLine, Nul}
+use Rattle.config_file.specs.declared.errors.Why.{Why}
+use Rattle.config_file.specs.declared.errors.Why.TheVariants.{BadLine, Nul}
 use Rattle.config_file.specs.Bytes.{double_quote, right_bracket, is_name_byte, is_blank, IsAtLineEnd}
 use Rattle.config_file.specs.Runs.{Run, StopsRun}
 use Rattle.config_file.specs.Subsection.{TakesSubsection, StopsInSubsection}
@@ -10,10 +10,10 @@ use Rattle.config_file.specs.Subsection.{TakesSubsection, StopsInSubsection}
 abbrev pub Section : Type 0
 Section = List ℕ × Option (List ℕ)
 
--- the fault if the reading stops at this rest: `Nul` if a NUL comes next, otherwise `BadLine`
-abbrev pub fault_at : List ℕ → FileFault
-fault_at [] = BadLine
-fault_at (b ∷ rest) = if b == 0 then Nul else BadLine
+-- why the reading stops at this rest: `Nul` if a NUL comes next, otherwise `BadLine`
+abbrev pub why_at : List ℕ → Why
+why_at [] = BadLine
+why_at (b ∷ rest) = if b == 0 then Nul else BadLine
 
 -- the text does not begin with this byte
 abbrev pub BeginsWithout : ℕ → List ℕ → Type 0
@@ -26,13 +26,13 @@ pub data ClosesSubsection : List ℕ → List ℕ → List ℕ → Type 0 where
       → TakesSubsection text raw (b ∷ rest) → b ≡ right_bracket
       → ClosesSubsection text raw rest
 
--- A subsection that is refused: how many lines after its first one the error is, and the fault. Git counts
+-- A subsection that is refused: how many lines after its first one the error is, and why. Git counts
 -- one more line if a line end, or the end of the text, follows the closing quote.
-pub data SubsectionStops : List ℕ → ℕ → FileFault → Type 0 where
-  within : {text rest : List ℕ} → StopsInSubsection text rest → SubsectionStops text 0 (fault_at rest)
+pub data SubsectionStops : List ℕ → ℕ → Why → Type 0 where
+  within : {text rest : List ℕ} → StopsInSubsection text rest → SubsectionStops text 0 (why_at rest)
   closed : {text raw rest : List ℕ}
       → TakesSubsection text raw rest → BeginsWithout right_bracket rest → ¬ (IsAtLineEnd rest)
-      → SubsectionStops text 0 (fault_at rest)
+      → SubsectionStops text 0 (why_at rest)
   closed_at_line_end : {text raw rest : List ℕ}
       → TakesSubsection text raw rest → IsAtLineEnd rest
       → SubsectionStops text 1 BadLine
@@ -57,22 +57,22 @@ pub data Header : List ℕ → Section → List ℕ → Type 0 where
       → Header text (name, Some raw) rest
 
 -- a name that is empty or that no `]` follows; if the text ends there, Git counts one more line
-pub data NameStops : List ℕ → List ℕ → ℕ → FileFault → Type 0 where
+pub data NameStops : List ℕ → List ℕ → ℕ → Why → Type 0 where
   at_end : {name : List ℕ} → NameStops name [] 1 BadLine
-  empty : {b : ℕ} {rest : List ℕ} → NameStops [] (b ∷ rest) 0 (fault_at (b ∷ rest))
+  empty : {b : ℕ} {rest : List ℕ} → NameStops [] (b ∷ rest) 0 (why_at (b ∷ rest))
   not_closed : {b : ℕ} {name rest : List ℕ}
       → b ≢ right_bracket
-      → NameStops name (b ∷ rest) 0 (fault_at (b ∷ rest))
+      → NameStops name (b ∷ rest) 0 (why_at (b ∷ rest))
 
--- a header that is refused: how many lines after its first one the error is, and the fault
-pub data HeaderStops : List ℕ → ℕ → FileFault → Type 0 where
-  name : {lines : ℕ} {fault : FileFault} {text name rest : List ℕ}
-      → Run is_name_byte text name rest → StopsRun is_blank rest → NameStops name rest lines fault
-      → HeaderStops text lines fault
+-- a header that is refused: how many lines after its first one the error is, and why
+pub data HeaderStops : List ℕ → ℕ → Why → Type 0 where
+  name : {lines : ℕ} {why : Why} {text name rest : List ℕ}
+      → Run is_name_byte text name rest → StopsRun is_blank rest → NameStops name rest lines why
+      → HeaderStops text lines why
   blanks : {text name blanked blanks rest : List ℕ}
       → Run is_name_byte text name blanked → Run is_blank blanked blanks rest → blanks ≢ []
       → BeginsWithout double_quote rest
-      → HeaderStops text 0 (fault_at rest)
-  subsection : {lines : ℕ} {fault : FileFault} {text name inner : List ℕ}
-      → OpensSubsection text name inner → SubsectionStops inner lines fault
-      → HeaderStops text lines fault
+      → HeaderStops text 0 (why_at rest)
+  subsection : {lines : ℕ} {why : Why} {text name inner : List ℕ}
+      → OpensSubsection text name inner → SubsectionStops inner lines why
+      → HeaderStops text lines why

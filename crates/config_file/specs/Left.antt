@@ -30,7 +30,7 @@ last_entry entries form =
     entry_at (option_map section_of entries.section) entries.key.now (value_as form entries.raw.now) entries.line
 
 abbrev pub last_error : reader.Entries → FileError
-last_error entries = error_at entries.line entries.fault
+last_error entries = error_at entries.line entries.why
 
 -- The reader goes on behind the first of the entries that are left, which has this form. At the end and after an error
 -- it has no entries left.

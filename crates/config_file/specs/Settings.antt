@@ -2,7 +2,7 @@
 --
 -- Look for: `IsLast`: no later setting has the key. `Gets`: a refused text has no value, and `NoValue` is a
 -- key alone. A key alone is the text `true`, but an empty path. `IsValueOf` speaks of every text that the
--- bytes spell. `TellsStop` tells a stop by its own file, line and fault. `AddsInScope` speaks of the same
+-- bytes spell. `TellsStop` tells a stop by its own file, line and reason. `AddsInScope` speaks of the same
 -- added settings as `AddsEach`, since the old ones stay in front. `Picks` keeps the order and leaves no
 -- such setting out. `HasSubsection` cuts the listed key, so `[a.b]` has the subsection `b`.
 use denote.Ref.{Bor}
@@ -23,7 +23,7 @@ use Rattle.config_path.specs.Interpolation as paths
 use Rattle.config_path.specs.Interpolation.{PathTable}
 use Rattle.config_path.specs.Parts.{parts_result}
 use Rattle.config_path.specs.Path.{Marked}
-use Rattle.config_file.specs.Errors.{error_shown, name_shown, shown_at}
+use Rattle.config_file.specs.Errors.{name_shown, stop_shown, why_text}
 use Rattle.config_file.specs.File.{Entry, IsFile}
 use Rattle.config_file.specs.Header.{Section}
 use Rattle.config_file.specs.Key.{Key, HasKey, IsCut, IsKey, RefusesKey, key_error_text}
@@ -34,6 +34,9 @@ use Rattle.config_file.specs.Views.{entry_of}
 use Rattle.config_file.specs.Walk.{Content, Text, Missing, Unreadable, Stop, Line, NoValue, Unknown, NotRead}
 use Rattle.config_file.specs.Walk.{TooDeep, ForbiddenUrl, Item, Found, Stops, WalksText}
 use Rattle.config_file.specs.declared.errors.FileError.{FileError}
+use Rattle.config_file.specs.declared.errors.Stop.{Stop as Told}
+use Rattle.config_file.specs.declared.errors.Why.{Why}
+use Rattle.config_file.specs.declared.errors.Why.TheVariants as because
 use Rattle.config_file.specs.declared.files.Content.{Content as Given}
 use Rattle.config_file.specs.declared.files.Content.TheVariants as given
 use Rattle.config_file.specs.declared.scope.Scope.{Scope}
@@ -41,8 +44,6 @@ use Rattle.config_file.specs.declared.settings.Setting.{Setting}
 use Rattle.config_file.specs.declared.settings.RefusedSetting.{RefusedSetting}
 use Rattle.config_file.specs.declared.settings.AddError.{AddError}
 use Rattle.config_file.specs.declared.settings.AddError.TheVariants as error
-use Rattle.config_file.specs.declared.settings.IncludeFault.{IncludeFault}
-use Rattle.config_file.specs.declared.settings.IncludeFault.TheVariants as fault
 use Rattle.config_file.specs.declared.settings.GetError.{GetError}
 use Rattle.config_file.specs.declared.settings.GetError.TheVariants as get
 use Rattle.config_file.specs.declared.settings.Next.{Next}
@@ -74,21 +75,9 @@ abbrev pub text_shown : Option (List ℕ) → List ℕ
 text_shown None = []
 text_shown (Some text) = codes ": " ++ quoted text
 
--- why Git does not go on after an entry, in words
-abbrev pub include_fault_text : IncludeFault → List ℕ
-include_fault_text fault.MissingValue = codes "an include has no value"
-include_fault_text fault.UnknownDirectory = codes "the path of an include begins with an unknown directory"
-include_fault_text (fault.Unreadable why) = why.now
-include_fault_text fault.TooDeep = codes "files include each other too deep"
-include_fault_text fault.ForbiddenUrl =
-    codes "remote URLs cannot be configured in file directly or indirectly included by "
-    ++ codes "includeIf.hasconfig:remote.*.url"
-
--- `FILE:LINE: reason`, or `no memory`
+-- where Git stops, or `no memory`
 abbrev pub add_error_shown : AddError → List ℕ
-add_error_shown (error.Line file at) = name_shown file.now ++ codes ":" ++ error_shown at
-add_error_shown (error.Include file line fault) =
-    shown_at file.now line (codes ": " ++ include_fault_text fault)
+add_error_shown (error.Stops stop) = stop_shown stop
 add_error_shown (error.Memory _) = codes "no memory"
 
 -- the text of the value, if there is one
@@ -136,16 +125,44 @@ abbrev pub HasFirstEntries : List ℕ → List Entry → Type 0
 HasFirstEntries text entries =
     (rest : List Entry) × (error : Option FileError) × IsFile text (entries ++ rest) error
 
+-- why Git stops there
+abbrev pub why_of : Stop → Why
+why_of (Line at) = at.why
+why_of (NoValue entry) = because.NoValue
+why_of (Unknown entry) = because.UnknownDirectory
+why_of (NotRead entry) = because.Unreadable
+why_of (TooDeep entry) = because.TooDeep
+why_of (ForbiddenUrl entry) = because.ForbiddenUrl
+
+-- the line on which it stops
+abbrev pub line_of : Stop → ℕ
+line_of (Line at) = at.line
+line_of (NoValue entry) = entry.line
+line_of (Unknown entry) = entry.line
+line_of (NotRead entry) = entry.line
+line_of (TooDeep entry) = entry.line
+line_of (ForbiddenUrl entry) = entry.line
+
+-- words that say why: those of the reason, but the system says why a file cannot be read
+abbrev pub IsSaid : Why → List ℕ → Type 0
+IsSaid why words = (why ≢ because.Unreadable) → words ≡ why_text why
+
+-- where it stops in the file of this name is told: by the name, the line and the reason
+pub record TellsStop (name : List ℕ) (stop : Stop) (told : Told (Bor (List ℕ))) : Type 0 where
+  pub file : told.file.now ≡ name
+  pub line : told.line ≡ line_of stop
+  pub why : told.why ≡ why_of stop
+  pub words : IsSaid told.why told.words.now
+
 -- what adding the entries of a file gives: all of them, those before the first line that Git cannot read, or
 -- those before memory is refused
 abbrev pub AddsFile : List ℕ → List ℕ → List Setting → List Setting → Result (Unit {0}) AddError → Type 0
 AddsFile file text old new (Ok _) =
     (entries : List Entry) × IsFile text entries None × AddsEach (map (λ entry. (file, entry)) entries) old new
-AddsFile file text old new (Err (error.Line name at)) = (name.now ≡ file)
+AddsFile file text old new (Err (error.Stops stop)) = (at : FileError) × TellsStop file (Line at) stop
     × ((entries : List Entry) × IsFile text entries (Some at) × AddsEach (map (λ entry. (file, entry)) entries) old new)
 AddsFile file text old new (Err (error.Memory _)) =
     (entries : List Entry) × HasFirstEntries text entries × AddsEach (map (λ entry. (file, entry)) entries) old new
-AddsFile file text old new (Err _) = ⊥
 
 -- what is given for the file of this name is among what it may hold
 abbrev pub HoldsContent : (List ℕ → Content → Type 0) → List ℕ → Given → Type 0
@@ -166,43 +183,19 @@ IsEntered contents place text (Named name) =
     (place.name.now ≡ name.items) × contents place.name.now (Text place.real_dir.now text)
 IsEntered contents place text _ = ⊥
 
--- Git stops at an entry that includes this, with this fault
-abbrev pub IsStop : (List ℕ → Content → Type 0) → Include → IncludeFault → Type 0
-IsStop contents MissingValue why = why ≡ fault.MissingValue
-IsStop contents UnknownDirectory why = why ≡ fault.UnknownDirectory
-IsStop contents what.ForbiddenUrl why = why ≡ fault.ForbiddenUrl
-IsStop contents (Named name) (fault.Unreadable why) = contents name.items Unreadable
+-- Git stops at an entry that includes this, for this reason
+abbrev pub IsStop : (List ℕ → Content → Type 0) → Include → Why → Type 0
+IsStop contents MissingValue why = why ≡ because.NoValue
+IsStop contents UnknownDirectory why = why ≡ because.UnknownDirectory
+IsStop contents what.ForbiddenUrl why = why ≡ because.ForbiddenUrl
+IsStop contents (Named name) why = (why ≡ because.Unreadable) × contents name.items Unreadable
 IsStop contents _ _ = ⊥
 
 -- how a walk goes on after an entry that includes this
 abbrev pub IsNext : (List ℕ → Content → Type 0) → Include → Next → Type 0
 IsNext contents include next.Behind = IsPassed contents include
 IsNext contents include (next.In place text) = IsEntered contents place text.now include
-IsNext contents include (next.Stops why) = IsStop contents include why
-
--- the fault is that of this stop
-abbrev pub IsFaultOf : Stop → IncludeFault → Type 0
-IsFaultOf (NoValue _) fault.MissingValue = ⊤
-IsFaultOf (Unknown _) fault.UnknownDirectory = ⊤
-IsFaultOf (NotRead _) (fault.Unreadable _) = ⊤
-IsFaultOf (TooDeep _) fault.TooDeep = ⊤
-IsFaultOf (ForbiddenUrl _) fault.ForbiddenUrl = ⊤
-IsFaultOf _ _ = ⊥
-
--- the error tells this stop in the file of this name, with its line and its fault
-abbrev pub TellsStop : List ℕ → Stop → AddError → Type 0
-TellsStop file (Line at) (error.Line name told) = (name.now ≡ file) × (told ≡ at)
-TellsStop file (NoValue entry) (error.Include name line fault) =
-    (name.now ≡ file) × (line ≡ entry.line) × IsFaultOf (NoValue entry) fault
-TellsStop file (Unknown entry) (error.Include name line fault) =
-    (name.now ≡ file) × (line ≡ entry.line) × IsFaultOf (Unknown entry) fault
-TellsStop file (NotRead entry) (error.Include name line fault) =
-    (name.now ≡ file) × (line ≡ entry.line) × IsFaultOf (NotRead entry) fault
-TellsStop file (TooDeep entry) (error.Include name line fault) =
-    (name.now ≡ file) × (line ≡ entry.line) × IsFaultOf (TooDeep entry) fault
-TellsStop file (ForbiddenUrl entry) (error.Include name line fault) =
-    (name.now ≡ file) × (line ≡ entry.line) × IsFaultOf (ForbiddenUrl entry) fault
-TellsStop _ _ _ = ⊥
+IsNext contents include (next.Stops why words) = IsStop contents include why × IsSaid why words.now
 
 -- an entry as an item of a walk
 abbrev pub found_item : List ℕ × Entry → List ℕ × Item
@@ -216,8 +209,8 @@ AddsWalk contents known place text old new (Ok _) = (found : List (List ℕ × E
     × WalksText contents known place text (map found_item found) true
 AddsWalk contents known place text old new (Err (error.Memory _)) = (found : List (List ℕ × Entry))
     × AddsEach found old new × WalksText contents known place text (map found_item found) false
-AddsWalk contents known place text old new (Err error) =
-    (found : List (List ℕ × Entry)) × (file : List ℕ) × (stop : Stop) × AddsEach found old new × TellsStop file stop error
+AddsWalk contents known place text old new (Err (error.Stops told)) =
+    (found : List (List ℕ × Entry)) × (file : List ℕ) × (stop : Stop) × AddsEach found old new × TellsStop file stop told
     × WalksText contents known place text (map found_item found ++ (file, Stops stop) ∷ []) false
 
 -- two settings of the same entry of the same file, with the same text
@@ -238,7 +231,8 @@ HasMemory _ = ⊤
 -- both additions are whole, or both errors tell the same stop in the same file
 abbrev pub IsSameEnd : Result (Unit {0}) AddError → Result (Unit {0}) AddError → Type 0
 IsSameEnd (Ok _) (Ok _) = ⊤
-IsSameEnd (Err a) (Err b) = (file : List ℕ) × (stop : Stop) × TellsStop file stop a × TellsStop file stop b
+IsSameEnd (Err (error.Stops a)) (Err (error.Stops b)) =
+    (file : List ℕ) × (stop : Stop) × TellsStop file stop a × TellsStop file stop b
 IsSameEnd _ _ = ⊥
 
 -- the refusal is that of the setting, with this fault

@@ -4,9 +4,9 @@
 -- `TakesValue` takes no value that ends there.
 use Rattle.std.specs.Prelude.{◌≡◌, ◌≢◌, ℕ, ◌+◌, Bool, true, false, not, if◌then◌else◌, ◌||◌, ◌==◌, List, []}
 use Rattle.std.specs.Prelude.{◌∷◌, ◌++◌, Option, Some, None, ⊤, ◌⊎◌, count_by}
-use Rattle.config_file.specs.declared.errors.FileFault.{FileFault}
-use Rattle.config_file.specs.declared.errors.FileFault.TheVariants.{BadLine, Nul}
-use Rattle.config_file.specs.Header.{fault_at}
+use Rattle.config_file.specs.declared.errors.Why.{Why}
+use Rattle.config_file.specs.declared.errors.Why.TheVariants.{BadLine, Nul}
+use Rattle.config_file.specs.Header.{why_at}
 use Rattle.config_file.specs.Bytes.{backspace, tab, line_feed, carriage_return, space, double_quote}
 use Rattle.config_file.specs.Bytes.{backslash, is_blank, is_plain, is_comment_sign, EndsText}
 
@@ -101,17 +101,17 @@ IsNoEscape [] = ⊥
 IsNoEscape (e ∷ []) = (escape e ≡ None) × (e ≢ line_feed)
 IsNoEscape (e ∷ f ∷ rest) = (escape e ≡ None) × (e ≢ line_feed) × (e ≡ carriage_return → f ≢ line_feed)
 
--- a value that is refused: how many lines after its first one the error is, and the fault
-pub data ValueStops : List ℕ → ℕ → FileFault → Type 0 where
+-- a value that is refused: how many lines after its first one the error is, and why
+pub data ValueStops : List ℕ → ℕ → Why → Type 0 where
   nul : {b : ℕ} {text : List ℕ} (raw rest : List ℕ)
       → text ≡ raw ++ b ∷ rest → IsPart false raw → b ≡ 0
       → ValueStops text (line_feeds raw) Nul
   unclosed : {text : List ℕ} (raw rest : List ℕ)
       → text ≡ raw ++ rest → IsPart true raw → EndsText rest
-      → ValueStops text (line_feeds raw) (fault_at rest)
+      → ValueStops text (line_feeds raw) (why_at rest)
   unclosed_open_end : {b : ℕ} {text : List ℕ} (raw : List ℕ)
       → text ≡ raw ++ b ∷ [] → IsPart true raw → b ≡ backslash
       → ValueStops text (line_feeds raw + 1) BadLine
   no_escape : {b : ℕ} {text : List ℕ} (quoted : Bool) (raw rest : List ℕ)
       → text ≡ raw ++ b ∷ rest → IsPart quoted raw → b ≡ backslash → IsNoEscape rest
-      → ValueStops text (line_feeds raw) (fault_at rest)
+      → ValueStops text (line_feeds raw) (why_at rest)

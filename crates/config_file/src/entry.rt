@@ -10,7 +10,7 @@ ghost use Rattle.config_file.specs.Runs.{Run};
 ghost use Rattle.config_file.specs.Views.{section_of, value_of};
 
 use crate::bytes::{Class, after_byte, is_at_line_end, run};
-use crate::errors::{Stop, fault_at};
+use crate::errors::{ItemError, why_at};
 use crate::section::Section;
 use crate::value::{Value, read_value};
 use std::alloc::{AllocError, Global};
@@ -147,16 +147,16 @@ pub(crate) fn value_as(form: EntryForm, raw: &[u8]) -> Option<Value<'_>>
 }
 
 /// Reads the entry at the start of the text. It fails where the text is no entry.
-pub fn read_entry(text: &[u8]) -> Result<EntryParts<'_>, Stop>
+pub fn read_entry(text: &[u8]) -> Result<EntryParts<'_>, ItemError>
     ensures { MatchResult result
         (λ parts. TakesEntry text.now parts.key.now (value_of parts.value) parts.lines parts.rest.now)
-        (λ stop. EntryStops text.now stop.lines stop.fault) }
+        (λ stop. EntryStops text.now stop.lines stop.why) }
 {
     let end = read_end(text);
     if matches!(end.form, EntryForm::Refused) {
-        return Err(Stop {
+        return Err(ItemError {
             lines: end.lines,
-            fault: fault_at(end.rest),
+            why: why_at(end.rest),
         });
     }
     Ok(EntryParts {

@@ -6,14 +6,14 @@ ghost use Rattle.config_file.specs.Subsection.{TakesSubsection, StopsInSubsectio
 ghost use Rattle.config_file.specs.Views.{section_of};
 
 use crate::bytes::{Class, after_byte, before, is_at_line_end, is_text_byte, run, split};
-use crate::errors::{FileFault, Stop, stop_at};
+use crate::errors::{ItemError, Why, stop_at};
 use crate::section::{Section, Subsection};
 
 /// Reads a header after its `[`. Returns the section, and what follows the header. It fails where the text is
 /// no header.
-pub fn read_header(text: &[u8]) -> Result<(Section<'_>, &[u8]), Stop>
+pub fn read_header(text: &[u8]) -> Result<(Section<'_>, &[u8]), ItemError>
     ensures { MatchResult result (λ p. Header text.now (section_of p.0) p.1.now)
-        (λ stop. HeaderStops text.now stop.lines stop.fault) }
+        (λ stop. HeaderStops text.now stop.lines stop.why) }
 {
     let (name, after) = run(text, Class::Name);
     let (blanks, quoted) = run(after, Class::Blank);
@@ -41,14 +41,14 @@ pub fn read_header(text: &[u8]) -> Result<(Section<'_>, &[u8]), Stop>
 }
 
 /// What follows the `]` after a name. A name that is empty or is not closed is refused.
-fn close_name<'a>(name: &[u8], after: &'a [u8]) -> Result<&'a [u8], Stop>
+fn close_name<'a>(name: &[u8], after: &'a [u8]) -> Result<&'a [u8], ItemError>
     ensures { MatchResult result (λ rest. (name.now ≢ []) × (after.now ≡ 93 ∷ rest.now))
-        (λ stop. NameStops name.now after.now stop.lines stop.fault) }
+        (λ stop. NameStops name.now after.now stop.lines stop.why) }
 {
     if after.is_empty() {
-        return Err(Stop {
+        return Err(ItemError {
             lines: 1,
-            fault: FileFault::BadLine,
+            why: Why::BadLine,
         });
     }
     if name.is_empty() {
@@ -61,9 +61,9 @@ fn close_name<'a>(name: &[u8], after: &'a [u8]) -> Result<&'a [u8], Stop>
 }
 
 /// Reads a subsection after its opening quote. Returns the subsection, and what follows the `]`.
-fn read_subsection(text: &[u8]) -> Result<(Subsection<'_>, &[u8]), Stop>
+fn read_subsection(text: &[u8]) -> Result<(Subsection<'_>, &[u8]), ItemError>
     ensures { MatchResult result (λ p. ClosesSubsection text.now p.0.raw.now p.1.now)
-        (λ stop. SubsectionStops text.now stop.lines stop.fault) }
+        (λ stop. SubsectionStops text.now stop.lines stop.why) }
 {
     let (raw, after) = match quoted(text) {
         Ok(parts) => parts,
@@ -73,9 +73,9 @@ fn read_subsection(text: &[u8]) -> Result<(Subsection<'_>, &[u8]), Stop>
         return Ok((Subsection { raw }, rest));
     }
     if is_at_line_end(after) {
-        return Err(Stop {
+        return Err(ItemError {
             lines: 1,
-            fault: FileFault::BadLine,
+            why: Why::BadLine,
         });
     }
     Err(stop_at(after))

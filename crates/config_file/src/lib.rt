@@ -1,7 +1,7 @@
 //! Git's configuration files, from their texts to the values of settings (docs/GRAMMAR.md).
 //!
 //! - [`Entries`] yields the entries of a text one by one, in order, and takes no memory. An [`Entry`] has
-//!   parts that are borrowed from the text, and a [`FileError`] the line that Git reports, and the fault.
+//!   parts that are borrowed from the text, and a [`FileError`] the line that Git reports, and why.
 //! - [`Walk`] goes on in the files that a file includes, in Git's order. Its caller opens them.
 //! - [`Settings`] holds the entries of several files, and what they include. A [`Key`] finds the last entry,
 //!   and its text is read as a value.
@@ -33,7 +33,7 @@ pub mod walk;
 
 pub use crate::command::{CommandError, count_of, push_parameters, push_setting};
 pub use crate::entry::Entry;
-pub use crate::errors::{FileError, FileFault};
+pub use crate::errors::{FileError, Stop, Why};
 pub use crate::files::{Content, Files};
 pub use crate::include::{Condition, Includes, Repository, Urls, is_remote_url};
 pub use crate::key::{Key, KeyError};
@@ -41,7 +41,6 @@ pub use crate::path::Directories;
 pub use crate::reader::Entries;
 pub use crate::scope::Scope;
 pub use crate::settings::{
-    AddError, GetError, IncludeFault, Next, RefusedSetting, Setting, SettingPlace, Settings,
-    next_of,
+    AddError, GetError, Next, RefusedSetting, Setting, SettingPlace, Settings, next_of,
 };
 pub use crate::walk::{FilePlace, Frame, Include, Known, Step, Walk};

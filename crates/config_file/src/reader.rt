@@ -6,7 +6,7 @@ ghost use Rattle.config_file.specs.Bytes.{BeginsWithLetter};
 
 use crate::bytes::{Class, is_at_line_end, is_blank, is_comment_sign, run, split};
 use crate::entry::{Entry, EntryForm, read_end, value_as};
-use crate::errors::{FileError, FileFault, Stop, fault_at};
+use crate::errors::{FileError, ItemError, Why, why_at};
 use crate::header::read_header;
 use crate::section::Section;
 
@@ -14,7 +14,7 @@ use crate::section::Section;
 /// the error, and nothing after that. It reads texts of any length in linear time.
 ///
 /// ```rust
-/// use config_file::errors::FileFault;
+/// use config_file::Why;
 /// use config_file::reader::Entries;
 ///
 /// let mut entries = Entries::new(b"[core]\n\tbare = false\n[remote \"origin\"");
@@ -23,7 +23,7 @@ use crate::section::Section;
 /// assert_eq!(rt; entry.line, 2);
 /// let error = entries.next().expect(&rt, "an error").unwrap_err();
 /// assert_eq!(rt; error.line, 4); // Git counts the end of the text after a closing quote
-/// assert!(rt; error.fault == FileFault::BadLine);
+/// assert!(rt; error.why == Why::BadLine);
 /// ```
 #[derive(Drop)]
 pub struct Entries<'a> {
@@ -34,7 +34,7 @@ pub struct Entries<'a> {
     key: &'a [u8],
     raw: &'a [u8],
     /// Why the text is refused, if it is.
-    fault: FileFault,
+    why: Why,
     ghost line_fits: { line + length rest.now < 2 ^ 63 + 2 },
 }
 
@@ -91,7 +91,7 @@ impl<'a> Entries<'a> {
             rest,
             key: b"",
             raw: b"",
-            fault: FileFault::BadLine,
+            why: Why::BadLine,
         }
     }
 
@@ -153,8 +153,8 @@ impl<'a> Entries<'a> {
             } else if byte.is_ascii_alphabetic() {
                 return Some(self.advance_here());
             } else {
-                let fault = fault_at(self.rest);
-                return Some(self.refuse(Stop { lines: 0, fault }));
+                let why = why_at(self.rest);
+                return Some(self.refuse(ItemError { lines: 0, why }));
             }
         }
         None
@@ -169,10 +169,10 @@ impl<'a> Entries<'a> {
     {
         let end = read_end(self.rest);
         if let EntryForm::Refused = end.form {
-            let fault = fault_at(end.rest);
-            return self.refuse(Stop {
+            let why = why_at(end.rest);
+            return self.refuse(ItemError {
                 lines: end.lines,
-                fault,
+                why,
             });
         }
         self.line += end.lines;
@@ -183,17 +183,17 @@ impl<'a> Entries<'a> {
     }
 
     /// Ends the reading with an error.
-    fn refuse(&mut self, stop: Stop) -> EntryForm
+    fn refuse(&mut self, stop: ItemError) -> EntryForm
         requires { self.old.line + stop.lines < 2 ^ 63 + 2 }
         ensures line { self.new.line ≡ self.old.line + stop.lines }
-        ensures fault { self.new.fault ≡ stop.fault }
+        ensures why { self.new.why ≡ stop.why }
         ensures left { HasLeft self.new [] None }
         ensures end { self.new.rest.now ≡ [] }
         ensures form { result ≡ Refused }
     {
         self.rest = &[];
         self.line += stop.lines;
-        self.fault = stop.fault;
+        self.why = stop.why;
         EntryForm::Refused
     }
 
@@ -216,7 +216,7 @@ impl<'a> Entries<'a> {
     {
         FileError {
             line: self.line,
-            fault: self.fault,
+            why: self.why,
         }
     }
 }

@@ -4,21 +4,23 @@ ghost use Rattle.std.specs.Prelude.{MatchBool, map, option_map};
 ghost use Rattle.std.specs.Option.{ForSome};
 ghost use Rattle.config_path.specs.Interpolation.{known_in};
 ghost use Rattle.config_file.specs.Settings.{place_shown, text_shown, refused_shown, get_error_shown};
-ghost use Rattle.config_file.specs.Settings.{add_error_shown, include_fault_text, value_text, text_of};
+ghost use Rattle.config_file.specs.Settings.{add_error_shown, value_text, text_of};
 ghost use Rattle.config_file.specs.Settings.{path_bytes, IsSettingOf, IsRefusalOf, ReadsSetting};
 ghost use Rattle.config_file.specs.Settings.{IsPathOfSetting, AddsFile, AddsWalk, AddsInScope, IsNext};
 ghost use Rattle.config_file.specs.Settings.{AreListed, LacksKey, IsLast, AllWithKey, Gets, GetsText, GetsWord};
 ghost use Rattle.config_file.specs.Settings.{GivesText, GivesWord, setting_place};
 ghost use Rattle.config_file.specs.Settings.{HasSubsection, LacksSubsection, AreSubsections};
 ghost use Rattle.config_file.specs.Reading.Adds.{AddsEntry, AddsNext, AddsOnce, Decides};
+ghost use Rattle.config_file.specs.Errors.{why_text};
 ghost use Rattle.config_file.specs.declared.scope.Scope.TheVariants.{Command};
+ghost use Rattle.config_file.specs.declared.settings.Next.TheVariants.{Stops};
 ghost use Rattle.config_file.specs.KeyView.{key_of};
 ghost use Rattle.config_file.specs.Listing.{IsListed};
 ghost use Rattle.config_file.specs.Reading.Ends.{FitsEntry};
 ghost use Rattle.config_file.specs.Views.{entry_of};
 
 use crate::entry::{Entry, EntryForm};
-use crate::errors::FileError;
+use crate::errors::{Stop, Why};
 use crate::files::{Content, Files};
 use crate::key::{Key, KeyError};
 use crate::reader::Entries;
@@ -154,57 +156,6 @@ impl<F: fmt::Display> fmt::Display for RefusedSetting<'_, '_, F> {
     }
 }
 
-/// Why Git does not go on after an entry.
-///
-/// ```rust
-/// use config_file::IncludeFault;
-///
-/// let fault = IncludeFault::Unreadable("Permission denied");
-/// assert_eq!(rt; fault.text(), "Permission denied");
-/// ```
-#[derive(Clone, Copy, Debug)]
-#[non_exhaustive]
-pub enum IncludeFault<'t> {
-    /// The entry has no value.
-    MissingValue,
-    /// Its path begins with a user's name, or with a directory that is not known.
-    UnknownDirectory,
-    /// The file cannot be read, for the reason that the text says.
-    Unreadable(&'t str),
-    /// The file is more than ten includes deep.
-    TooDeep,
-    /// It is the URL of a remote, in a file that is included on a condition ([`Urls`](crate::Urls)).
-    ForbiddenUrl,
-}
-
-impl<'t> IncludeFault<'t> {
-    /// The reason in words, which `Display` writes.
-    pub fn text(self) -> &'t str
-        ensures { result.now ≡ include_fault_text self.entry }
-    {
-        match self {
-            IncludeFault::MissingValue => "an include has no value",
-            IncludeFault::UnknownDirectory => {
-                "the path of an include begins with an unknown directory"
-            }
-            IncludeFault::Unreadable(why) => why,
-            IncludeFault::TooDeep => "files include each other too deep",
-            IncludeFault::ForbiddenUrl => {
-                "remote URLs cannot be configured in file directly or indirectly included by \
-                    includeIf.hasconfig:remote.*.url"
-            }
-        }
-    }
-}
-
-impl fmt::Display for IncludeFault<'_> {
-    ghost output = { λ fault. Some (include_fault_text fault) };
-
-    fn fmt<W: fmt::Write>(&self, f: &mut fmt::Formatter<W>) -> fmt::Result {
-        f.write_str(self.text())
-    }
-}
-
 /// Why not all entries of a file, or of the files that it includes, are added.
 ///
 /// ```rust
@@ -216,19 +167,9 @@ impl fmt::Display for IncludeFault<'_> {
 /// assert_eq!(rt; settings.entries.len(), 1); // the entry before that line
 /// ```
 #[derive(Clone, Copy, Debug)]
-#[non_exhaustive]
 pub enum AddError<'t> {
-    /// A line of a file cannot be read. The entries before it are added.
-    Line {
-        file: &'t [u8],
-        error: FileError,
-    },
-    /// An include cannot be followed. The entries up to it are added.
-    Include {
-        file: &'t [u8],
-        line: usize,
-        fault: IncludeFault<'t>,
-    },
+    /// Git stops at a line of a file, or at an include that it cannot follow. The entries up to there are added.
+    Stops(Stop<&'t [u8]>),
     /// Memory was refused. The entries before that are added.
     Memory(AllocError),
 }
@@ -239,10 +180,7 @@ impl fmt::Display for AddError<'_> {
     /// Writes `FILE:LINE: reason`, or `no memory`.
     fn fmt<W: fmt::Write>(&self, f: &mut fmt::Formatter<W>) -> fmt::Result {
         match self {
-            AddError::Line { file, error } => write!(f, "{}:{error}", BStr::new(file)),
-            AddError::Include { file, line, fault } => {
-                write!(f, "{}:{line}: {fault}", BStr::new(file))
-            }
+            AddError::Stops(stop) => write!(f, "{stop}"),
             AddError::Memory(_) => f.write_str("no memory"),
         }
     }
@@ -497,7 +435,7 @@ pub struct Settings<'t> {
 /// How a walk goes on after an entry.
 ///
 /// ```rust
-/// use config_file::{Content, Files, Include, Next, next_of};
+/// use config_file::{Content, Files, Include, Next, Why, next_of};
 /// use std::alloc::{AllocError, Global};
 ///
 /// #[derive(Drop)]
@@ -513,7 +451,7 @@ pub struct Settings<'t> {
 ///
 /// let name = Vec::from_slice(alloc, b"more")?;
 /// assert!(rt; matches!(next_of(alloc, &NoFiles, Include::Named(name))?, Next::Behind));
-/// assert!(rt; matches!(next_of(alloc, &NoFiles, Include::MissingValue)?, Next::Stops(_)));
+/// assert!(rt; matches!(next_of(alloc, &NoFiles, Include::MissingValue)?, Next::Stops(Why::NoValue, _)));
 /// ```
 #[derive(Drop)]
 pub enum Next<'t> {
@@ -521,8 +459,15 @@ pub enum Next<'t> {
     Behind,
     /// In the file at this place, which has this text.
     In(FilePlace<'t>, &'t [u8]),
-    /// Not at all, as Git stops here.
-    Stops(IncludeFault<'t>),
+    /// Not at all, as Git stops here, for this reason, in these words.
+    Stops(Why, &'t [u8]),
+}
+
+/// Git stops, in the words of the reason.
+fn stops<'t>(why: Why) -> Next<'t>
+    ensures { (words : _) × (result ≡ Stops why words) × (words.now ≡ why_text why) }
+{
+    Next::Stops(why, why.text().as_bytes())
 }
 
 /// How a walk goes on after an entry that includes this. The files are asked for the text. It fails only if
@@ -536,15 +481,15 @@ pub fn next_of<'t, S: Files<'t>>(
 {
     let name = match include {
         Include::NotFollowed => return Ok(Next::Behind),
-        Include::MissingValue => return Ok(Next::Stops(IncludeFault::MissingValue)),
-        Include::UnknownDirectory => return Ok(Next::Stops(IncludeFault::UnknownDirectory)),
-        Include::ForbiddenUrl => return Ok(Next::Stops(IncludeFault::ForbiddenUrl)),
+        Include::MissingValue => return Ok(stops(Why::NoValue)),
+        Include::UnknownDirectory => return Ok(stops(Why::UnknownDirectory)),
+        Include::ForbiddenUrl => return Ok(stops(Why::ForbiddenUrl)),
         Include::Named(name) => name,
     };
     match files.read(alloc, &name)? {
         Content::Text(place, text) => Ok(Next::In(place, text)),
         Content::Missing => Ok(Next::Behind),
-        Content::Unreadable(why) => Ok(Next::Stops(IncludeFault::Unreadable(why))),
+        Content::Unreadable(words) => Ok(Next::Stops(Why::Unreadable, words.as_bytes())),
     }
 }
 
@@ -592,7 +537,7 @@ impl<'t> Settings<'t> {
         for entry in Entries::new(text) {
             let entry = match entry {
                 Ok(entry) => entry,
-                Err(error) => return Err(AddError::Line { file, error }),
+                Err(error) => return Err(AddError::Stops(Stop::at(file, error.line, error.why))),
             };
             match self.add(alloc, scope, file, entry) {
                 Ok(()) => {}
@@ -650,8 +595,7 @@ impl<'t> Settings<'t> {
         let (place, entry, include) = match step {
             Step::Entry(place, entry, include) => (place, entry, include),
             Step::Line(place, error) => {
-                let file = place.name;
-                return Err(AddError::Line { file, error });
+                return Err(AddError::Stops(Stop::at(place.name, error.line, error.why)));
             }
             Step::Ends => return Ok(false),
         };
@@ -667,11 +611,13 @@ impl<'t> Settings<'t> {
         match next {
             Next::Behind => Ok(true),
             Next::In(place, text) if walk.enter(place, text) => Ok(true),
-            Next::In(_, _) => {
-                let fault = IncludeFault::TooDeep;
-                Err(AddError::Include { file, line, fault })
-            }
-            Next::Stops(fault) => Err(AddError::Include { file, line, fault }),
+            Next::In(_, _) => Err(AddError::Stops(Stop::at(file, line, Why::TooDeep))),
+            Next::Stops(why, words) => Err(AddError::Stops(Stop {
+                file,
+                line,
+                why,
+                words,
+            })),
         }
     }
 

@@ -16,7 +16,7 @@ use crate::bytes::{
     Class, after_byte, before, is_blank, is_comment_sign, is_text_byte, run, split,
 };
 use crate::entry::EntryForm;
-use crate::errors::{FileFault, fault_at};
+use crate::errors::{Why, why_at};
 use std::alloc::{AllocError, Global};
 use std::borrow::CowSlice;
 
@@ -271,14 +271,14 @@ pub(crate) fn read_value(text: &[u8]) -> ValueEnd<'_>
     if begins_with_mark(rest) {
         return read_marked(text, rest);
     }
-    match fault_at(rest) {
-        FileFault::Nul => ValueEnd {
+    match why_at(rest) {
+        Why::Nul => ValueEnd {
             raw,
             lines: 0,
             rest,
             form: EntryForm::Refused,
         },
-        FileFault::BadLine => ValueEnd {
+        _ => ValueEnd {
             raw,
             lines: 0,
             rest,
@@ -335,14 +335,14 @@ fn end<'a>(text: &'a [u8], at: &'a [u8], quoted: bool, lines: usize) -> ValueEnd
             form: EntryForm::Refused,
         };
     }
-    match fault_at(at) {
-        FileFault::Nul => ValueEnd {
+    match why_at(at) {
+        Why::Nul => ValueEnd {
             raw,
             lines,
             rest: at,
             form: EntryForm::Refused,
         },
-        FileFault::BadLine => ValueEnd {
+        _ => ValueEnd {
             raw,
             lines,
             rest: at,

@@ -1,58 +1,73 @@
 //! The settings of a command: those of GIT_CONFIG_COUNT, and those of `git -c`.
 
-use crate::environment::variable;
+use crate::disk::Disk;
+use crate::environment::{CommandVariables, variable};
 use crate::error::HereError;
-use config_file::{CommandError, count_of, push_parameters, push_setting};
+use crate::sources::COMMAND;
+use config_file::{CommandError, Stop, Why, count_of, push_parameters, push_setting};
 use std::alloc::AllocError;
 
-/// The refusal as an error of the place. Refused memory is one of the system.
-fn refused(error: CommandError) -> HereError<'static> {
-    match error {
-        CommandError::Memory(error) => HereError::from(error),
-        error => HereError::Command(error),
-    }
-}
-
 /// The value of the variable with this name and this number, or `None` if it is not set.
-fn numbered(host: &HostRuntime, name: &str, number: usize) -> Result<Option<Vec<u8>>, AllocError> {
-    let name = format!(in host.alloc(); "{name}{number}")?;
-    variable(host, &name)
+fn numbered<'t>(
+    disk: &Disk<'t>,
+    variables: &mut CommandVariables<'t>,
+    name: &str,
+    number: usize,
+) -> Result<Option<&'t [u8]>, AllocError> {
+    let name = format!(in disk.host.alloc(); "{name}{number}")?;
+    variables.get(disk, &name.into_bytes())
 }
 
 /// Appends the setting of this number.
-fn push_numbered(
-    host: &HostRuntime,
+fn push_numbered<'t>(
+    disk: &Disk<'t>,
+    variables: &mut CommandVariables<'t>,
     text: &mut Vec<u8>,
     number: usize,
-) -> Result<(), HereError<'static>> {
-    let Some(key) = numbered(host, "GIT_CONFIG_KEY_", number)? else {
-        return Err(HereError::Command(CommandError::MissingKey(number)));
+) -> Result<(), CommandError> {
+    let Some(key) = numbered(disk, variables, "GIT_CONFIG_KEY_", number)? else {
+        return Err(CommandError::MissingKey(number));
     };
-    let Some(value) = numbered(host, "GIT_CONFIG_VALUE_", number)? else {
-        return Err(HereError::Command(CommandError::MissingValue(number)));
+    let Some(value) = numbered(disk, variables, "GIT_CONFIG_VALUE_", number)? else {
+        return Err(CommandError::MissingValue(number));
     };
-    push_setting(host.alloc(), text, &key, Some(&value)).map_err(refused)
+    push_setting(disk.host.alloc(), text, key, Some(value))
 }
 
 /// Appends the settings of GIT_CONFIG_COUNT.
-fn push_counted(host: &HostRuntime, text: &mut Vec<u8>) -> Result<(), HereError<'static>> {
-    let Some(count) = variable(host, "GIT_CONFIG_COUNT")? else {
+fn push_counted(disk: &Disk<'_>, text: &mut Vec<u8>) -> Result<(), CommandError> {
+    let Some(count) = variable(disk.host, "GIT_CONFIG_COUNT")? else {
         return Ok(());
     };
-    let count = count_of(&count).map_err(refused)?;
-    for number in 0..count {
-        push_numbered(host, text, number)?;
+    let mut variables = CommandVariables::new();
+    for number in 0..count_of(&count)? {
+        push_numbered(disk, &mut variables, text, number)?;
     }
     Ok(())
 }
 
+/// Appends the settings of the command.
+fn push_command(disk: &Disk<'_>, text: &mut Vec<u8>) -> Result<(), CommandError> {
+    push_counted(disk, text)?;
+    match variable(disk.host, "GIT_CONFIG_PARAMETERS")? {
+        Some(parameters) => push_parameters(disk.host.alloc(), text, &parameters),
+        None => Ok(()),
+    }
+}
+
 /// The settings of the command as the text of a file: first those of GIT_CONFIG_COUNT, and then those of
 /// GIT_CONFIG_PARAMETERS, in which `git -c` hands them on.
-pub fn command_text(host: &HostRuntime) -> Result<Vec<u8>, HereError<'static>> {
-    let mut text = Vec::new(host.alloc());
-    push_counted(host, &mut text)?;
-    if let Some(parameters) = variable(host, "GIT_CONFIG_PARAMETERS")? {
-        push_parameters(host.alloc(), &mut text, &parameters).map_err(refused)?;
+pub fn command_text<'t>(disk: &Disk<'t>) -> Result<&'t [u8], HereError<'t>> {
+    let alloc = disk.host.alloc();
+    let mut text = Vec::new(alloc);
+    match push_command(disk, &mut text) {
+        Ok(()) => Ok(disk.kept(&text)?),
+        Err(CommandError::Memory(error)) => Err(HereError::from(error)),
+        Err(error) => Err(HereError::Stops(Stop {
+            file: COMMAND.name,
+            line: 0,
+            why: Why::BadCommand,
+            words: disk.kept(format!(in alloc; "{error}")?.as_bytes())?,
+        })),
     }
-    Ok(text)
 }

@@ -7,9 +7,8 @@ use crate::names::{answer, path_inside, real_name, split_last, text_of};
 use bstr::{BStr, ByteSlice};
 use bumpalo::Bump;
 use bumpalo::collections::into_bump_slice;
-use config_file::errors::FileFault;
 use config_file::reader::Entries;
-use config_file::{Content, FilePlace, Files};
+use config_file::{Content, FilePlace, Files, Stop, Why};
 use std::alloc::{AllocError, Global};
 use std::fs::{self, File, FileType, OpenFile};
 use std::io::{self, ErrorKind, Read};
@@ -108,7 +107,7 @@ fn is_refused(text: &[u8]) -> bool {
     let lines = text.iter().filter(|byte| **byte == b'\n').count();
     for entry in Entries::new(text) {
         if let Err(error) = entry {
-            return error.fault == FileFault::Nul || error.line < lines;
+            return error.why == Why::Nul || error.line < lines;
         }
     }
     false
@@ -387,6 +386,16 @@ impl<'t> Disk<'t> {
     pub fn first(&self, name: &[u8]) -> Result<(FilePlace<'t>, &'t [u8]), ReadError> {
         let text = self.read_file(name, true)?;
         Ok((self.place(name)?, text))
+    }
+
+    /// Git stops since the file of this name is not read for this reason.
+    pub fn stop(&self, name: &[u8], error: &ReadError) -> Result<Stop<&'t [u8]>, AllocError> {
+        Ok(Stop {
+            file: self.kept(name)?,
+            line: 0,
+            why: Why::Unreadable,
+            words: self.kept(format!(in self.host.alloc(); "{error}")?.as_bytes())?,
+        })
     }
 
     /// Why the file of this name is not read, as a text that is kept.

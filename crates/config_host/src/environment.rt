@@ -4,8 +4,9 @@ ghost use Rattle.config_host.specs.declared.environment.HostError.TheVariants.{S
 ghost use Rattle.config_host.specs.declared.environment.ArgumentError.TheVariants.{Memory};
 
 use crate::disk::Disk;
-use bstr::BStr;
+use bstr::{BStr, ByteSlice};
 use std::alloc::{AllocError, Global};
+use std::collections::HashMap;
 use std::env::{Env, FillError};
 use std::io;
 use thiserror::Error;
@@ -87,6 +88,8 @@ impl From<AllocError> for ArgumentError {
 enum Input<'n> {
     Argument(usize),
     Variable(&'n str),
+    /// A variable by its place: its name, `=` and its value.
+    Place(usize),
 }
 
 /// The number of bytes that is enough for most variables.
@@ -99,6 +102,7 @@ fn fill(host: &HostRuntime, input: Input<'_>, buffer: &mut [u8]) -> Result<usize
     match input {
         Input::Argument(index) => host.arg(index, buffer),
         Input::Variable(name) => host.var(name, buffer),
+        Input::Place(index) => host.var_at(index, buffer),
     }
 }
 
@@ -133,6 +137,52 @@ pub(crate) fn kept_variable<'t>(
     match variable(disk.host, name)? {
         Some(value) => Ok(Some(disk.kept(&value)?)),
         None => Ok(None),
+    }
+}
+
+/// The variables whose names begin with `GIT_CONFIG_`. They are read as soon as one is asked for, since the system looks
+/// through all variables for each one, and there may be two for each setting of a command.
+#[derive(Drop)]
+pub(crate) struct CommandVariables<'t> {
+    values: Option<HashMap<Vec<u8>, &'t [u8]>>,
+}
+
+/// Their values, by their names.
+fn values_of<'t>(disk: &Disk<'t>) -> Result<HashMap<Vec<u8>, &'t [u8]>, AllocError> {
+    let alloc = disk.host.alloc();
+    let mut values = HashMap::new(alloc);
+    for index in 0..usize::MAX {
+        let Some(variable) = bytes_of(disk.host, Input::Place(index))? else {
+            break;
+        };
+        if !variable.starts_with(b"GIT_CONFIG_") {
+            continue;
+        }
+        if let Some((name, value)) = variable.as_slice().split_once_str(b"=") {
+            let name = name.to_vec(alloc)?;
+            if values.get(&name).is_none() {
+                values.insert(name, disk.kept(value)?)?;
+            }
+        }
+    }
+    Ok(values)
+}
+
+impl<'t> CommandVariables<'t> {
+    /// None is read.
+    pub fn new() -> CommandVariables<'t> {
+        CommandVariables { values: None }
+    }
+
+    /// The value of one, or `None` if it is not set.
+    pub fn get(&mut self, disk: &Disk<'t>, name: &Vec<u8>) -> Result<Option<&'t [u8]>, AllocError> {
+        if self.values.is_none() {
+            self.values = Some(values_of(disk)?);
+        }
+        match &self.values {
+            Some(values) => Ok(values.get(name).copied()),
+            None => Ok(None),
+        }
     }
 }
 

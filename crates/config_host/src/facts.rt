@@ -1,10 +1,10 @@
 //! Answers what a search asks, by this system.
 use crate::disk::{Disk, ReadError};
-use crate::environment::{HostError, current_folder, kept_variable};
+use crate::environment::{CommandVariables, HostError, current_folder, kept_variable};
 use crate::names::{answer, known_of, known_of_link, opened_above, real_name, text_of};
 use crate::users::Users;
 use config_search as asks;
-use config_search::{Answer, Fact, Question, Search, Stop};
+use config_search::{Answer, Fact, Pause, Question, Search};
 use gix_config_value::path::interpolate::home_for_user;
 use std::alloc::AllocError;
 use std::fs::{self, File, Metadata};
@@ -214,9 +214,24 @@ fn answer_to<'t>(disk: &Disk<'t>, question: &Question) -> Result<Option<&'t [u8]
     }
 }
 
+/// Whether a question is about a variable of a setting that GIT_CONFIG_COUNT counts.
+fn is_counted(question: &Question) -> bool {
+    let name = &question.name;
+    question.subject == asks::VARIABLE
+        && (name.starts_with(b"GIT_CONFIG_KEY_") || name.starts_with(b"GIT_CONFIG_VALUE_"))
+}
+
 /// The answer to a question, as a fact.
-fn fact_of<'t>(disk: &Disk<'t>, question: &Question) -> Result<Fact<'t>, HostError> {
-    let told = answer_to(disk, question)?;
+fn fact_of<'t>(
+    disk: &Disk<'t>,
+    variables: &mut CommandVariables<'t>,
+    question: &Question,
+) -> Result<Fact<'t>, HostError> {
+    let told = if is_counted(question) {
+        variables.get(disk, &question.name)?
+    } else {
+        answer_to(disk, question)?
+    };
     Ok(Fact {
         name: disk.kept(&question.name)?,
         text: told.unwrap_or_default(),
@@ -231,11 +246,12 @@ pub(crate) fn search_here<'t>(
     folder: &'t [u8],
 ) -> Result<(Answer, Search<'t>), HostError> {
     let mut search = Search::new(disk.host.alloc(), folder);
+    let mut variables = CommandVariables::new();
     for _ in 0..u64::MAX {
         match search.next() {
             Ok(answer) => return Ok((answer, search)),
-            Err(Stop::Ask(question)) => search.tell(fact_of(disk, &question)?)?,
-            Err(Stop::Memory(error)) => return Err(HostError::from(error)),
+            Err(Pause::Ask(question)) => search.tell(fact_of(disk, &mut variables, &question)?)?,
+            Err(Pause::Memory(error)) => return Err(HostError::from(error)),
         }
     }
     Err(HostError::from(AllocError))

@@ -6,8 +6,8 @@ use crate::error::HereError;
 use crate::sources::{Named, Source, sources};
 use crate::surroundings::{Followed, FoundRepository, Surroundings, has_includes};
 use config_file::{
-    AddError, Condition, Entry, FilePlace, Include, IncludeFault, Known, Next, Settings, Step,
-    Walk, is_remote_url, next_of,
+    AddError, Condition, Entry, FilePlace, Include, Known, Next, Settings, Step, Stop, Walk, Why,
+    is_remote_url, next_of,
 };
 use std::alloc::{AllocError, Global};
 use std::io;
@@ -40,7 +40,7 @@ pub struct Taken<'t> {
     /// The text of the file that it includes, in which the walk goes on.
     pub entered: Option<&'t [u8]>,
     /// Why Git stops after it, if it does.
-    pub stop: Option<AddError<'t>>,
+    pub stop: Option<Stop<&'t [u8]>>,
 }
 
 /// The files in which a walk over this text goes on.
@@ -52,23 +52,28 @@ pub fn files_of<'t>(disk: &Disk<'t>, source: &Source<'t>) -> Result<Disk<'t>, Al
     }
 }
 
-/// Goes on in the file that an entry includes. Returns its text, or why Git stops there.
+/// What a walk has come to: the text of a file that it has entered, or none, or a stop.
+type Entered<'t> = Result<Option<&'t [u8]>, Stop<&'t [u8]>>;
+
+/// Goes on in the file that an entry in this line of a file includes. Returns its text, or where Git stops.
 fn enter<'t>(
     disk: &Disk<'t>,
     walk: &mut Walk<'t>,
+    file: &'t [u8],
+    line: usize,
     include: Include,
-) -> Result<Result<Option<&'t [u8]>, IncludeFault<'t>>, AllocError> {
-    match next_of(disk.host.alloc(), disk, include)? {
-        Next::Behind => Ok(Ok(None)),
-        Next::Stops(fault) => Ok(Err(fault)),
-        Next::In(place, text) => {
-            if walk.enter(place, text) {
-                Ok(Ok(Some(text)))
-            } else {
-                Ok(Err(IncludeFault::TooDeep))
-            }
-        }
-    }
+) -> Result<Entered<'t>, AllocError> {
+    Ok(match next_of(disk.host.alloc(), disk, include)? {
+        Next::Behind => Ok(None),
+        Next::In(place, text) if walk.enter(place, text) => Ok(Some(text)),
+        Next::In(_, _) => Err(Stop::at(file, line, Why::TooDeep)),
+        Next::Stops(why, words) => Err(Stop {
+            file,
+            line,
+            why,
+            words,
+        }),
+    })
 }
 
 /// Takes the next entry of a walk, and goes on in the file that it includes. Returns `None` at the end, and
@@ -82,17 +87,15 @@ pub fn next_entry<'t>(
     let (place, entry, include) = match walk.next(disk.host.alloc(), known)? {
         Step::Entry(place, entry, include) => (place, entry, include),
         Step::Line(place, error) => {
-            let file = place.name;
-            return Err(HereError::Stops(AddError::Line { file, error }));
+            return Err(HereError::Stops(Stop::at(place.name, error.line, error.why)));
         }
         Step::Ends => return Ok(None),
     };
-    let (file, line) = (place.name, entry.line);
     let (entered, stop) = match include {
         Include::NotFollowed => (None, None),
-        include => match enter(disk, walk, include)? {
+        include => match enter(disk, walk, place.name, entry.line, include)? {
             Ok(entered) => (entered, None),
-            Err(fault) => (None, Some(AddError::Include { file, line, fault })),
+            Err(stop) => (None, Some(stop)),
         },
     };
     Ok(Some(Taken {
@@ -268,7 +271,7 @@ fn add<'t>(
     match settings.add_with_includes(alloc, scope, &files, known, place, source.text) {
         Ok(()) => Ok(()),
         Err(AddError::Memory(error)) => Err(HereError::from(error)),
-        Err(error) => Err(HereError::Stops(error)),
+        Err(AddError::Stops(stop)) => Err(HereError::Stops(stop)),
     }
 }
 

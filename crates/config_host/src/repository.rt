@@ -1,18 +1,14 @@
 //! Finds the repository of a folder, and the folder in which Git then works.
 
-use crate::command::command_text;
-use crate::disk::{Disk, ReadError};
+use crate::disk::Disk;
 use crate::error::HereError;
 use crate::facts::search_here;
 use crate::names::{opened_above, path_inside};
 use crate::sources::Named;
 use crate::surroundings::FoundRepository;
-use bstr::BStr;
-use config_file::errors::{FileError, FileFault};
-use config_file::{AddError, Scope};
-use config_search::{Answer, Fault, FaultKind, Outcome, Refusal, Repository, SETTINGS, Search};
+use config_file::{Scope, Stop, Why};
+use config_search::{Answer, Outcome, Refusal, Repository, SETTINGS, Search};
 use std::alloc::{AllocError, Global};
-use std::io::{self, ErrorKind};
 
 /// Where Git works once it has looked for the repository of a folder.
 ///
@@ -42,14 +38,14 @@ pub struct Location<'t> {
     /// Why Git uses no repository although one is there.
     pub refusal: Option<Refusal>,
     /// Where Git stops as it looks for the repository.
-    pub stop: Option<HereError<'t>>,
+    pub stop: Option<Stop<&'t [u8]>>,
 }
 
 impl<'t> Location<'t> {
     /// The same, unless Git stops there.
     pub fn unless_stopped(mut self) -> Result<Location<'t>, HereError<'t>> {
         match self.stop.take() {
-            Some(stop) => Err(stop),
+            Some(stop) => Err(HereError::Stops(stop)),
             None => Ok(self),
         }
     }
@@ -118,60 +114,14 @@ fn kept_files<'t>(
     Ok(files)
 }
 
-/// The stop that a text tells: where it is, and why.
-fn stop_told<'t>(disk: &Disk<'t>, fault: &Fault) -> Result<HereError<'t>, AllocError> {
-    let (file, reason) = (BStr::new(&fault.file), BStr::new(&fault.reason));
-    let text = match fault.line {
-        0 => format!(in disk.host.alloc(); "{file}: {reason}")?,
-        line => format!(in disk.host.alloc(); "{file}:{line}: {reason}")?,
-    };
-    Ok(HereError::Format(disk.texts.try_alloc_str(&text)?))
-}
-
-/// The stop at a line.
-fn stop_at_line<'t>(
-    disk: &Disk<'t>,
-    at: &Fault,
-    fault: FileFault,
-) -> Result<HereError<'t>, AllocError> {
-    let error = FileError {
-        line: at.line,
-        fault,
-    };
-    Ok(HereError::Stops(AddError::Line {
-        file: disk.kept(&at.file)?,
-        error,
-    }))
-}
-
-/// The stop at a file that cannot be read, whose name begins in the folder `asked`.
-fn stop_at_file<'t>(
-    disk: &Disk<'t>,
-    asked: &[u8],
-    fault: &Fault,
-) -> Result<HereError<'t>, AllocError> {
-    match disk.within(asked)?.first(&fault.file) {
-        Err(error) => Ok(HereError::File {
-            file: disk.kept(&fault.file)?,
-            error,
-        }),
-        // it can be read by now
-        Ok(_) => stop_told(disk, fault),
-    }
-}
-
-/// Where Git stops, as an error.
-fn stop_of<'t>(disk: &Disk<'t>, asked: &[u8], fault: &Fault) -> Result<HereError<'t>, AllocError> {
-    match fault.kind {
-        FaultKind::File => stop_at_file(disk, asked, fault),
-        FaultKind::Line => stop_at_line(disk, fault, FileFault::BadLine),
-        FaultKind::Nul => stop_at_line(disk, fault, FileFault::Nul),
-        FaultKind::Command => match command_text(disk.host) {
-            Err(error) => Ok(error),
-            Ok(_) => stop_told(disk, fault),
-        },
-        _ => stop_told(disk, fault),
-    }
+/// Where Git stops, with texts that are kept.
+fn kept_stop<'t>(disk: &Disk<'t>, stop: &Stop<Vec<u8>>) -> Result<Stop<&'t [u8]>, AllocError> {
+    Ok(Stop {
+        file: disk.kept(&stop.file)?,
+        line: stop.line,
+        why: stop.why,
+        words: disk.kept(&stop.words)?,
+    })
 }
 
 /// Where Git works if it is started in the folder of this name: an empty one, or `.`, is the current folder.
@@ -199,11 +149,13 @@ pub fn find<'t>(disk: &Disk<'t>, name: &[u8]) -> Result<Location<'t>, HereError<
             location.repository = Some(kept_repository(disk, &repository)?);
         }
         Outcome::Refuses(refusal) => location.refusal = Some(refusal),
-        Outcome::Stops(fault) if matches!(fault.kind, FaultKind::Folder) => {
-            let error = ReadError::System(io::Error::from(ErrorKind::NotFound));
-            return Err(HereError::File { file: name, error });
+        Outcome::Stops(stop) => {
+            let stop = kept_stop(disk, &stop)?;
+            if stop.why == Why::NoFolder {
+                return Err(HereError::Stops(stop));
+            }
+            location.stop = Some(stop);
         }
-        Outcome::Stops(fault) => location.stop = Some(stop_of(disk, name, &fault)?),
     }
     Ok(location)
 }

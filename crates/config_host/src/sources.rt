@@ -69,7 +69,7 @@ pub struct Source<'t> {
 
 /// The settings of a command as a file. No name begins with the NUL of its folder, so that no condition on a
 /// folder below it holds, as in Git.
-const COMMAND: FilePlace<'static> = FilePlace {
+pub(crate) const COMMAND: FilePlace<'static> = FilePlace {
     name: b"command line",
     real_dir: b"\0",
 };
@@ -127,10 +127,7 @@ fn read_source<'t>(disk: &Disk<'t>, named: Named<'t>) -> Result<Option<Source<'t
         Err(error) if error.is_memory() => Err(HereError::from(AllocError)),
         Err(error) if error.is_missing() => Ok(None),
         Err(error) if error.is_denied() && named.scope == Scope::Global => Ok(None),
-        Err(error) => Err(HereError::File {
-            file: named.name,
-            error,
-        }),
+        Err(error) => Err(HereError::Stops(disk.stop(named.name, &error)?)),
     }
 }
 
@@ -141,14 +138,14 @@ fn add<'t>(sources: &mut Vec<Source<'t>>, source: Source<'t>) -> Result<(), Allo
 
 /// Adds the settings of the command, if there are any.
 fn add_command<'t>(disk: &Disk<'t>, sources: &mut Vec<Source<'t>>) -> Result<(), HereError<'t>> {
-    let text = command_text(disk.host)?;
+    let text = command_text(disk)?;
     if text.is_empty() {
         return Ok(());
     }
     let source = Source {
         scope: Scope::Command,
         place: COMMAND,
-        text: disk.kept(&text)?,
+        text,
         is_file: false,
     };
     Ok(add(sources, source)?)

@@ -2,6 +2,7 @@
 use Rattle.std.proofs.Common.{◌≡◌, ◌++◌, ◌∷◌, [], ℕ, List, Option, None, Some, IfSome, MatchResult, OnErr, OnOk, Result, Ok, Err, subst, sym, arith, length, take}
 use Rattle.std.proofs.lemmas.List.Elements.{All-take}
 use Rattle.std.proofs.lemmas.Grind.{common_steps}
+use Rattle.std.specs.Global.{Vec}
 use Rattle.config_search.specs.System.{System, AreTrueIn, IsTrueIn}
 use Rattle.config_search.specs.Questions.{Comes, MayName, in_start}
 use Rattle.config_search.specs.Search.{Sought, Seeks, OnlySeeks, path_of, start_of}
@@ -9,11 +10,11 @@ use Rattle.config_search.specs.Answers.{Answers, Does, Tells}
 use Rattle.config_search.specs.Shown.{IsNew}
 use Rattle.config_search.specs.Stages.{IsStart, IsSite, IsRight}
 use Rattle.config_search.specs.declared.answer.Answer.{Answer}
-use Rattle.config_search.specs.declared.answer.Fault.{Fault}
+use Rattle.config_file.specs.declared.errors.Stop.{Stop}
 use Rattle.config_search.specs.declared.answer.Outcome.{Outcome}
 use Rattle.config_search.specs.declared.answer.Outcome.TheVariants.{Stops}
 use Rattle.config_search.specs.declared.fact.Fact.{Fact}
-use Rattle.config_search.specs.declared.fact.Stop.{Stop}
+use Rattle.config_search.specs.declared.fact.Pause.{Pause}
 use Rattle.config_search.specs.declared.place.Site.{Site}
 use Rattle.config_search.specs.declared.seek.Folder.{Folder}
 use Rattle.config_search.specs.declared.stages.Stage.{Stage}
@@ -33,14 +34,14 @@ does_told system asked start sought outcome is seeks tells =
     (sought, (seeks, λ other does. seeks-one system start.name.now does seeks), tells))
 
 -- it may stop where it has found something
-pub found_stops : (system : System) (asked : List ℕ) (start : Folder) (sought : Sought) (fault : Fault)
+pub found_stops : (system : System) (asked : List ℕ) (start : Folder) (sought : Sought) (stop : Stop (Vec ℕ))
     → IsStart system asked start → Seeks system start.name.now sought
-    → Does system (start_of asked) (path_of system (start_of asked)) (Stops fault)
-found_stops system asked start sought fault is seeks = does_told system asked start sought (Stops fault) is seeks tt
+    → Does system (start_of asked) (path_of system (start_of asked)) (Stops stop)
+found_stops system asked start sought stop is seeks = does_told system asked start sought (Stops stop) is seeks tt
 
-pub site_stops : (system : System) (asked : List ℕ) (site : Site) (fault : Fault) → IsSite system asked site
-    → Does system (start_of asked) (path_of system (start_of asked)) (Stops fault)
-site_stops system asked site fault is = found_stops system asked site.start _ fault is.start is.sought
+pub site_stops : (system : System) (asked : List ℕ) (site : Site) (stop : Stop (Vec ℕ)) → IsSite system asked site
+    → Does system (start_of asked) (path_of system (start_of asked)) (Stops stop)
+site_stops system asked site stop is = found_stops system asked site.start _ stop is.start is.sought
 
 -- settings or a variable may name a place in each system in which facts are true, and the other way round
 pub if_named : {A : Type 0} (facts : List Fact) (place : Option A)
@@ -72,11 +73,11 @@ right_after asked old new fact stage (Err b) told same right = λ system agrees.
     right system (subst (λ (facts : List Fact). AreTrueIn system facts) same agrees)
 
 -- what ends a search is right of the same folder and of the same facts
-abbrev IsEnd : List ℕ → List Fact → Result Answer Stop → Type 0
+abbrev IsEnd : List ℕ → List Fact → Result Answer Pause → Type 0
 IsEnd asked facts end =
     MatchResult end (λ answer. (system : System) → AreTrueIn system facts → Answers system asked answer) (IsNew asked facts)
 
-pub end_by : (asked other : List ℕ) (facts told : List Fact) (end : Result Answer Stop) → other ≡ asked → told ≡ facts
+pub end_by : (asked other : List ℕ) (facts told : List Fact) (end : Result Answer Pause) → other ≡ asked → told ≡ facts
     → MatchResult end (λ answer. (system : System) → AreTrueIn system told → Answers system other answer) (IsNew other told)
     → MatchResult end (λ answer. (system : System) → AreTrueIn system facts → Answers system asked answer) (IsNew asked facts)
 end_by asked other facts told end same_asked same_facts is = subst (λ (name : List ℕ). IsEnd name facts end) same_asked

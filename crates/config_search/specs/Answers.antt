@@ -4,6 +4,7 @@
 -- for its owner only if Git does not. Which formats Git knows, at which texts it stops and where the top of a work tree
 -- is are not stated here, but tested: such an answer says only that a git directory is there.
 use Rattle.std.specs.Prelude.{◌≡◌, ◌⊎◌, ℕ, List, [], Option, None, Some, codes, map}
+use Rattle.config_file.specs.declared.errors.Why.TheVariants.{NoFolder}
 use Rattle.config_search.specs.System.{System}
 use Rattle.config_search.specs.Rule.{GitDir, IsBare, Common, Own, Linked, Broken, or_itself, resolved, common_of}
 use Rattle.config_search.specs.Search.{Sought, Nowhere, Inside, Refused, OnlySeeks, path_of, start_of}
@@ -16,7 +17,6 @@ use Rattle.config_search.specs.declared.answer.Outcome.TheVariants.{Uses, FindsN
 use Rattle.config_search.specs.declared.answer.Repository.{Repository}
 use Rattle.config_search.specs.declared.answer.Refusal.{Refusal}
 use Rattle.config_search.specs.declared.answer.Refusal.TheVariants.{GitDir as OfVariable, Version, Extension, ExtensionOfLater, Owner, Bare}
-use Rattle.config_search.specs.declared.answer.FaultKind.TheVariants.{Folder}
 use Rattle.config_search.specs.declared.TheConstants.{VARIABLE, REAL}
 
 abbrev pub given_or : List ℕ → Option (List ℕ) → List ℕ
@@ -91,21 +91,21 @@ abbrev pub Tells : System → List ℕ → Sought → Outcome → Type 0
 Tells system start sought (Uses repository) = UsesIt system start sought repository
 Tells system start sought FindsNone = sought ≡ Nowhere
 Tells system start sought (Refuses refusal) = RefusesIt system start sought refusal
-Tells system start sought (Stops fault) = Unit {0}
+Tells system start sought (Stops stop) = Unit {0}
 
 -- the files of the repository that is used, if one is
 abbrev pub files_of : Outcome → List File
 files_of (Uses repository) = of_repository_in repository.common_dir.items repository.named_dir.items repository.has_worktree_files
 files_of FindsNone = []
 files_of (Refuses refusal) = []
-files_of (Stops fault) = []
+files_of (Stops stop) = []
 
 -- there is no folder in which to start
 abbrev pub IsNowhere : Outcome → Type 0
 IsNowhere (Uses repository) = ⊥
 IsNowhere FindsNone = ⊥
 IsNowhere (Refuses refusal) = ⊥
-IsNowhere (Stops fault) = fault.kind ≡ Folder
+IsNowhere (Stops stop) = stop.why ≡ NoFolder
 
 -- what Git does where it starts in a folder of this path, if there is one
 abbrev pub Does : System → List ℕ → Option (List ℕ) → Outcome → Type 0

@@ -11,10 +11,10 @@ use Rattle.config_search.specs.System.{System, AreTrueIn, IsOpen}
 use Rattle.config_search.specs.Names.{opened}
 use Rattle.config_search.specs.Questions.{IsNeeded, MayName}
 use Rattle.config_search.specs.declared.fact.Fact.{Fact}
-use Rattle.config_search.specs.declared.fact.Stop.{Stop}
-use Rattle.config_search.specs.declared.fact.Stop.TheVariants.{Ask, Memory}
+use Rattle.config_search.specs.declared.fact.Pause.{Pause}
+use Rattle.config_search.specs.declared.fact.Pause.TheVariants.{Ask, Memory}
 use Rattle.config_search.specs.declared.halt.Halt.{Halt}
-use Rattle.config_search.specs.declared.halt.Halt.TheVariants.{Stopped, Fault}
+use Rattle.config_search.specs.declared.halt.Halt.TheVariants.{Pauses, Stops}
 use Rattle.config_search.specs.Rule as rule
 use Rattle.config_search.specs.Search as search
 use Rattle.config_search.specs.Files.{File}
@@ -42,8 +42,8 @@ abbrev pub AreFirst : {S : Type 0} → HashMap (ℕ × Vec ℕ) Fact S → List 
 AreFirst facts list = (q : ℕ × Vec ℕ)
     → get_by (λ k. (q.0 == k.0) && bytes_eq q.1.items k.1.items) facts ≡ first_of list q.0 q.1.items
 
--- a question that stops a search in a folder is one that it needs, and that no fact answers
-abbrev pub IsNew : List ℕ → List Fact → Stop → Type 0
+-- a question at which a search in a folder pauses is one that it needs, and that no fact answers
+abbrev pub IsNew : List ℕ → List Fact → Pause → Type 0
 IsNew folder facts (Ask question) = IsOpen facts question.subject question.name.items
     × IsNeeded folder facts question.subject question.name.items
 IsNew folder facts (Memory error) = Unit {0}
@@ -98,11 +98,11 @@ AreLimits system start limits = (search.ceilings system ≡ map (λ c. c.now) li
     (¬ (search.IsOn system (codes "GIT_DISCOVERY_ACROSS_FILESYSTEM")))
     × (limits.crosses ≡ false → option_copied limits.device ≡ system DEVICE (opened start))
 
--- so is one that stops the part of a search that reads settings
+-- so is one at which the part of a search that reads settings pauses
 abbrev pub IsNewHalt : List ℕ → List Fact → Halt → Type 0
-IsNewHalt folder facts (Stopped stop) = IsNew folder facts stop
-IsNewHalt folder facts (Fault fault) = Unit {0}
+IsNewHalt folder facts (Pauses pause) = IsNew folder facts pause
+IsNewHalt folder facts (Stops stop) = Unit {0}
 
--- it is no question that stops the search
+-- it is no question at which the search pauses
 abbrev pub AsksNothing : Halt → Type 0
 AsksNothing halt = (folder : List ℕ) (facts : List Fact) → IsNewHalt folder facts halt

@@ -1,14 +1,15 @@
 //! What a search comes to.
 
 use crate::name::joined;
-use config_file::Scope;
+use config_file::{Scope, Stop};
 use itoa::Buffer;
 use std::alloc::{AllocError, Global};
 
 /// What Git does in a folder.
 ///
 /// ```rust
-/// use config_search::{Fact, FaultKind, LEADS, Outcome, Search, VARIABLE};
+/// use config_file::Why;
+/// use config_search::{Fact, LEADS, Outcome, Search, VARIABLE};
 ///
 /// let mut search = Search::new(alloc, b"gone");
 /// for name in ["PWD", "GIT_CONFIG_NOSYSTEM", "GIT_CONFIG_SYSTEM", "GIT_CONFIG_GLOBAL", "XDG_CONFIG_HOME", "HOME"] {
@@ -19,7 +20,7 @@ use std::alloc::{AllocError, Global};
 ///     panic!(rt; "an answer");
 /// };
 /// assert_eq!(rt; answer.files[0].name.as_slice(), b"/etc/gitconfig".as_slice());
-/// assert!(rt; matches!(answer.outcome, Outcome::Stops(fault) if matches!(fault.kind, FaultKind::Folder)));
+/// assert!(rt; matches!(answer.outcome, Outcome::Stops(stop) if stop.why == Why::NoFolder));
 /// ```
 #[derive(Drop)]
 pub struct Answer {
@@ -56,7 +57,7 @@ pub enum Outcome {
     /// It does not use the one that is there.
     Refuses(Refusal),
     /// It stops.
-    Stops(Fault),
+    Stops(Stop<Vec<u8>>),
 }
 
 /// The repository that Git uses. The example of [`Answer`] shows how it comes.
@@ -134,47 +135,4 @@ impl Refusal {
             }
         }
     }
-}
-
-/// Where Git stops as it looks for a repository, and why. The example of [`Answer`] shows how it comes.
-#[derive(Drop)]
-pub struct Fault {
-    /// What is wrong.
-    pub kind: FaultKind,
-    /// The name of the file, or of the variable.
-    pub file: Vec<u8>,
-    /// The line, or 0 if there is none.
-    pub line: usize,
-    /// The reason in words.
-    pub reason: Vec<u8>,
-}
-
-/// What is wrong where Git stops. The example of [`Answer`] shows how it comes.
-#[derive(Clone, Copy)]
-#[non_exhaustive]
-pub enum FaultKind {
-    /// There is no such folder.
-    Folder,
-    /// A file that Git reads cannot be read.
-    File,
-    /// A line of a file is invalid.
-    Line,
-    /// A file has a NUL outside a comment.
-    Nul,
-    /// An include has no value.
-    NoValue,
-    /// The path of an include begins with a directory that is not known.
-    UnknownDirectory,
-    /// A file that is included cannot be read.
-    Unreadable,
-    /// A file that is included by the settings of a command is not named from the root.
-    Relative,
-    /// Files include each other too deep.
-    TooDeep,
-    /// The URL of a remote is in a file that is included on a condition.
-    ForbiddenUrl,
-    /// A setting or a variable has no value that Git knows there, or a file commondir names no folder.
-    Value,
-    /// The settings of the command are refused.
-    Command,
 }

@@ -7,7 +7,7 @@ ghost use Rattle.config_search.specs.Shown.{AreFirst, IsNew, first_of};
 ghost use Rattle.config_search.specs.Names.{inside};
 ghost use Rattle.config_search.specs.Rule as rule;
 ghost use Rattle.config_search.specs.declared.fact.Fact.{Fact as FactOf};
-ghost use Rattle.config_search.specs.declared.fact.Stop.TheVariants.{Memory};
+ghost use Rattle.config_search.specs.declared.fact.Pause.TheVariants.{Memory};
 
 use crate::name::{copied, inside};
 use std::alloc::{AllocError, Global};
@@ -40,18 +40,18 @@ pub struct Question {
 
 /// Why a search stops before its end.
 #[derive(Drop)]
-pub enum Stop {
+pub enum Pause {
     /// It needs the answer to this question, which no fact gives.
     Ask(Question),
     /// Memory is refused.
     Memory(AllocError),
 }
 
-impl From<AllocError> for Stop {
-    ghost from_gives = { λ error stop. stop ≡ Memory error };
+impl From<AllocError> for Pause {
+    ghost from_gives = { λ error pause. pause ≡ Memory error };
 
-    fn from(error: AllocError) -> Stop {
-        Stop::Memory(error)
+    fn from(error: AllocError) -> Pause {
+        Pause::Memory(error)
     }
 }
 
@@ -120,13 +120,13 @@ pub(crate) struct Lookup<'f, 't> {
     pub facts: &'f Facts<'t>,
 }
 
-/// The fact that answers a question about the file of this name in a folder, or a stop with the question.
+/// The fact that answers a question about the file of this name in a folder, or the question.
 pub(crate) fn fact_in<'t>(
     lookup: &Lookup<'_, 't>,
     subject: u32,
     folder: &[u8],
     name: &[u8],
-) -> Result<Fact<'t>, Stop>
+) -> Result<Fact<'t>, Pause>
     requires { IsNeeded lookup.now.folder.now lookup.now.facts.now subject (inside folder.now name.now) }
     ensures { MatchResult result (IsFactOf lookup.now.facts.now subject (inside folder.now name.now))
         (IsNew lookup.now.folder.now lookup.now.facts.now) }
@@ -136,7 +136,7 @@ pub(crate) fn fact_in<'t>(
         return Ok(fact);
     }
     let (subject, name) = question;
-    Err(Stop::Ask(Question { subject, name }))
+    Err(Pause::Ask(Question { subject, name }))
 }
 
 /// The answer that a fact gives.
@@ -149,13 +149,13 @@ pub(crate) fn answer_of<'t>(fact: &Fact<'t>) -> Option<&'t [u8]>
     Some(fact.text)
 }
 
-/// The text of the answer to a question about the file of this name in a folder, or a stop with the question.
+/// The text of the answer to a question about the file of this name in a folder, or the question.
 pub(crate) fn answer_in<'t>(
     lookup: &Lookup<'_, 't>,
     subject: u32,
     folder: &[u8],
     name: &[u8],
-) -> Result<Option<&'t [u8]>, Stop>
+) -> Result<Option<&'t [u8]>, Pause>
     requires { IsNeeded lookup.now.folder.now lookup.now.facts.now subject (inside folder.now name.now) }
     ensures { MatchResult result
         (λ answer. (system : System) → AreTrueIn system lookup.now.facts.now
@@ -166,12 +166,12 @@ pub(crate) fn answer_in<'t>(
     Ok(answer_of(&fact))
 }
 
-/// The text of the answer to a question about this name, or a stop with the question.
+/// The text of the answer to a question about this name, or the question.
 pub(crate) fn answer_to<'t>(
     lookup: &Lookup<'_, 't>,
     subject: u32,
     name: &[u8],
-) -> Result<Option<&'t [u8]>, Stop>
+) -> Result<Option<&'t [u8]>, Pause>
     requires { IsNeeded lookup.now.folder.now lookup.now.facts.now subject name.now }
     ensures { MatchResult result
         (λ answer. (system : System) → AreTrueIn system lookup.now.facts.now

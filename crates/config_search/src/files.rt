@@ -8,7 +8,7 @@ ghost use Rattle.config_search.specs.Files as files;
 ghost use Rattle.config_file.specs.declared.scope.Scope.TheVariants.{Global as of_user, System as of_system};
 
 use crate::answer::Named;
-use crate::fact::{Lookup, Stop, answer_in, answer_to, is_word};
+use crate::fact::{Lookup, Pause, answer_in, answer_to, is_word};
 use crate::name::joined;
 use crate::seek::is_on;
 use crate::{READABLE, VARIABLE};
@@ -34,7 +34,7 @@ fn push(names: &mut Vec<Named>, scope: Scope, name: Vec<u8>) -> Result<(), Alloc
 }
 
 /// The name of the file of the system.
-fn system_name(lookup: &Lookup<'_, '_>) -> Result<Vec<u8>, Stop>
+fn system_name(lookup: &Lookup<'_, '_>) -> Result<Vec<u8>, Pause>
     ensures { MatchResult result
         (λ name. (system : System) → AreTrueIn system lookup.now.facts.now
         → name.items ≡ files.system_name system)
@@ -47,7 +47,7 @@ fn system_name(lookup: &Lookup<'_, '_>) -> Result<Vec<u8>, Stop>
 }
 
 /// Adds the file of the system, unless GIT_CONFIG_NOSYSTEM says that it is not read.
-fn push_system(lookup: &Lookup<'_, '_>, names: &mut Vec<Named>) -> Result<(), Stop>
+fn push_system(lookup: &Lookup<'_, '_>, names: &mut Vec<Named>) -> Result<(), Pause>
     ensures { MatchResult result
         (λ done. (system : System) → AreTrueIn system lookup.now.facts.now
         → (first : List files.File) × files.IsOfSystem system first
@@ -163,7 +163,7 @@ fn push_xdg(
 }
 
 /// Adds the files of the user that no variable names.
-fn push_own(lookup: &Lookup<'_, '_>, names: &mut Vec<Named>) -> Result<(), Stop>
+fn push_own(lookup: &Lookup<'_, '_>, names: &mut Vec<Named>) -> Result<(), Pause>
     ensures { MatchResult result
         (λ done. (system : System) → AreTrueIn system lookup.now.facts.now
         → map file_of names.new.items ≡ map file_of names.old.items ++ files.of_user_by system None)
@@ -177,7 +177,7 @@ fn push_own(lookup: &Lookup<'_, '_>, names: &mut Vec<Named>) -> Result<(), Stop>
 }
 
 /// Adds the files of the user: the one that GIT_CONFIG_GLOBAL names, or the two that are theirs.
-fn push_user(lookup: &Lookup<'_, '_>, names: &mut Vec<Named>) -> Result<(), Stop>
+fn push_user(lookup: &Lookup<'_, '_>, names: &mut Vec<Named>) -> Result<(), Pause>
     ensures { MatchResult result
         (λ done. (system : System) → AreTrueIn system lookup.now.facts.now
         → map file_of names.new.items ≡ map file_of names.old.items ++ files.files_of_user system)
@@ -192,7 +192,7 @@ fn push_user(lookup: &Lookup<'_, '_>, names: &mut Vec<Named>) -> Result<(), Stop
 }
 
 /// The files that no repository can change: those of the system and of the user.
-pub(crate) fn protected_files(lookup: &Lookup<'_, '_>) -> Result<Vec<Named>, Stop>
+pub(crate) fn protected_files(lookup: &Lookup<'_, '_>) -> Result<Vec<Named>, Pause>
     ensures { MatchResult result
         (λ names. (system : System) → AreTrueIn system lookup.now.facts.now
         → (first : List files.File) × files.IsOfSystem system first
@@ -228,7 +228,7 @@ pub(crate) fn push_repository(
 }
 
 /// Whether the user may read the first of these files, whose names begin in this folder.
-fn can_read(lookup: &Lookup<'_, '_>, folder: &[u8], names: &[Named]) -> Result<bool, Stop>
+fn can_read(lookup: &Lookup<'_, '_>, folder: &[u8], names: &[Named]) -> Result<bool, Pause>
     ensures { MatchResult result
         (λ can. (system : System) → AreTrueIn system lookup.now.facts.now
         → can ≡ files.can_read system folder.now (map file_of names.now))
@@ -246,7 +246,7 @@ fn or_readable(
     folder: &[u8],
     own: Vec<Named>,
     others: Vec<Named>,
-) -> Result<Vec<Named>, Stop>
+) -> Result<Vec<Named>, Pause>
     ensures { MatchResult result
         (λ names. (system : System) → AreTrueIn system lookup.now.facts.now
         → map file_of names.items
@@ -260,7 +260,7 @@ fn or_readable(
 }
 
 /// The file of the user that no variable names: the one in this home folder, unless the user may read only the other.
-fn one_of_home(lookup: &Lookup<'_, '_>, folder: &[u8], home: &[u8]) -> Result<Vec<Named>, Stop>
+fn one_of_home(lookup: &Lookup<'_, '_>, folder: &[u8], home: &[u8]) -> Result<Vec<Named>, Pause>
     ensures { MatchResult result
         (λ names. (system : System) → AreTrueIn system lookup.now.facts.now
         → map file_of names.items ≡ files.one_of_home system folder.now (Some home.now))
@@ -274,7 +274,7 @@ fn one_of_home(lookup: &Lookup<'_, '_>, folder: &[u8], home: &[u8]) -> Result<Ve
 }
 
 /// The file of the user that `--global` means: the one that GIT_CONFIG_GLOBAL names, or one of the two that are theirs.
-fn one_of_user(lookup: &Lookup<'_, '_>, folder: &[u8]) -> Result<Vec<Named>, Stop>
+fn one_of_user(lookup: &Lookup<'_, '_>, folder: &[u8]) -> Result<Vec<Named>, Pause>
     ensures { MatchResult result
         (λ names. (system : System) → AreTrueIn system lookup.now.facts.now
         → map file_of names.items ≡ files.one_of_user system folder.now)
@@ -293,7 +293,7 @@ fn one_of_user(lookup: &Lookup<'_, '_>, folder: &[u8]) -> Result<Vec<Named>, Sto
 }
 
 /// The files that `--system` and `--global` mean where Git works in this folder.
-pub(crate) fn scope_files(lookup: &Lookup<'_, '_>, folder: &[u8]) -> Result<Vec<Named>, Stop>
+pub(crate) fn scope_files(lookup: &Lookup<'_, '_>, folder: &[u8]) -> Result<Vec<Named>, Pause>
     ensures { MatchResult result
         (λ names. (system : System) → AreTrueIn system lookup.now.facts.now
         → map file_of names.items

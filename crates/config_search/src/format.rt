@@ -5,14 +5,13 @@ ghost use Rattle.config_search.specs.Questions.{MayName};
 ghost use Rattle.config_search.specs.Answers.{IsOfOneThere};
 ghost use Rattle.config_search.specs.Shown.{IsNew, IsNewHalt, IsStore, AsksNothing};
 
-use crate::answer::{FaultKind, Refusal};
-use crate::fact::{Lookup, Stop, answer_in, answer_to};
-use crate::halt::{Halt, fault};
+use crate::answer::Refusal;
+use crate::fact::{Lookup, Pause, answer_in, answer_to};
+use crate::halt::{Halt, stop};
 use crate::name::{inside, joined};
-use crate::reader::at_line;
 use crate::{SETTINGS, VARIABLE};
 use bstr::ByteSlice;
-use config_file::{AddError, Scope, Setting, Settings};
+use config_file::{Entries, Entry, Setting, Stop, Why};
 use gix_config_value::{Boolean, Integer};
 use std::alloc::{AllocError, Global};
 use std::fmt;
@@ -127,13 +126,18 @@ pub(crate) fn given_store(lookup: &Lookup<'_, '_>) -> Result<Option<Store>, Halt
     if store.is_some() {
         return Ok(store);
     }
-    let why = joined(lookup.alloc, b"unknown ref storage format: '", given, b"'")?;
-    let name = b"GIT_REFERENCE_BACKEND";
-    Err(fault(lookup.alloc, FaultKind::Value, name, 0, &why)?)
+    let words = joined(lookup.alloc, b"unknown ref storage format: '", given, b"'")?;
+    let at = Stop {
+        file: b"GIT_REFERENCE_BACKEND".as_slice(),
+        line: 0,
+        why: Why::BadFormat,
+        words: words.as_slice(),
+    };
+    Err(stop(lookup.alloc, at)?)
 }
 
-/// Why Git stops at a setting.
-fn stop<F: fmt::Display + Drop>(
+/// Where Git stops at a setting.
+fn at_setting<F: fmt::Display + Drop>(
     alloc: Global,
     setting: &Setting<'_>,
     why: F,
@@ -147,8 +151,13 @@ fn stop<F: fmt::Display + Drop>(
         .len()
         .saturating_add(file.len())
         .saturating_add(1);
-    let reason = whole.as_bytes().get(place..).unwrap_or_default();
-    fault(alloc, FaultKind::Value, file, line, reason)
+    let at = Stop {
+        file,
+        line,
+        why: Why::BadFormat,
+        words: whole.as_bytes().get(place..).unwrap_or_default(),
+    };
+    stop(alloc, at)
 }
 
 /// The boolean of a setting.
@@ -157,7 +166,7 @@ fn boolean(alloc: Global, setting: &Setting<'_>) -> Result<bool, Halt>
 {
     match setting.read::<Boolean>() {
         Ok(boolean) => Ok(boolean.0),
-        Err(refused) => Err(stop(alloc, setting, refused.fault)?),
+        Err(refused) => Err(at_setting(alloc, setting, refused.fault)?),
     }
 }
 
@@ -167,7 +176,7 @@ fn text<'s>(alloc: Global, setting: &'s Setting<'_>) -> Result<&'s [u8], Halt>
 {
     match setting.value.as_deref() {
         Some(text) => Ok(text),
-        None => Err(stop(alloc, setting, "no value")?),
+        None => Err(at_setting(alloc, setting, "no value")?),
     }
 }
 
@@ -177,7 +186,7 @@ fn version(alloc: Global, setting: &Setting<'_>) -> Result<i32, Halt>
 {
     match Integer::from_bytes::<i32>(setting.text()) {
         Ok(version) => Ok(version),
-        Err(error) => Err(stop(alloc, setting, error.fault)?),
+        Err(error) => Err(at_setting(alloc, setting, error.fault)?),
     }
 }
 
@@ -210,7 +219,7 @@ fn is_extension(alloc: Global, setting: &Setting<'_>, extension: Extension) -> R
     if is_right(alloc, setting, extension)? {
         return Ok(true);
     }
-    Err(stop(alloc, setting, "no value of this extension")?)
+    Err(at_setting(alloc, setting, "no value of this extension")?)
 }
 
 /// Keeps the name of an extension, if it is the first.
@@ -219,6 +228,18 @@ fn keep_first(first: &mut Option<Vec<u8>>, alloc: Global, name: &[u8]) -> Result
         *first = Some(name.to_vec(alloc)?);
     }
     Ok(())
+}
+
+/// Whether the section of an entry is one that a format looks at.
+fn may_count(entry: &Entry<'_>) -> bool {
+    let Some(section) = &entry.section else {
+        return false;
+    };
+    let begins = |front: &[u8]| match section.name.get(..front.len()) {
+        Some(start) => start.eq_ignore_ascii_case(front),
+        None => false,
+    };
+    begins(b"core") || begins(b"extensions")
 }
 
 impl Format {
@@ -309,25 +330,46 @@ impl Format {
         }
     }
 
+    /// Reads what an entry says of a file of the repository, or of that of a work tree of its own.
+    fn read_entry(
+        &mut self,
+        alloc: Global,
+        file: &[u8],
+        entry: Entry<'_>,
+        is_own: bool,
+    ) -> Result<(), Halt>
+        ensures { IfErr result AsksNothing }
+    {
+        let setting = Setting::of_entry(alloc, file, entry)?;
+        let key = entry.key_text(alloc)?;
+        if is_own {
+            self.read_work_tree(alloc, &setting, subject_of(&key))
+        } else {
+            self.read_named(alloc, &setting, &key)
+        }
+    }
+
     /// Reads what the text of a file of the repository says, or that of a work tree of its own. Git looks at no include
     /// here.
     fn read_text(
         &mut self,
-        lookup: &Lookup<'_, '_>,
+        alloc: Global,
         file: &[u8],
         text: &[u8],
         is_own: bool,
     ) -> Result<(), Halt>
-        ensures { IfErr result (IsNewHalt lookup.now.folder.now lookup.now.facts.now) }
+        ensures { IfErr result AsksNothing }
     {
-        for setting in &settings_in(lookup, file, text)?.entries {
-            let key = setting.entry.key_text(lookup.alloc)?;
-            if is_own {
-                if let Err(halt) = self.read_work_tree(lookup.alloc, setting, subject_of(&key)) {
-                    return Err(halt);
+        for entry in Entries::new(text) {
+            let entry = match entry {
+                Ok(entry) => entry,
+                Err(error) => return Err(stop(alloc, Stop::at(file, error.line, error.why))?),
+            };
+            if may_count(&entry) {
+                match self.read_entry(alloc, file, entry, is_own) {
+                    Ok(()) => {}
+                    Err(halt) => return Err(halt),
                 }
-            } else if let Err(halt) = self.read_named(lookup.alloc, setting, &key) {
-                return Err(halt);
             }
         }
         Ok(())
@@ -343,7 +385,7 @@ impl Format {
         ensures { IfErr result (IsNewHalt lookup.now.folder.now lookup.now.facts.now) }
     {
         let file = inside(lookup.alloc, git_dir, b"config.worktree")?;
-        self.read_text(lookup, &file, text, true)
+        self.read_text(lookup.alloc, &file, text, true)
     }
 
     /// The format of a work tree without a file of its own. What it shares with others says nothing of its top.
@@ -379,28 +421,12 @@ impl Format {
     }
 }
 
-/// The entries of a text.
-fn settings_in<'s>(
-    lookup: &Lookup<'_, '_>,
-    file: &'s [u8],
-    text: &'s [u8],
-) -> Result<Settings<'s>, Halt>
-    ensures { IfErr result (IsNewHalt lookup.now.folder.now lookup.now.facts.now) }
-{
-    let mut settings = Settings::new(lookup.alloc);
-    match settings.add_file(lookup.alloc, Scope::Local, file, text) {
-        Ok(()) => Ok(settings),
-        Err(AddError::Line { file, error }) => Err(at_line(lookup.alloc, file, error)?),
-        Err(_) => Err(Halt::from(AllocError)),
-    }
-}
-
 /// The format that the text of a repository's file states. One that states no version states nothing.
-fn stated(lookup: &Lookup<'_, '_>, file: &[u8], text: &[u8]) -> Result<Format, Halt>
-    ensures { IfErr result (IsNewHalt lookup.now.folder.now lookup.now.facts.now) }
+fn stated(alloc: Global, file: &[u8], text: &[u8]) -> Result<Format, Halt>
+    ensures { IfErr result AsksNothing }
 {
     let mut format = Format::new();
-    format.read_text(lookup, file, text, false)?;
+    format.read_text(alloc, file, text, false)?;
     match format.version {
         Some(version) if 0 <= version => Ok(format),
         _ => Ok(Format::new()),
@@ -416,14 +442,17 @@ pub(crate) fn format_in(lookup: &Lookup<'_, '_>, common: &[u8]) -> Result<Format
         return Ok(Format::new());
     };
     let file = inside(lookup.alloc, common, b"config")?;
-    Ok(stated(lookup, &file, text)?)
+    match stated(lookup.alloc, &file, text) {
+        Ok(format) => Ok(format),
+        Err(halt) => Err(halt),
+    }
 }
 
 /// The text of the file of a work tree of its own, if it is read.
 pub(crate) fn own_text<'t>(
     lookup: &Lookup<'_, 't>,
     git_dir: &[u8],
-) -> Result<Option<&'t [u8]>, Stop>
+) -> Result<Option<&'t [u8]>, Pause>
     ensures { MatchResult result
         (λ text. (system : System) → AreTrueIn system lookup.now.facts.now → IfSome text (λ t. MayName system))
         (IsNew lookup.now.folder.now lookup.now.facts.now) }

@@ -7,7 +7,7 @@ ghost use Rattle.config_search.specs.Shown.{IsNew, common_of as common_shown, fo
 ghost use Rattle.config_search.specs.Rule as rule;
 ghost use Rattle.config_search.specs.declared.TheConstants.{LEADS, TEXT, VARIABLE};
 
-use crate::fact::{Lookup, Stop, answer_in, answer_to, is_known, is_word};
+use crate::fact::{Lookup, Pause, answer_in, answer_to, is_known, is_word};
 use crate::name::{folder_of, inside, line};
 use crate::start::has_head;
 use crate::{KIND, LEADS, REAL, TEXT, VARIABLE};
@@ -42,7 +42,7 @@ impl Common {
 }
 
 /// Whether a name in a folder leads to a folder.
-pub(crate) fn has_folder(lookup: &Lookup<'_, '_>, folder: &[u8], name: &[u8]) -> Result<bool, Stop>
+pub(crate) fn has_folder(lookup: &Lookup<'_, '_>, folder: &[u8], name: &[u8]) -> Result<bool, Pause>
     requires { IsNeeded lookup.now.folder.now lookup.now.facts.now LEADS (inside folder.now name.now) }
     ensures { MatchResult result
         (λ has. (system : System) → AreTrueIn system lookup.now.facts.now
@@ -53,7 +53,7 @@ pub(crate) fn has_folder(lookup: &Lookup<'_, '_>, folder: &[u8], name: &[u8]) ->
 }
 
 /// Whether there is a folder of this name, or one in which it may be.
-fn may_be_folder(lookup: &Lookup<'_, '_>, name: &[u8]) -> Result<bool, Stop>
+fn may_be_folder(lookup: &Lookup<'_, '_>, name: &[u8]) -> Result<bool, Pause>
     requires { IsPlace lookup.now.folder.now lookup.now.facts.now name.now }
     ensures { MatchResult result
         (λ may. (system : System) → AreTrueIn system lookup.now.facts.now
@@ -67,7 +67,7 @@ fn may_be_folder(lookup: &Lookup<'_, '_>, name: &[u8]) -> Result<bool, Stop>
 }
 
 /// What a text of the file commondir names.
-fn linked_by(lookup: &Lookup<'_, '_>, git_dir: &[u8], text: Option<&[u8]>) -> Result<Common, Stop>
+fn linked_by(lookup: &Lookup<'_, '_>, git_dir: &[u8], text: Option<&[u8]>) -> Result<Common, Pause>
     requires place { IsPlace lookup.now.folder.now lookup.now.facts.now git_dir.now }
     requires answer_to { (system : System) → AreTrueIn system lookup.now.facts.now → option_copied text ≡ system TEXT (inside git_dir.now (codes "commondir")) }
     ensures { MatchResult result
@@ -89,7 +89,7 @@ fn linked_by(lookup: &Lookup<'_, '_>, git_dir: &[u8], text: Option<&[u8]>) -> Re
 }
 
 /// What the file commondir of a git directory names.
-pub(crate) fn linked_folder(lookup: &Lookup<'_, '_>, git_dir: &[u8]) -> Result<Common, Stop>
+pub(crate) fn linked_folder(lookup: &Lookup<'_, '_>, git_dir: &[u8]) -> Result<Common, Pause>
     requires { IsPlace lookup.now.folder.now lookup.now.facts.now git_dir.now }
     ensures { MatchResult result
         (λ common. (system : System) → AreTrueIn system lookup.now.facts.now
@@ -119,7 +119,7 @@ pub(crate) fn common_of(
     lookup: &Lookup<'_, '_>,
     start: &[u8],
     git_dir: &[u8],
-) -> Result<Common, Stop>
+) -> Result<Common, Pause>
     requires start_place { IsPlace lookup.now.folder.now lookup.now.facts.now start.now }
     requires place { IsPlace lookup.now.folder.now lookup.now.facts.now git_dir.now }
     ensures { MatchResult result
@@ -139,7 +139,7 @@ fn has_objects_by(
     start: &[u8],
     folder: &[u8],
     given: Option<&[u8]>,
-) -> Result<bool, Stop>
+) -> Result<bool, Pause>
     requires start_place { IsPlace lookup.now.folder.now lookup.now.facts.now start.now }
     requires place { IsPlace lookup.now.folder.now lookup.now.facts.now folder.now }
     requires answer_to { (system : System) → AreTrueIn system lookup.now.facts.now → option_copied given ≡ system VARIABLE (codes "GIT_OBJECT_DIRECTORY") }
@@ -156,7 +156,7 @@ fn has_objects_by(
 }
 
 /// Whether there are objects, and refs in a folder.
-fn has_folders(lookup: &Lookup<'_, '_>, start: &[u8], folder: &[u8]) -> Result<bool, Stop>
+fn has_folders(lookup: &Lookup<'_, '_>, start: &[u8], folder: &[u8]) -> Result<bool, Pause>
     requires start_place { IsPlace lookup.now.folder.now lookup.now.facts.now start.now }
     requires place { IsPlace lookup.now.folder.now lookup.now.facts.now folder.now }
     ensures { MatchResult result
@@ -177,7 +177,7 @@ fn shares(
     start: &[u8],
     folder: &[u8],
     common: &Common,
-) -> Result<bool, Stop>
+) -> Result<bool, Pause>
     requires start_place { IsPlace lookup.now.folder.now lookup.now.facts.now start.now }
     requires place { IsPlace lookup.now.folder.now lookup.now.facts.now folder.now }
     requires answer_to { (system : System) → AreTrueIn system lookup.now.facts.now → common_shown common.now ≡ rule.common_of system start.now folder.now }
@@ -196,7 +196,11 @@ fn shares(
 /// Whether this folder is a git directory: its HEAD is Git's, there are objects, and what it shares has refs. One whose
 /// file commondir names no folder counts, and Git stops there. A search begins in the folder `start`.
 #[tactic(auto, unfolding(crate::specs::Rule::is_git_dir))]
-pub(crate) fn is_git_dir(lookup: &Lookup<'_, '_>, start: &[u8], folder: &[u8]) -> Result<bool, Stop>
+pub(crate) fn is_git_dir(
+    lookup: &Lookup<'_, '_>,
+    start: &[u8],
+    folder: &[u8],
+) -> Result<bool, Pause>
     requires start_place { IsPlace lookup.now.folder.now lookup.now.facts.now start.now }
     requires place { IsPlace lookup.now.folder.now lookup.now.facts.now folder.now }
     ensures { MatchResult result
@@ -212,7 +216,7 @@ pub(crate) fn is_git_dir(lookup: &Lookup<'_, '_>, start: &[u8], folder: &[u8]) -
 }
 
 /// A name from the root without links, or the name itself if the system knows none.
-pub(crate) fn resolved(lookup: &Lookup<'_, '_>, name: &[u8]) -> Result<Vec<u8>, Stop>
+pub(crate) fn resolved(lookup: &Lookup<'_, '_>, name: &[u8]) -> Result<Vec<u8>, Pause>
     ensures { MatchResult result
         (λ real. (system : System) → AreTrueIn system lookup.now.facts.now
         → real.items ≡ rule.resolved system name.now)
@@ -249,7 +253,7 @@ fn may_link(kind: Option<&[u8]>) -> bool
 }
 
 /// The name to which the line `gitdir: ..` of the file of this name leads, or `None` if it leads to none.
-pub(crate) fn linked(lookup: &Lookup<'_, '_>, name: &[u8]) -> Result<Option<Vec<u8>>, Stop>
+pub(crate) fn linked(lookup: &Lookup<'_, '_>, name: &[u8]) -> Result<Option<Vec<u8>>, Pause>
     requires { IsPlace lookup.now.folder.now lookup.now.facts.now name.now }
     ensures { MatchResult result
         (λ found. (system : System) → AreTrueIn system lookup.now.facts.now

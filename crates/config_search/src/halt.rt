@@ -1,52 +1,46 @@
 //! Why the part of a search that reads settings stops.
 ghost use Rattle.config_search.specs.Shown.{AsksNothing};
 ghost use Rattle.std.specs.Prelude.{◌≡◌, IfOk};
-ghost use Rattle.config_search.specs.declared.fact.Stop.TheVariants.{Memory};
-ghost use Rattle.config_search.specs.declared.halt.Halt.TheVariants.{Stopped};
+ghost use Rattle.config_search.specs.declared.fact.Pause.TheVariants.{Memory};
+ghost use Rattle.config_search.specs.declared.halt.Halt.TheVariants.{Pauses};
 
-use crate::answer::{Fault, FaultKind};
-use crate::fact::Stop;
+use crate::fact::Pause;
+use config_file::Stop;
 use std::alloc::{AllocError, Global};
 
 /// Why it stops before its end.
 #[derive(Drop)]
 pub(crate) enum Halt {
     /// It needs a fact, or memory.
-    Stopped(Stop),
+    Pauses(Pause),
     /// Git stops here.
-    Fault(Fault),
+    Stops(Stop<Vec<u8>>),
 }
 
-impl From<Stop> for Halt {
-    ghost from_gives = { λ stop halt. halt ≡ Stopped stop };
+impl From<Pause> for Halt {
+    ghost from_gives = { λ pause halt. halt ≡ Pauses pause };
 
-    fn from(stop: Stop) -> Halt {
-        Halt::Stopped(stop)
+    fn from(pause: Pause) -> Halt {
+        Halt::Pauses(pause)
     }
 }
 
 impl From<AllocError> for Halt {
-    ghost from_gives = { λ error halt. halt ≡ Stopped (Memory error) };
+    ghost from_gives = { λ error halt. halt ≡ Pauses (Memory error) };
 
     fn from(error: AllocError) -> Halt {
-        Halt::Stopped(Stop::Memory(error))
+        Halt::Pauses(Pause::Memory(error))
     }
 }
 
-/// A fault of a file on a line, or on none if that is 0, with its reason.
-pub(crate) fn fault(
-    alloc: Global,
-    kind: FaultKind,
-    file: &[u8],
-    line: usize,
-    reason: &[u8],
-) -> Result<Halt, AllocError>
+/// Git stops here, for this reason.
+pub(crate) fn stop(alloc: Global, at: Stop<&[u8]>) -> Result<Halt, AllocError>
     ensures { IfOk result AsksNothing }
 {
-    Ok(Halt::Fault(Fault {
-        kind,
-        file: file.to_vec(alloc)?,
-        line,
-        reason: reason.to_vec(alloc)?,
+    Ok(Halt::Stops(Stop {
+        file: at.file.to_vec(alloc)?,
+        line: at.line,
+        why: at.why,
+        words: at.words.to_vec(alloc)?,
     }))
 }

@@ -3,7 +3,7 @@ ghost use Rattle.std.specs.Prelude.{◌≡◌, true, IfErr, MatchResult};
 ghost use Rattle.config_search.specs.Questions.{IsKept, IsPlace, StaysBelow};
 ghost use Rattle.config_search.specs.Shown.{IsNew, IsStore};
 
-use crate::fact::{Lookup, Stop, answer_in};
+use crate::fact::{Lookup, Pause, answer_in};
 use crate::format::Store;
 use crate::git_dir::{Common, linked_folder};
 use crate::name::{before_nul, inside, last_part};
@@ -77,7 +77,7 @@ fn reference_in(text: &[u8]) -> Reference<'_> {
 }
 
 /// The reference that is kept in the file of this name in a folder, to which a link may lead.
-fn text_at<'t>(lookup: &Lookup<'_, 't>, folder: &[u8], name: &[u8]) -> Result<Reference<'t>, Stop>
+fn text_at<'t>(lookup: &Lookup<'_, 't>, folder: &[u8], name: &[u8]) -> Result<Reference<'t>, Pause>
     requires kept { IsKept lookup.now.folder.now lookup.now.facts.now folder.now }
     requires named { StaysBelow name.now }
     ensures { IfErr result (IsNew lookup.now.folder.now lookup.now.facts.now) }
@@ -89,7 +89,11 @@ fn text_at<'t>(lookup: &Lookup<'_, 't>, folder: &[u8], name: &[u8]) -> Result<Re
 }
 
 /// The reference that is kept where this link leads.
-fn linked_at<'t>(lookup: &Lookup<'_, 't>, folder: &[u8], name: &[u8]) -> Result<Reference<'t>, Stop>
+fn linked_at<'t>(
+    lookup: &Lookup<'_, 't>,
+    folder: &[u8],
+    name: &[u8],
+) -> Result<Reference<'t>, Pause>
     requires kept { IsKept lookup.now.folder.now lookup.now.facts.now folder.now }
     requires named { StaysBelow name.now }
     ensures { IfErr result (IsNew lookup.now.folder.now lookup.now.facts.now) }
@@ -110,7 +114,7 @@ fn reference_at<'t>(
     lookup: &Lookup<'_, 't>,
     folder: &[u8],
     name: &[u8],
-) -> Result<Reference<'t>, Stop>
+) -> Result<Reference<'t>, Pause>
     requires kept { IsKept lookup.now.folder.now lookup.now.facts.now folder.now }
     requires named { StaysBelow name.now }
     ensures { IfErr result (IsNew lookup.now.folder.now lookup.now.facts.now) }
@@ -153,7 +157,11 @@ fn references_in(
 }
 
 /// Where a git directory keeps references.
-fn references_of(lookup: &Lookup<'_, '_>, git_dir: &[u8], store: &Store) -> Result<References, Stop>
+fn references_of(
+    lookup: &Lookup<'_, '_>,
+    git_dir: &[u8],
+    store: &Store,
+) -> Result<References, Pause>
     requires place { IsPlace lookup.now.folder.now lookup.now.facts.now git_dir.now }
     requires stored { IsStore lookup.now.facts.now store.now }
     ensures { MatchResult result (λ references. IsKept lookup.now.folder.now lookup.now.facts.now references.own.items
@@ -173,7 +181,7 @@ fn references_of(lookup: &Lookup<'_, '_>, git_dir: &[u8], store: &Store) -> Resu
 
 impl References {
     /// The reference of this name.
-    fn get<'t>(&self, lookup: &Lookup<'_, 't>, name: &[u8]) -> Result<Reference<'t>, Stop>
+    fn get<'t>(&self, lookup: &Lookup<'_, 't>, name: &[u8]) -> Result<Reference<'t>, Pause>
         requires own { IsKept lookup.now.folder.now lookup.now.facts.now self.now.own.items }
         requires shared { IsKept lookup.now.folder.now lookup.now.facts.now self.now.shared.items }
         requires named { StaysBelow name.now }
@@ -199,7 +207,7 @@ pub(crate) fn branch_of<'t>(
     lookup: &Lookup<'_, 't>,
     git_dir: &[u8],
     store: &Store,
-) -> Result<Option<&'t [u8]>, Stop>
+) -> Result<Option<&'t [u8]>, Pause>
     requires place { IsPlace lookup.now.folder.now lookup.now.facts.now git_dir.now }
     requires stored { IsStore lookup.now.facts.now store.now }
     ensures { IfErr result (IsNew lookup.now.folder.now lookup.now.facts.now) }

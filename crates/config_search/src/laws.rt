@@ -6,13 +6,11 @@ ghost use Rattle.config_search.specs.Search.{Inside, Nowhere, Refused, Seeks};
 ghost use Rattle.config_search.specs.Layouts.{current, file, folder, found, git_dir, git_dir_with, knows, told, variable};
 ghost use Rattle.config_search.specs.declared.TheConstants.{DEVICE};
 
-use crate::answer::FaultKind;
 use crate::fact::Fact;
 
-/// A clone is the same, and never fails.
+/// A clone of a fact is the same, and never fails.
 pub fn copies()
-    ensures facts { IsCopied ⟦<Fact<'static> as Clone>⟧.is_clone ⟦<Fact<'static> as Clone>⟧.is_infallible }
-    ensures faults { IsCopied ⟦<FaultKind as Clone>⟧.is_clone ⟦<FaultKind as Clone>⟧.is_infallible }
+    ensures { IsCopied ⟦<Fact<'static> as Clone>⟧.is_clone ⟦<Fact<'static> as Clone>⟧.is_infallible }
 {}
 
 /// What the rule finds in small systems, and Git in folders that answer the same.

@@ -2,7 +2,7 @@
 //!
 //! A [`Search`] in a folder ends with an [`Answer`]: where Git works, the repository that it uses or why it uses none,
 //! the files that it reads, and the file of each scope. If it needs what no fact tells, it stops with that question as
-//! [`Stop::Ask`]. The caller tells the answer as a [`Fact`], and the search goes on where it was, since it keeps what it
+//! [`Pause::Ask`]. The caller tells the answer as a [`Fact`], and the search goes on where it was, since it keeps what it
 //! has found. He may also tell what was not asked yet. No question is asked again that a fact answers, so a loop over
 //! questions ends where a system ends: a folder has so many above it, and files include each other at most ten deep.
 //!
@@ -52,8 +52,8 @@ mod sources;
 mod stages;
 mod start;
 
-pub use crate::answer::{Answer, Fault, FaultKind, Named, Outcome, Refusal, Repository};
-pub use crate::fact::{Fact, Question, Stop};
+pub use crate::answer::{Answer, Named, Outcome, Refusal, Repository};
+pub use crate::fact::{Fact, Pause, Question};
 pub use crate::stages::Search;
 
 /// Asks for the value of a variable.

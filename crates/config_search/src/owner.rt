@@ -15,20 +15,20 @@ ghost use Rattle.config_search.specs.Shown.{AsksNothing, IsNew, IsNewHalt, IsSaf
 ghost use Rattle.config_file.specs.KeyView.{key_of};
 ghost use Rattle.config_search.specs.Questions.{IsPlace};
 
-use crate::answer::{FaultKind, Refusal};
-use crate::fact::{Lookup, Stop, answer_to, is_word};
-use crate::halt::{Halt, fault};
+use crate::answer::Refusal;
+use crate::fact::{Lookup, Pause, answer_to, is_word};
+use crate::halt::{Halt, stop};
 use crate::name::{after, before, inside, joined, opened};
 use crate::seek::{Folder, Form, GitDir, is_on, is_same};
 use crate::{HOME, OWNER, REAL, USER, VARIABLE};
 use bstr::ByteSlice;
 use config_file::path::expand;
-use config_file::{Directories, Key, Setting, Settings};
+use config_file::{Directories, Key, Setting, Settings, Stop, Why};
 use std::alloc::{AllocError, Global};
 
 /// Whether the file of this name, which may be a link, belongs to the user. To root it also belongs if its owner became
 /// root by sudo.
-fn is_owned(lookup: &Lookup<'_, '_>, name: &[u8]) -> Result<bool, Stop>
+fn is_owned(lookup: &Lookup<'_, '_>, name: &[u8]) -> Result<bool, Pause>
     requires { IsPlace lookup.now.folder.now lookup.now.facts.now name.now }
     ensures { MatchResult result
         (λ is. (system : System) → AreTrueIn system lookup.now.facts.now → is ≡ rule.is_owned system name.now)
@@ -46,7 +46,7 @@ fn is_owned(lookup: &Lookup<'_, '_>, name: &[u8]) -> Result<bool, Stop>
 }
 
 /// Whether `.git` of a folder, the folder and the git directory belong to the user.
-fn are_owned_below(lookup: &Lookup<'_, '_>, folder: &[u8], name: &[u8]) -> Result<bool, Stop>
+fn are_owned_below(lookup: &Lookup<'_, '_>, folder: &[u8], name: &[u8]) -> Result<bool, Pause>
     requires place { IsPlace lookup.now.folder.now lookup.now.facts.now folder.now }
     requires git_dir_place { IsPlace lookup.now.folder.now lookup.now.facts.now name.now }
     ensures { MatchResult result
@@ -65,7 +65,7 @@ fn are_owned_below(lookup: &Lookup<'_, '_>, folder: &[u8], name: &[u8]) -> Resul
 }
 
 /// Whether all files that have to belong to the user do.
-fn are_owned(lookup: &Lookup<'_, '_>, folder: &[u8], git_dir: &GitDir) -> Result<bool, Stop>
+fn are_owned(lookup: &Lookup<'_, '_>, folder: &[u8], git_dir: &GitDir) -> Result<bool, Pause>
     requires place { IsPlace lookup.now.folder.now lookup.now.facts.now folder.now }
     requires git_dir_place { IsPlace lookup.now.folder.now lookup.now.facts.now git_dir.now.name.items }
     ensures { MatchResult result
@@ -81,7 +81,11 @@ fn are_owned(lookup: &Lookup<'_, '_>, folder: &[u8], git_dir: &GitDir) -> Result
 }
 
 /// Whether the git directory of a folder is the user's own. A variable may say that it is not, which Git has for tests.
-pub(crate) fn is_own(lookup: &Lookup<'_, '_>, folder: &[u8], git_dir: &GitDir) -> Result<bool, Stop>
+pub(crate) fn is_own(
+    lookup: &Lookup<'_, '_>,
+    folder: &[u8],
+    git_dir: &GitDir,
+) -> Result<bool, Pause>
     requires place { IsPlace lookup.now.folder.now lookup.now.facts.now folder.now }
     requires git_dir_place { IsPlace lookup.now.folder.now lookup.now.facts.now git_dir.now.name.items }
     ensures { MatchResult result
@@ -109,7 +113,7 @@ fn first_length(name: &[u8]) -> usize
 
 /// The path that a value of `safe.directory` spells below the home folder of another user, if it begins with one that
 /// the system knows.
-fn of_user(lookup: &Lookup<'_, '_>, value: &[u8]) -> Result<Option<Vec<u8>>, Stop>
+fn of_user(lookup: &Lookup<'_, '_>, value: &[u8]) -> Result<Option<Vec<u8>>, Pause>
     ensures { MatchResult result
         (λ found. (system : System) → AreTrueIn system lookup.now.facts.now
         → MatchOption found ((path : List ℕ) → ¬ (trust.SpellsOther system value.now path))
@@ -130,7 +134,7 @@ fn of_user(lookup: &Lookup<'_, '_>, value: &[u8]) -> Result<Option<Vec<u8>>, Sto
 }
 
 /// The path that a value of `safe.directory` spells, or `None` if it begins with a folder that is not known.
-fn spelled(lookup: &Lookup<'_, '_>, value: &[u8]) -> Result<Option<Vec<u8>>, Stop>
+fn spelled(lookup: &Lookup<'_, '_>, value: &[u8]) -> Result<Option<Vec<u8>>, Pause>
     ensures { MatchResult result
         (λ found. (system : System) → AreTrueIn system lookup.now.facts.now
         → MatchOption found ((path : List ℕ) → ¬ (trust.Spells system value.now path))
@@ -172,7 +176,7 @@ fn is_below(top: &[u8], folder: &[u8]) -> bool
 }
 
 /// Whether the folder is below the one of this name, of which an empty one is the root.
-fn is_above(lookup: &Lookup<'_, '_>, name: &[u8], folder: &[u8]) -> Result<bool, Stop>
+fn is_above(lookup: &Lookup<'_, '_>, name: &[u8], folder: &[u8]) -> Result<bool, Pause>
     ensures { MatchResult result
         (λ is. (system : System) → AreTrueIn system lookup.now.facts.now
         → Decides is (trust.IsAbove system name.now folder.now))
@@ -186,7 +190,7 @@ fn is_above(lookup: &Lookup<'_, '_>, name: &[u8], folder: &[u8]) -> Result<bool,
 }
 
 /// Whether a path from the root is that of a folder, or is one above it that ends with `/*`.
-fn covers(lookup: &Lookup<'_, '_>, path: &[u8], folder: &[u8]) -> Result<bool, Stop>
+fn covers(lookup: &Lookup<'_, '_>, path: &[u8], folder: &[u8]) -> Result<bool, Pause>
     ensures { MatchResult result
         (λ is. (system : System) → AreTrueIn system lookup.now.facts.now
         → Decides is (trust.Covers system path.now folder.now))
@@ -208,7 +212,7 @@ fn names_folder(
     start: &[u8],
     value: &[u8],
     folder: &[u8],
-) -> Result<bool, Stop>
+) -> Result<bool, Pause>
     ensures { MatchResult result
         (λ is. (system : System) → AreTrueIn system lookup.now.facts.now
         → Decides is (trust.NamesFolder system start.now value.now folder.now))
@@ -256,7 +260,7 @@ fn is_safe_after(
     key: &Key<'_>,
     setting: &Setting<'_>,
     was_safe: bool,
-) -> Result<bool, Stop>
+) -> Result<bool, Pause>
     ensures asks { IfErr result (IsNew lookup.now.folder.now lookup.now.facts.now) }
     ensures safe { (text : List ℕ)
         → IsListed (entry_of setting.now.entry).section (entry_of setting.now.entry).key text → IfOk result
@@ -271,6 +275,29 @@ fn is_safe_after(
         return Ok(true);
     }
     Ok(names_folder(lookup, start, value, folder)?)
+}
+
+/// Stops where Git does at a setting of this key: at a home folder that is not known, also if a value before it names the
+/// folder.
+fn check_home(lookup: &Lookup<'_, '_>, key: &Key<'_>, setting: &Setting<'_>) -> Result<(), Halt>
+    ensures { IfErr result (IsNewHalt lookup.now.folder.now lookup.now.facts.now) }
+{
+    let value = text_of(setting);
+    if !value.starts_with(b"~") || !key.is_of(&setting.entry) {
+        return Ok(());
+    }
+    if spelled(lookup, value)?.is_some() {
+        return Ok(());
+    }
+    let front = b"failed to expand user dir in: '";
+    let words = joined(lookup.alloc, front, value, b"'")?;
+    let at = Stop {
+        file: setting.file,
+        line: setting.entry.line,
+        why: Why::BadFormat,
+        words: words.as_slice(),
+    };
+    Err(stop(lookup.alloc, at)?)
 }
 
 /// Settings of which the first are looked through for those that name a folder as safe.
@@ -312,19 +339,20 @@ impl<'t> Naming<'t> {
     }
 
     /// Looks through the next setting. It stays the same where this fails.
-    pub fn look_at_next(&mut self, lookup: &Lookup<'_, 't>, start: &[u8]) -> Result<(), Stop>
+    pub fn look_at_next(&mut self, lookup: &Lookup<'_, 't>, start: &[u8]) -> Result<(), Halt>
         ensures safe { (system : System) → AreTrueIn system lookup.now.facts.now
             → AreListed self.old.settings.entries.items
             → IsNamedSafe system start.now self.old → IsNamedSafe system start.now self.new }
         ensures same { (self.new.settings ≡ self.old.settings) × (self.new.folder ≡ self.old.folder) }
-        ensures asks { IfErr result (IsNew lookup.now.folder.now lookup.now.facts.now) }
+        ensures asks { IfErr result (IsNewHalt lookup.now.folder.now lookup.now.facts.now) }
     {
         let Some(setting) = self.settings.entries.get(self.done) else {
             return Ok(());
         };
         let Ok(key) = Key::parse(b"safe.directory") else {
-            return Err(Stop::Memory(AllocError));
+            return Err(Halt::from(AllocError));
         };
+        check_home(lookup, &key, setting)?;
         let is_safe = is_safe_after(lookup, start, self.folder, &key, setting, self.is_safe)?;
         self.is_safe = is_safe;
         self.done = self.done.saturating_add(1);
@@ -340,9 +368,13 @@ fn allows_bare(alloc: Global, setting: &Setting<'_>) -> Result<bool, Halt>
         Some(b"explicit") => Ok(false),
         Some(b"all") => Ok(true),
         _ => {
-            let why = b"safe.barerepository: neither 'all' nor 'explicit'";
-            let (file, line) = (setting.file, setting.entry.line);
-            Err(fault(alloc, FaultKind::Value, file, line, why)?)
+            let at = Stop {
+                file: setting.file,
+                line: setting.entry.line,
+                why: Why::BadFormat,
+                words: b"safe.barerepository: neither 'all' nor 'explicit'",
+            };
+            Err(stop(alloc, at)?)
         }
     }
 }
@@ -399,7 +431,7 @@ pub(crate) fn is_weighed(
     lookup: &Lookup<'_, '_>,
     folder: &[u8],
     git_dir: &GitDir,
-) -> Result<bool, Stop>
+) -> Result<bool, Pause>
     requires place { IsPlace lookup.now.folder.now lookup.now.facts.now folder.now }
     requires git_dir_place { IsPlace lookup.now.folder.now lookup.now.facts.now git_dir.now.name.items }
     ensures { MatchResult result

@@ -10,16 +10,17 @@ ghost use Rattle.config_search.specs.Answers as answers;
 ghost use Rattle.config_search.specs.Trust.{IsTrusted};
 ghost use Rattle.config_search.specs.declared.TheConstants.{REAL, VARIABLE};
 
-use crate::answer::{Fault, FaultKind, Named, Outcome, Repository};
-use crate::fact::{Lookup, Stop, answer_to};
+use crate::answer::{Named, Outcome, Repository};
+use crate::fact::{Lookup, Pause, answer_to};
 use crate::files::{protected_files, push_repository, scope_files};
 use crate::format::{Format, Store};
 use crate::git_dir::{Common, common_of, resolved};
-use crate::halt::{Halt, fault};
+use crate::halt::{Halt, stop};
 use crate::head::branch_of;
 use crate::name::{inside, opened};
 use crate::seek::{Folder, Form, GitDir};
 use crate::{REAL, VARIABLE};
+use config_file::{Stop, Why};
 use config_text::readers::TryRead;
 use gix_config_value::Boolean;
 use std::alloc::{AllocError, Global};
@@ -38,7 +39,13 @@ pub(crate) struct Site<'t> {
 fn of_variable(alloc: Global, name: &[u8], why: &[u8]) -> Result<Halt, AllocError>
     ensures { IfOk result AsksNothing }
 {
-    fault(alloc, FaultKind::Value, name, 0, why)
+    let at = Stop {
+        file: name,
+        line: 0,
+        why: Why::BadFormat,
+        words: why,
+    };
+    stop(alloc, at)
 }
 
 /// Whether a variable has a boolean text, if it is set.
@@ -112,7 +119,7 @@ fn is_below(folder: &[u8], top: &[u8]) -> bool {
 
 /// The name of a git directory in the folder in which Git starts: the same as in the folder in which it is found, if
 /// that is this one, and otherwise its path.
-fn name_here(lookup: &Lookup<'_, '_>, site: &Site<'_>) -> Result<Vec<u8>, Stop>
+fn name_here(lookup: &Lookup<'_, '_>, site: &Site<'_>) -> Result<Vec<u8>, Pause>
     ensures { MatchResult result
         (λ name. (system : System) → AreTrueIn system lookup.now.facts.now
         → answers.IsNamed system (git_dir_of site.now.git_dir) name.items)
@@ -147,7 +154,7 @@ impl WorkFolder {
 
 /// The folder in which Git works where a work tree is named: its top if Git starts below it, and otherwise where it
 /// starts.
-fn named_folder(lookup: &Lookup<'_, '_>, site: &Site<'_>, top: &[u8]) -> Result<WorkFolder, Stop>
+fn named_folder(lookup: &Lookup<'_, '_>, site: &Site<'_>, top: &[u8]) -> Result<WorkFolder, Pause>
     ensures { MatchResult result
         (λ place. (system : System) → AreTrueIn system lookup.now.facts.now
         → answers.IsNamed system (git_dir_of site.now.git_dir) place.named_dir.items)
@@ -169,7 +176,11 @@ fn named_folder(lookup: &Lookup<'_, '_>, site: &Site<'_>, top: &[u8]) -> Result<
 
 /// The folder in which Git works where no work tree is named: that in which `.git` is found, and otherwise where it
 /// starts.
-fn plain_folder(lookup: &Lookup<'_, '_>, site: &Site<'_>, is_bare: bool) -> Result<WorkFolder, Stop>
+fn plain_folder(
+    lookup: &Lookup<'_, '_>,
+    site: &Site<'_>,
+    is_bare: bool,
+) -> Result<WorkFolder, Pause>
     ensures { MatchResult result
         (λ place. (system : System) → AreTrueIn system lookup.now.facts.now
         → answers.IsNamed system (git_dir_of site.now.git_dir) place.named_dir.items)
@@ -201,7 +212,7 @@ fn work_folder(
 }
 
 /// A name without links, or what GIT_COMMON_DIR gives in its place.
-fn given_or_resolved(lookup: &Lookup<'_, '_>, folder: &[u8]) -> Result<Vec<u8>, Stop>
+fn given_or_resolved(lookup: &Lookup<'_, '_>, folder: &[u8]) -> Result<Vec<u8>, Pause>
     ensures { MatchResult result
         (λ name. (system : System) → AreTrueIn system lookup.now.facts.now
         → name.items ≡ answers.shown_linked system folder.now)
@@ -214,7 +225,11 @@ fn given_or_resolved(lookup: &Lookup<'_, '_>, folder: &[u8]) -> Result<Vec<u8>, 
 }
 
 /// The name of the folder that work trees share, as Git shows it.
-fn shown_common(lookup: &Lookup<'_, '_>, common: &Common, named_dir: &[u8]) -> Result<Vec<u8>, Stop>
+fn shown_common(
+    lookup: &Lookup<'_, '_>,
+    common: &Common,
+    named_dir: &[u8],
+) -> Result<Vec<u8>, Pause>
     ensures { MatchResult result
         (λ name. (system : System) → AreTrueIn system lookup.now.facts.now
         → name.items ≡ answers.shown_common system named_dir.now (common_shown common.now))
@@ -227,7 +242,7 @@ fn shown_common(lookup: &Lookup<'_, '_>, common: &Common, named_dir: &[u8]) -> R
 }
 
 /// A name from the root without links, or the other name if the system knows none.
-fn real_or(lookup: &Lookup<'_, '_>, name: &[u8], other: &[u8]) -> Result<Vec<u8>, Stop>
+fn real_or(lookup: &Lookup<'_, '_>, name: &[u8], other: &[u8]) -> Result<Vec<u8>, Pause>
     ensures { MatchResult result
         (λ real. (system : System) → AreTrueIn system lookup.now.facts.now
         → real.items ≡ rule.or_itself other.now (system REAL name.now))
@@ -244,7 +259,7 @@ fn branch_in(
     lookup: &Lookup<'_, '_>,
     git_dir: &[u8],
     store: &Store,
-) -> Result<Option<Vec<u8>>, Stop>
+) -> Result<Option<Vec<u8>>, Pause>
     requires place { IsPlace lookup.now.folder.now lookup.now.facts.now git_dir.now }
     requires stored { IsStore lookup.now.facts.now store.now }
     ensures { IfErr result (IsNew lookup.now.folder.now lookup.now.facts.now) }
@@ -261,7 +276,7 @@ fn repository_in(
     site: &Site<'_>,
     place: &WorkFolder,
     format: &Format,
-) -> Result<Repository, Stop>
+) -> Result<Repository, Pause>
     requires place { IsPlace lookup.now.folder.now lookup.now.facts.now site.now.git_dir.name.items }
     requires stored { IsStore lookup.now.facts.now format.now.store }
     ensures { MatchResult result
@@ -343,8 +358,13 @@ pub(crate) fn site_of<'t>(
     let common = common_of(lookup, folder.name, &git_dir.name)?;
     if matches!(common, Common::Broken) {
         let file = inside(lookup.alloc, &git_dir.name, b"commondir")?;
-        let why = b"no name of a folder";
-        return Err(fault(lookup.alloc, FaultKind::Value, &file, 0, why)?);
+        let at = Stop {
+            file: file.as_slice(),
+            line: 0,
+            why: Why::BadFormat,
+            words: b"no name of a folder",
+        };
+        return Err(stop(lookup.alloc, at)?);
     }
     Ok(Site {
         start,
@@ -367,7 +387,7 @@ fn push_used(alloc: Global, names: &mut Vec<Named>, outcome: &Outcome) -> Result
 }
 
 /// The files that Git reads where it does this.
-fn files_of(lookup: &Lookup<'_, '_>, outcome: &Outcome) -> Result<Vec<Named>, Stop>
+fn files_of(lookup: &Lookup<'_, '_>, outcome: &Outcome) -> Result<Vec<Named>, Pause>
     ensures { MatchResult result
         (λ names. (system : System) → AreTrueIn system lookup.now.facts.now
         → files.AreFiles system (answers.files_of outcome.now) (map file_of names.items))
@@ -379,7 +399,7 @@ fn files_of(lookup: &Lookup<'_, '_>, outcome: &Outcome) -> Result<Vec<Named>, St
 }
 
 /// The file of each scope in this place.
-fn files_of_scopes(lookup: &Lookup<'_, '_>, place: &Place) -> Result<Vec<Named>, Stop>
+fn files_of_scopes(lookup: &Lookup<'_, '_>, place: &Place) -> Result<Vec<Named>, Pause>
     ensures { MatchResult result
         (λ names. (system : System) → AreTrueIn system lookup.now.facts.now
         → map file_of names.items
@@ -399,7 +419,7 @@ pub(crate) struct Lists {
 }
 
 /// The lists of this place.
-pub(crate) fn lists_of(lookup: &Lookup<'_, '_>, place: &Place) -> Result<Lists, Stop>
+pub(crate) fn lists_of(lookup: &Lookup<'_, '_>, place: &Place) -> Result<Lists, Pause>
     ensures { MatchResult result
         (λ lists. (system : System) → AreTrueIn system lookup.now.facts.now
         → files.AreOnlyFiles system (answers.files_of place.now.outcome) (map file_of lists.files.items)
@@ -418,11 +438,11 @@ pub(crate) fn nowhere(alloc: Global, folder: &[u8]) -> Result<Place, AllocError>
 {
     Ok(Place {
         folder: folder.to_vec(alloc)?,
-        outcome: Outcome::Stops(Fault {
-            kind: FaultKind::Folder,
+        outcome: Outcome::Stops(Stop {
             file: folder.to_vec(alloc)?,
             line: 0,
-            reason: b"No such file or directory".to_vec(alloc)?,
+            why: Why::NoFolder,
+            words: Why::NoFolder.text().as_bytes().to_vec(alloc)?,
         }),
     })
 }

@@ -10,14 +10,15 @@ ghost use Rattle.config_search.specs.Shown.{IsNewHalt, file_of};
 ghost use Rattle.config_search.specs.declared.TheConstants.{SETTINGS};
 
 use crate::SETTINGS;
-use crate::answer::{FaultKind, Named};
+use crate::answer::Named;
 use crate::fact::{Lookup, answer_of, fact_in};
-use crate::halt::{Halt, fault};
+use crate::halt::{Halt, stop};
 use crate::name::push;
 use crate::reader::{Source, add_source, end_of, refusal_in};
 use crate::sources::{COMMAND, Sources};
 use config_file::{
-    Condition, Directories, Entry, FilePlace, Includes, Known, Scope, Settings, Urls, is_remote_url,
+    Condition, Directories, Entry, FilePlace, Includes, Known, Scope, Settings, Stop, Urls, Why,
+    is_remote_url,
 };
 use std::alloc::{AllocError, Global};
 
@@ -29,7 +30,15 @@ fn check_unread(lookup: &Lookup<'_, '_>, start: &[u8], named: &Named) -> Result<
     match refusal_in(lookup, start, &named.name)? {
         None => Ok(()),
         Some(b"Permission denied") if named.scope == Scope::Global => Ok(()),
-        Some(why) => Err(fault(lookup.alloc, FaultKind::File, &named.name, 0, why)?),
+        Some(words) => {
+            let at = Stop {
+                file: named.name.as_slice(),
+                line: 0,
+                why: Why::Unreadable,
+                words,
+            };
+            Err(stop(lookup.alloc, at)?)
+        }
     }
 }
 

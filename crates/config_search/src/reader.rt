@@ -10,15 +10,13 @@ ghost use Rattle.config_search.specs.Questions.{either};
 ghost use Rattle.config_search.specs.Reading.{IsWithin};
 ghost use Rattle.config_search.specs.Shown.{AsksNothing, IsNew, IsNewHalt};
 
-use crate::answer::FaultKind;
-use crate::fact::{Lookup, Stop, answer_in, answer_of, fact_in};
-use crate::halt::{Halt, fault};
+use crate::fact::{Lookup, Pause, answer_in, answer_of, fact_in};
+use crate::halt::{Halt, stop};
 use crate::name::{joined, push};
 use crate::{INCLUDED, REFUSAL};
 use config_file::entry::EntryForm;
-use config_file::errors::{FileError, FileFault};
 use config_file::{
-    Content, Entry, FilePlace, Include, IncludeFault, Known, Scope, Setting, Settings, Step, Walk,
+    Content, Entry, FilePlace, Include, Known, Scope, Setting, Settings, Step, Stop, Walk, Why,
 };
 use std::alloc::{AllocError, Global};
 
@@ -61,7 +59,7 @@ pub(crate) fn refusal_in<'t>(
     lookup: &Lookup<'_, 't>,
     folder: &[u8],
     name: &[u8],
-) -> Result<Option<&'t [u8]>, Stop>
+) -> Result<Option<&'t [u8]>, Pause>
     ensures { IfErr result (IsNew lookup.now.folder.now lookup.now.facts.now) }
 {
     match answer_in(lookup, REFUSAL, folder, name)? {
@@ -71,7 +69,7 @@ pub(crate) fn refusal_in<'t>(
 }
 
 /// What the file of this name in a folder holds, if an entry includes it.
-fn content_of<'t>(lookup: &Lookup<'_, 't>, folder: &[u8], name: &[u8]) -> Result<Content<'t>, Stop>
+fn content_of<'t>(lookup: &Lookup<'_, 't>, folder: &[u8], name: &[u8]) -> Result<Content<'t>, Pause>
     ensures { MatchResult result
         (λ content. (system : System) → AreTrueIn system lookup.now.facts.now
         → HoldsContent (Holds system folder.now) name.now content)
@@ -91,61 +89,30 @@ fn content_of<'t>(lookup: &Lookup<'_, 't>, folder: &[u8], name: &[u8]) -> Result
     }
 }
 
-/// A line of a file that cannot be read.
-pub(crate) fn at_line(alloc: Global, file: &[u8], error: FileError) -> Result<Halt, AllocError>
-    ensures { IfOk result AsksNothing }
-{
-    let kind = match error.fault {
-        FileFault::BadLine => FaultKind::Line,
-        FileFault::Nul => FaultKind::Nul,
-    };
-    fault(alloc, kind, file, error.line, error.fault.text().as_bytes())
-}
-
-/// Where Git stops at an include in this line of a file.
-fn at_include(
-    alloc: Global,
-    file: &[u8],
-    line: usize,
-    why: IncludeFault<'_>,
-) -> Result<Halt, AllocError>
-    ensures { IfOk result AsksNothing }
-{
-    let kind = match why {
-        IncludeFault::MissingValue => FaultKind::NoValue,
-        IncludeFault::UnknownDirectory => FaultKind::UnknownDirectory,
-        IncludeFault::TooDeep => FaultKind::TooDeep,
-        IncludeFault::ForbiddenUrl => FaultKind::ForbiddenUrl,
-        _ => FaultKind::Unreadable,
-    };
-    fault(alloc, kind, file, line, why.text().as_bytes())
-}
-
 impl Waits<'_> {
     /// Where Git stops, since this is no entry of a file, and the name of what it includes does not begin at the root.
     fn of_no_file(&self, alloc: Global) -> Result<Halt, AllocError>
         ensures { IfOk result AsksNothing }
     {
-        let why = b"relative config includes must come from files";
-        fault(
-            alloc,
-            FaultKind::Relative,
-            self.place.name,
-            self.entry.line,
-            why,
-        )
+        let at = Stop::at(self.place.name, self.entry.line, Why::Relative);
+        stop(alloc, at)
     }
 
     /// Where Git stops, since the file is there, and is not read.
-    fn not_read(&self, lookup: &Lookup<'_, '_>, folder: &[u8]) -> Result<Halt, Stop>
+    fn not_read(&self, lookup: &Lookup<'_, '_>, folder: &[u8]) -> Result<Halt, Pause>
         ensures { MatchResult result AsksNothing (IsNew lookup.now.folder.now lookup.now.facts.now) }
     {
         let alloc = lookup.alloc;
         let why = refusal_in(lookup, folder, &self.name)?.unwrap_or_default();
         let front = joined(alloc, b"cannot read ", &self.name, b": ")?;
-        let reason = joined(alloc, &front, why, b"")?;
-        let (file, line) = (self.place.name, self.entry.line);
-        Ok(fault(alloc, FaultKind::Unreadable, file, line, &reason)?)
+        let words = joined(alloc, &front, why, b"")?;
+        let at = Stop {
+            file: self.place.name,
+            line: self.entry.line,
+            why: Why::Unreadable,
+            words: words.as_slice(),
+        };
+        Ok(stop(alloc, at)?)
     }
 }
 
@@ -184,8 +151,8 @@ impl<'t> Reader<'t> {
             Content::Unreadable(_) => return Err(waits.not_read(lookup, folder)?),
             Content::Text(place, text) => {
                 if !self.walk.enter(place, text) {
-                    let (file, line) = (waits.place.name, waits.entry.line);
-                    return Err(at_include(lookup.alloc, file, line, IncludeFault::TooDeep)?);
+                    let at = Stop::at(waits.place.name, waits.entry.line, Why::TooDeep);
+                    return Err(stop(lookup.alloc, at)?);
                 }
             }
         }
@@ -212,7 +179,9 @@ impl<'t> Reader<'t> {
     {
         let (place, entry, include) = match self.walk.next(alloc, known)? {
             Step::Entry(place, entry, include) => (place, entry, include),
-            Step::Line(place, error) => return Err(at_line(alloc, place.name, error)?),
+            Step::Line(place, error) => {
+                return Err(stop(alloc, Stop::at(place.name, error.line, error.why))?);
+            }
             Step::Ends => return Ok(false),
         };
         let (file, line) = (place.name, entry.line);
@@ -224,11 +193,11 @@ impl<'t> Reader<'t> {
                 self.waits = Some(Waits { place, entry, name });
                 return Ok(true);
             }
-            Include::MissingValue => IncludeFault::MissingValue,
-            Include::UnknownDirectory => IncludeFault::UnknownDirectory,
-            Include::ForbiddenUrl => IncludeFault::ForbiddenUrl,
+            Include::MissingValue => Why::NoValue,
+            Include::UnknownDirectory => Why::UnknownDirectory,
+            Include::ForbiddenUrl => Why::ForbiddenUrl,
         };
-        Err(at_include(alloc, file, line, why)?)
+        Err(stop(alloc, Stop::at(file, line, why))?)
     }
 }
 

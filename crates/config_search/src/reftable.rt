@@ -6,7 +6,7 @@ ghost use Rattle.config_search.specs.Questions.{IsKept, IsNeeded};
 ghost use Rattle.config_search.specs.Shown.{IsNew};
 ghost use Rattle.config_search.specs.declared.TheConstants.{TEXT, BLOCK};
 
-use crate::fact::{Lookup, Stop, answer_in};
+use crate::fact::{Lookup, Pause, answer_in};
 use crate::name::{inside, line};
 use crate::{BLOCK, TEXT};
 use std::alloc::{AllocError, Global};
@@ -126,7 +126,7 @@ fn first_block<'t>(
     folder: &[u8],
     table: &[u8],
     left: usize,
-) -> Result<Option<&'t [u8]>, Stop>
+) -> Result<Option<&'t [u8]>, Pause>
     requires text_of { IsNeeded lookup.now.folder.now lookup.now.facts.now TEXT (inside folder.now table.now) }
     requires block_of { IsNeeded lookup.now.folder.now lookup.now.facts.now BLOCK (inside folder.now table.now) }
     ensures { IfErr result (IsNew lookup.now.folder.now lookup.now.facts.now) }
@@ -151,7 +151,7 @@ fn target_in_table<'t>(
     table: &[u8],
     name: &[u8],
     left: &mut usize,
-) -> Result<Option<Option<&'t [u8]>>, Stop>
+) -> Result<Option<Option<&'t [u8]>>, Pause>
     requires text_of { IsNeeded lookup.now.folder.now lookup.now.facts.now TEXT (inside folder.now table.now) }
     requires block_of { IsNeeded lookup.now.folder.now lookup.now.facts.now BLOCK (inside folder.now table.now) }
     ensures { IfErr result (IsNew lookup.now.folder.now lookup.now.facts.now) }
@@ -172,7 +172,7 @@ pub(crate) fn target_in<'t>(
     lookup: &Lookup<'_, 't>,
     folder: &[u8],
     name: &[u8],
-) -> Result<Option<&'t [u8]>, Stop>
+) -> Result<Option<&'t [u8]>, Pause>
     requires { IsKept lookup.now.folder.now lookup.now.facts.now folder.now }
     ensures { IfErr result (IsNew lookup.now.folder.now lookup.now.facts.now) }
 {

@@ -10,7 +10,7 @@ ghost use Rattle.config_search.specs.Search as search;
 ghost use Rattle.config_search.specs.Names as names;
 ghost use Rattle.config_search.specs.declared.TheConstants.{VARIABLE, DEVICE};
 
-use crate::fact::{Lookup, Stop, answer_in, answer_to, is_known, is_word};
+use crate::fact::{Lookup, Pause, answer_in, answer_to, is_known, is_word};
 use crate::git_dir::{has_folder, is_git_dir, linked};
 use crate::name::{inside, opened, push};
 use crate::{CURRENT, DEVICE, IDENTITY, KIND, REAL, VARIABLE};
@@ -72,7 +72,7 @@ fn is_true(value: Option<&[u8]>) -> bool
 }
 
 /// Whether a variable has a boolean text that is true.
-pub(crate) fn is_on(lookup: &Lookup<'_, '_>, name: &[u8]) -> Result<bool, Stop>
+pub(crate) fn is_on(lookup: &Lookup<'_, '_>, name: &[u8]) -> Result<bool, Pause>
     requires { IsNeeded lookup.now.folder.now lookup.now.facts.now VARIABLE name.now }
     ensures { MatchResult result
         (λ is. (system : System) → AreTrueIn system lookup.now.facts.now
@@ -87,7 +87,7 @@ pub(crate) fn is_on(lookup: &Lookup<'_, '_>, name: &[u8]) -> Result<bool, Stop>
 pub(crate) fn real_folder<'t>(
     lookup: &Lookup<'_, 't>,
     name: &[u8],
-) -> Result<Option<&'t [u8]>, Stop>
+) -> Result<Option<&'t [u8]>, Pause>
     requires { IsPlace lookup.now.folder.now lookup.now.facts.now name.now }
     ensures { MatchResult result
         (λ found. (system : System) → AreTrueIn system lookup.now.facts.now
@@ -114,7 +114,7 @@ pub(crate) fn is_same(first: Option<&[u8]>, second: Option<&[u8]>) -> bool
 }
 
 /// Whether this name begins at the root, and is one of the folder.
-fn is_path_of(lookup: &Lookup<'_, '_>, path: &[u8], folder: &[u8]) -> Result<bool, Stop>
+fn is_path_of(lookup: &Lookup<'_, '_>, path: &[u8], folder: &[u8]) -> Result<bool, Pause>
     requires place { IsPlace lookup.now.folder.now lookup.now.facts.now folder.now }
     requires answer_to { (system : System) → AreTrueIn system lookup.now.facts.now → system VARIABLE (codes "PWD") ≡ Some path.now }
     ensures { MatchResult result
@@ -134,7 +134,7 @@ fn path_by<'t>(
     lookup: &Lookup<'_, 't>,
     name: &[u8],
     given: Option<&'t [u8]>,
-) -> Result<Option<&'t [u8]>, Stop>
+) -> Result<Option<&'t [u8]>, Pause>
     requires place { IsPlace lookup.now.folder.now lookup.now.facts.now name.now }
     requires answer_to { (system : System) → AreTrueIn system lookup.now.facts.now → option_copied given ≡ system VARIABLE (codes "PWD") }
     ensures { MatchResult result
@@ -152,7 +152,7 @@ fn path_by<'t>(
 }
 
 /// The path of a folder: the text of PWD if that is the same folder, and otherwise its path without links.
-fn named_path<'t>(lookup: &Lookup<'_, 't>, name: &[u8]) -> Result<Option<&'t [u8]>, Stop>
+fn named_path<'t>(lookup: &Lookup<'_, 't>, name: &[u8]) -> Result<Option<&'t [u8]>, Pause>
     requires { IsPlace lookup.now.folder.now lookup.now.facts.now name.now }
     ensures { MatchResult result
         (λ path. (system : System) → AreTrueIn system lookup.now.facts.now
@@ -171,7 +171,7 @@ fn start_of(name: &[u8]) -> &[u8]
 }
 
 /// The folder about which is asked, or `None` if there is no such folder: an empty name, or `.`, is the current one.
-pub(crate) fn first_folder<'t>(lookup: &Lookup<'_, 't>) -> Result<Option<Folder<'t>>, Stop>
+pub(crate) fn first_folder<'t>(lookup: &Lookup<'_, 't>) -> Result<Option<Folder<'t>>, Pause>
     ensures { MatchResult result
         (λ folder. (system : System) → AreTrueIn system lookup.now.facts.now
         → (option_map (λ f. f.path.now) folder ≡ search.path_of system (search.start_of lookup.now.folder.now))
@@ -191,7 +191,7 @@ fn linked_or(
     name: Vec<u8>,
     named: &[u8],
     form: Form,
-) -> Result<GitDir, Stop>
+) -> Result<GitDir, Pause>
     requires { IsPlace lookup.now.folder.now lookup.now.facts.now name.items }
     ensures { MatchResult result
         (λ found. (system : System) → AreTrueIn system lookup.now.facts.now
@@ -214,7 +214,7 @@ fn linked_or(
 }
 
 /// The git directory of a folder that has the name `.git` there, or that a file of that name links to.
-fn find_below(lookup: &Lookup<'_, '_>, start: &[u8], folder: &[u8]) -> Result<Option<GitDir>, Stop>
+fn find_below(lookup: &Lookup<'_, '_>, start: &[u8], folder: &[u8]) -> Result<Option<GitDir>, Pause>
     requires start_place { IsPlace lookup.now.folder.now lookup.now.facts.now start.now }
     requires place { IsPlace lookup.now.folder.now lookup.now.facts.now folder.now }
     ensures { MatchResult result
@@ -236,7 +236,7 @@ fn find_below(lookup: &Lookup<'_, '_>, start: &[u8], folder: &[u8]) -> Result<Op
 
 /// The git directory that a folder itself is.
 #[tactic(auto, unfolding(crate::specs::Rule::find_bare))]
-fn find_bare(lookup: &Lookup<'_, '_>, start: &[u8], folder: &[u8]) -> Result<Option<GitDir>, Stop>
+fn find_bare(lookup: &Lookup<'_, '_>, start: &[u8], folder: &[u8]) -> Result<Option<GitDir>, Pause>
     requires start_place { IsPlace lookup.now.folder.now lookup.now.facts.now start.now }
     requires place { IsPlace lookup.now.folder.now lookup.now.facts.now folder.now }
     ensures { MatchResult result
@@ -259,7 +259,7 @@ pub(crate) fn find_in(
     lookup: &Lookup<'_, '_>,
     start: &[u8],
     folder: &[u8],
-) -> Result<Option<GitDir>, Stop>
+) -> Result<Option<GitDir>, Pause>
     requires start_place { IsPlace lookup.now.folder.now lookup.now.facts.now start.now }
     requires place { IsPlace lookup.now.folder.now lookup.now.facts.now folder.now }
     ensures { MatchResult result
@@ -289,7 +289,7 @@ fn ceiling<'t>(
     lookup: &Lookup<'_, 't>,
     folder: &'t [u8],
     is_resolved: bool,
-) -> Result<&'t [u8], Stop>
+) -> Result<&'t [u8], Pause>
     ensures { MatchResult result
         (λ at. (system : System) → AreTrueIn system lookup.now.facts.now
         → at.now ≡ search.ceiling system is_resolved folder.now)
@@ -350,7 +350,7 @@ fn device_of<'t>(
     lookup: &Lookup<'_, 't>,
     crosses: bool,
     folder: &[u8],
-) -> Result<Option<&'t [u8]>, Stop>
+) -> Result<Option<&'t [u8]>, Pause>
     requires { IsPlace lookup.now.folder.now lookup.now.facts.now folder.now }
     ensures { MatchResult result
         (λ device. (system : System) → AreTrueIn system lookup.now.facts.now
@@ -379,7 +379,7 @@ pub(crate) struct Limits<'t> {
 
 impl<'t> Limits<'t> {
     /// What the environment says of a search that begins in this folder. No ceiling is looked at.
-    pub fn new(lookup: &Lookup<'_, 't>, folder: &[u8]) -> Result<Limits<'t>, Stop>
+    pub fn new(lookup: &Lookup<'_, 't>, folder: &[u8]) -> Result<Limits<'t>, Pause>
         requires { IsPlace lookup.now.folder.now lookup.now.facts.now folder.now }
         ensures { MatchResult result
             (λ limits. (system : System) → AreTrueIn system lookup.now.facts.now
@@ -409,7 +409,7 @@ impl<'t> Limits<'t> {
     }
 
     /// Looks at the next ceiling. All stays the same where this fails.
-    pub fn push_next(&mut self, lookup: &Lookup<'_, 't>) -> Result<(), Stop>
+    pub fn push_next(&mut self, lookup: &Lookup<'_, 't>) -> Result<(), Pause>
         ensures limits { (system : System) (folder : List ℕ) → AreTrueIn system lookup.now.facts.now
             → AreLimits system folder self.old → AreLimits system folder self.new }
         ensures asks { IfErr result (IsNew lookup.now.folder.now lookup.now.facts.now) }
@@ -427,7 +427,7 @@ impl<'t> Limits<'t> {
     }
 
     /// Whether the search ends before this folder.
-    pub fn end_at(&self, lookup: &Lookup<'_, '_>, folder: &[u8]) -> Result<bool, Stop>
+    pub fn end_at(&self, lookup: &Lookup<'_, '_>, folder: &[u8]) -> Result<bool, Pause>
         requires { IsPlace lookup.now.folder.now lookup.now.facts.now folder.now }
         ensures { MatchResult result
             (λ ends. (system : System) (start : List ℕ) → AreTrueIn system lookup.now.facts.now
@@ -453,7 +453,7 @@ pub(crate) fn find_given<'t>(
     lookup: &Lookup<'_, 't>,
     start: Folder<'t>,
     given: &'t [u8],
-) -> Result<Discovery<'t>, Stop>
+) -> Result<Discovery<'t>, Pause>
     requires place { IsPlace lookup.now.folder.now lookup.now.facts.now start.name.now }
     requires answer_to { (system : System) → AreTrueIn system lookup.now.facts.now → system VARIABLE (codes "GIT_DIR") ≡ Some given.now }
     ensures { MatchResult result

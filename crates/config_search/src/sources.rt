@@ -10,13 +10,13 @@ ghost use Rattle.config_search.specs.Questions.{IsNeeded};
 ghost use Rattle.config_search.specs.Shown.{AsksNothing, IsNew, IsNewHalt};
 ghost use Rattle.config_search.specs.declared.TheConstants.{VARIABLE};
 
-use crate::answer::{FaultKind, Named};
-use crate::fact::{Lookup, Stop, answer_to, fact_in};
+use crate::answer::Named;
+use crate::fact::{Lookup, Pause, answer_to, fact_in};
 use crate::files::protected_files;
-use crate::halt::{Halt, fault};
+use crate::halt::{Halt, stop};
 use crate::name::{copied, joined};
 use crate::{KEEP, VARIABLE};
-use config_file::{CommandError, count_of, push_parameters, push_setting};
+use config_file::{CommandError, Stop, Why, count_of, push_parameters, push_setting};
 use itoa::Buffer;
 use std::alloc::{AllocError, Global};
 
@@ -51,9 +51,14 @@ fn of_command(alloc: Global, error: CommandError) -> Result<Halt, AllocError>
     match error {
         CommandError::Memory(error) => Ok(Halt::from(error)),
         error => {
-            let reason = format!(in alloc; "{error}")?;
-            let kind = FaultKind::Command;
-            fault(alloc, kind, COMMAND, 0, reason.as_bytes())
+            let words = format!(in alloc; "{error}")?;
+            let at = Stop {
+                file: COMMAND,
+                line: 0,
+                why: Why::BadCommand,
+                words: words.as_bytes(),
+            };
+            stop(alloc, at)
         }
     }
 }
@@ -63,7 +68,7 @@ fn numbered<'t>(
     lookup: &Lookup<'_, 't>,
     name: &[u8],
     number: usize,
-) -> Result<Option<&'t [u8]>, Stop>
+) -> Result<Option<&'t [u8]>, Pause>
     requires { IsNeeded lookup.now.folder.now lookup.now.facts.now VARIABLE (name.now ++ decimal number) }
     ensures { MatchResult result
         (λ answer. (system : System) → AreTrueIn system lookup.now.facts.now
@@ -76,7 +81,7 @@ fn numbered<'t>(
 }
 
 /// A text that lives as long as facts, since the name of one is this text.
-fn kept<'t>(lookup: &Lookup<'_, 't>, text: &[u8]) -> Result<&'t [u8], Stop>
+fn kept<'t>(lookup: &Lookup<'_, 't>, text: &[u8]) -> Result<&'t [u8], Pause>
     ensures { MatchResult result (λ whole. whole.now ≡ text.now)
         (IsNew lookup.now.folder.now lookup.now.facts.now) }
 {

@@ -14,7 +14,7 @@ ghost use Rattle.config_search.specs.declared.stages.Stage.TheVariants.{Counts, 
 
 use crate::VARIABLE;
 use crate::answer::{Answer, Outcome, Refusal};
-use crate::fact::{Fact, Facts, Lookup, Stop, answer_to};
+use crate::fact::{Fact, Facts, Lookup, Pause, answer_to};
 use crate::format::{Format, Store, format_in, given_store, own_text};
 use crate::halt::Halt;
 use crate::name::{copied, parent};
@@ -81,7 +81,7 @@ pub(crate) enum Climb<'t> {
 #[derive(Drop)]
 struct Passed<'t> {
     stage: Stage<'t>,
-    stop: Option<Stop>,
+    pause: Option<Pause>,
 }
 
 /// The same git directory once more.
@@ -96,7 +96,7 @@ fn same_git_dir(alloc: Global, git_dir: &GitDir) -> Result<GitDir, AllocError>
 }
 
 /// The folder in which Git starts.
-fn begin<'t>(lookup: &Lookup<'_, 't>) -> Result<Stage<'t>, Stop>
+fn begin<'t>(lookup: &Lookup<'_, 't>) -> Result<Stage<'t>, Pause>
     ensures { MatchResult result (stages.IsRight lookup.now.folder.now lookup.now.facts.now)
         (IsNew lookup.now.folder.now lookup.now.facts.now) }
 {
@@ -107,7 +107,7 @@ fn begin<'t>(lookup: &Lookup<'_, 't>) -> Result<Stage<'t>, Stop>
 }
 
 /// What is found in the folder itself, or the start of the way up.
-fn look_in<'t>(lookup: &Lookup<'_, 't>, start: Folder<'t>) -> Result<Stage<'t>, Stop>
+fn look_in<'t>(lookup: &Lookup<'_, 't>, start: Folder<'t>) -> Result<Stage<'t>, Pause>
     requires started { (system : System) → AreTrueIn system lookup.now.facts.now
         → stages.IsStart system lookup.now.folder.now start }
     requires place { IsPlace lookup.now.folder.now lookup.now.facts.now start.name.now }
@@ -124,7 +124,7 @@ fn look_in<'t>(lookup: &Lookup<'_, 't>, start: Folder<'t>) -> Result<Stage<'t>, 
 }
 
 /// What is found without going upwards, or the start of the way up.
-fn look_at<'t>(lookup: &Lookup<'_, 't>, start: Folder<'t>) -> Result<Stage<'t>, Stop>
+fn look_at<'t>(lookup: &Lookup<'_, 't>, start: Folder<'t>) -> Result<Stage<'t>, Pause>
     requires started { (system : System) → AreTrueIn system lookup.now.facts.now
         → stages.IsStart system lookup.now.folder.now start }
     requires place { IsPlace lookup.now.folder.now lookup.now.facts.now start.name.now }
@@ -143,7 +143,7 @@ fn step_up<'t>(
     start: &[u8],
     limits: &Limits<'t>,
     at: &'t [u8],
-) -> Result<Climb<'t>, Stop>
+) -> Result<Climb<'t>, Pause>
     requires start_place { IsPlace lookup.now.folder.now lookup.now.facts.now start.now }
     requires place { IsPlace lookup.now.folder.now lookup.now.facts.now at.now }
     ensures { MatchResult result
@@ -171,19 +171,19 @@ impl<'t> Passed<'t> {
     /// To the next stage.
     fn to(stage: Stage<'t>) -> Passed<'t>
         ensures same { result.stage ≡ stage.entry }
-        ensures none { result.stop ≡ None }
+        ensures none { result.pause ≡ None }
     {
-        Passed { stage, stop: None }
+        Passed { stage, pause: None }
     }
 
     /// Not further than this stage.
-    fn stays(stage: Stage<'t>, stop: Stop) -> Passed<'t>
+    fn stays(stage: Stage<'t>, pause: Pause) -> Passed<'t>
         ensures same { result.stage ≡ stage.entry }
-        ensures stops { result.stop ≡ Some stop }
+        ensures stops { result.pause ≡ Some pause }
     {
         Passed {
             stage,
-            stop: Some(stop),
+            pause: Some(pause),
         }
     }
 }
@@ -193,18 +193,18 @@ fn pass_bounds<'t>(lookup: &Lookup<'_, 't>, start: Folder<'t>, limits: Limits<'t
     requires { (system : System) → AreTrueIn system lookup.now.facts.now
         → stages.IsBounded system lookup.now.folder.now start limits }
     ensures right { stages.IsRight lookup.now.folder.now lookup.now.facts.now result.stage }
-    ensures asks { IfSome result.stop (IsNew lookup.now.folder.now lookup.now.facts.now) }
+    ensures asks { IfSome result.pause (IsNew lookup.now.folder.now lookup.now.facts.now) }
 {
     let mut limits = limits;
     if !limits.are_whole() {
         return match limits.push_next(lookup) {
             Ok(()) => Passed::to(Stage::Bounds(start, limits)),
-            Err(stop) => Passed::stays(Stage::Bounds(start, limits), stop),
+            Err(pause) => Passed::stays(Stage::Bounds(start, limits), pause),
         };
     }
     let found = match real_folder(lookup, start.name) {
         Ok(found) => found,
-        Err(stop) => return Passed::stays(Stage::Bounds(start, limits), stop),
+        Err(pause) => return Passed::stays(Stage::Bounds(start, limits), pause),
     };
     match found {
         Some(lowest) => Passed::to(Stage::Climbs(start, limits, lowest)),
@@ -222,12 +222,12 @@ fn pass_up<'t>(
     requires right { (system : System) → AreTrueIn system lookup.now.facts.now
         → stages.IsUpTo system lookup.now.folder.now start limits at.now }
     ensures right { stages.IsRight lookup.now.folder.now lookup.now.facts.now result.stage }
-    ensures asks { IfSome result.stop (IsNew lookup.now.folder.now lookup.now.facts.now) }
+    ensures asks { IfSome result.pause (IsNew lookup.now.folder.now lookup.now.facts.now) }
 {
     match step_up(lookup, start.name, &limits, at) {
         Ok(Climb::Ends(found)) => Passed::to(Stage::Finds(start, found)),
         Ok(Climb::Goes(above)) => Passed::to(Stage::Climbs(start, limits, above)),
-        Err(stop) => Passed::stays(Stage::Climbs(start, limits, at), stop),
+        Err(pause) => Passed::stays(Stage::Climbs(start, limits, at), pause),
     }
 }
 
@@ -313,18 +313,18 @@ fn halts<'t>(
     halt: Halt,
 ) -> Passed<'t>
     requires right { stages.IsRight lookup.now.folder.now lookup.now.facts.now stage }
-    requires stops { (system : System) (fault : _) → AreTrueIn system lookup.now.facts.now
+    requires stops { (system : System) (stop : _) → AreTrueIn system lookup.now.facts.now
         → answers.Does system (search.start_of lookup.now.folder.now)
-        (search.path_of system (search.start_of lookup.now.folder.now)) (Stops fault) }
+        (search.path_of system (search.start_of lookup.now.folder.now)) (Stops stop) }
     requires asks { IsNewHalt lookup.now.folder.now lookup.now.facts.now halt }
     ensures right { stages.IsRight lookup.now.folder.now lookup.now.facts.now result.stage }
-    ensures asks { IfSome result.stop (IsNew lookup.now.folder.now lookup.now.facts.now) }
+    ensures asks { IfSome result.pause (IsNew lookup.now.folder.now lookup.now.facts.now) }
 {
     match halt {
-        Halt::Stopped(stop) => Passed::stays(stage, stop),
-        Halt::Fault(fault) => match Place::new(lookup.alloc, folder, Outcome::Stops(fault)) {
+        Halt::Pauses(pause) => Passed::stays(stage, pause),
+        Halt::Stops(stop) => match Place::new(lookup.alloc, folder, Outcome::Stops(stop)) {
             Ok(place) => Passed::to(Stage::Does(place)),
-            Err(error) => Passed::stays(stage, Stop::Memory(error)),
+            Err(error) => Passed::stays(stage, Pause::Memory(error)),
         },
     }
 }
@@ -336,7 +336,7 @@ fn pass_found<'t>(lookup: &Lookup<'_, 't>, start: Folder<'t>, found: Discovery<'
     requires sought { (system : System) → AreTrueIn system lookup.now.facts.now
         → search.Seeks system start.name.now (found_of found) }
     ensures right { stages.IsRight lookup.now.folder.now lookup.now.facts.now result.stage }
-    ensures asks { IfSome result.stop (IsNew lookup.now.folder.now lookup.now.facts.now) }
+    ensures asks { IfSome result.pause (IsNew lookup.now.folder.now lookup.now.facts.now) }
 {
     match find(lookup, start, &found) {
         Ok(stage) => Passed::to(stage),
@@ -364,7 +364,7 @@ fn pass_site<'t>(lookup: &Lookup<'_, 't>, site: Site<'t>) -> Passed<'t>
     requires { (system : System) → AreTrueIn system lookup.now.facts.now
         → stages.IsSite system lookup.now.folder.now site }
     ensures right { stages.IsRight lookup.now.folder.now lookup.now.facts.now result.stage }
-    ensures asks { IfSome result.stop (IsNew lookup.now.folder.now lookup.now.facts.now) }
+    ensures asks { IfSome result.pause (IsNew lookup.now.folder.now lookup.now.facts.now) }
 {
     let start = site.start;
     let found = match begin_weighing(lookup, &site) {
@@ -382,7 +382,7 @@ fn pass_counted<'t>(lookup: &Lookup<'_, 't>, site: Site<'t>, counted: Counted) -
     requires { (system : System) → AreTrueIn system lookup.now.facts.now
         → stages.Right system lookup.now.folder.now (Counts site counted) }
     ensures right { stages.IsRight lookup.now.folder.now lookup.now.facts.now result.stage }
-    ensures asks { IfSome result.stop (IsNew lookup.now.folder.now lookup.now.facts.now) }
+    ensures asks { IfSome result.pause (IsNew lookup.now.folder.now lookup.now.facts.now) }
 {
     let mut counted = counted;
     let start = site.start;
@@ -403,7 +403,7 @@ fn pass_opens<'t>(lookup: &Lookup<'_, 't>, site: Site<'t>, reading: Reading<'t>)
     requires { (system : System) → AreTrueIn system lookup.now.facts.now
         → stages.Right system lookup.now.folder.now (Opens site reading) }
     ensures right { stages.IsRight lookup.now.folder.now lookup.now.facts.now result.stage }
-    ensures asks { IfSome result.stop (IsNew lookup.now.folder.now lookup.now.facts.now) }
+    ensures asks { IfSome result.pause (IsNew lookup.now.folder.now lookup.now.facts.now) }
 {
     let start = site.start;
     let found = match reading.next_source(lookup, start.name) {
@@ -437,7 +437,7 @@ fn pass_reads<'t>(
     requires { (system : System) → AreTrueIn system lookup.now.facts.now
         → stages.Right system lookup.now.folder.now (Reads site reading reader) }
     ensures right { stages.IsRight lookup.now.folder.now lookup.now.facts.now result.stage }
-    ensures asks { IfSome result.stop (IsNew lookup.now.folder.now lookup.now.facts.now) }
+    ensures asks { IfSome result.pause (IsNew lookup.now.folder.now lookup.now.facts.now) }
 {
     let (mut reading, mut reader) = (reading, reader);
     let start = site.start;
@@ -472,7 +472,7 @@ fn pass_collected<'t>(
     requires { (system : System) → AreTrueIn system lookup.now.facts.now
         → stages.Right system lookup.now.folder.now (Collects site sources settings) }
     ensures right { stages.IsRight lookup.now.folder.now lookup.now.facts.now result.stage }
-    ensures asks { IfSome result.stop (IsNew lookup.now.folder.now lookup.now.facts.now) }
+    ensures asks { IfSome result.pause (IsNew lookup.now.folder.now lookup.now.facts.now) }
 {
     let start = site.start;
     let found = match with_urls(lookup, start.name, &sources, &settings) {
@@ -497,7 +497,7 @@ fn pass_weighed<'t>(lookup: &Lookup<'_, 't>, site: Site<'t>, settings: Settings<
     requires { (system : System) → AreTrueIn system lookup.now.facts.now
         → stages.Right system lookup.now.folder.now (Weighs site settings) }
     ensures right { stages.IsRight lookup.now.folder.now lookup.now.facts.now result.stage }
-    ensures asks { IfSome result.stop (IsNew lookup.now.folder.now lookup.now.facts.now) }
+    ensures asks { IfSome result.pause (IsNew lookup.now.folder.now lookup.now.facts.now) }
 {
     let start = site.start;
     let weighed = match weigh(lookup, site.folder, &site.git_dir, &settings.entries) {
@@ -543,14 +543,14 @@ fn pass_named<'t>(lookup: &Lookup<'_, 't>, site: Site<'t>, naming: Naming<'t>) -
     requires { (system : System) → AreTrueIn system lookup.now.facts.now
         → stages.Right system lookup.now.folder.now (Names site naming) }
     ensures right { stages.IsRight lookup.now.folder.now lookup.now.facts.now result.stage }
-    ensures asks { IfSome result.stop (IsNew lookup.now.folder.now lookup.now.facts.now) }
+    ensures asks { IfSome result.pause (IsNew lookup.now.folder.now lookup.now.facts.now) }
 {
     let mut naming = naming;
     let start = site.start;
     let Some(is_safe) = naming.decides() else {
         return match naming.look_at_next(lookup, start.name) {
             Ok(()) => Passed::to(Stage::Names(site, naming)),
-            Err(stop) => Passed::stays(Stage::Names(site, naming), stop),
+            Err(halt) => halts(lookup, start, Stage::Names(site, naming), halt),
         };
     };
     let found = match decide(lookup, &site, &naming, is_safe) {
@@ -568,7 +568,7 @@ fn pass_trusted<'t>(lookup: &Lookup<'_, 't>, site: Site<'t>) -> Passed<'t>
     requires { (system : System) → AreTrueIn system lookup.now.facts.now
         → stages.Right system lookup.now.folder.now (Trusts site) }
     ensures right { stages.IsRight lookup.now.folder.now lookup.now.facts.now result.stage }
-    ensures asks { IfSome result.stop (IsNew lookup.now.folder.now lookup.now.facts.now) }
+    ensures asks { IfSome result.pause (IsNew lookup.now.folder.now lookup.now.facts.now) }
 {
     let (start, folder) = (site.start, site.folder);
     let given = match given_store(lookup) {
@@ -586,7 +586,7 @@ fn pass_stated<'t>(lookup: &Lookup<'_, 't>, site: Site<'t>, format: Format) -> P
     requires { (system : System) → AreTrueIn system lookup.now.facts.now
         → stages.Right system lookup.now.folder.now (States site format) }
     ensures right { stages.IsRight lookup.now.folder.now lookup.now.facts.now result.stage }
-    ensures asks { IfSome result.stop (IsNew lookup.now.folder.now lookup.now.facts.now) }
+    ensures asks { IfSome result.pause (IsNew lookup.now.folder.now lookup.now.facts.now) }
 {
     if !format.has_worktree_files {
         let format = format.of_tree(site.common.is_linked());
@@ -596,7 +596,7 @@ fn pass_stated<'t>(lookup: &Lookup<'_, 't>, site: Site<'t>, format: Format) -> P
     let folder = site.folder;
     let found = match own_text(lookup, &site.git_dir.name) {
         Ok(found) => found,
-        Err(stop) => return Passed::stays(Stage::States(site, format), stop),
+        Err(pause) => return Passed::stays(Stage::States(site, format), pause),
     };
     let Some(text) = found else {
         return Passed::to(Stage::Knows(site, format));
@@ -613,7 +613,7 @@ fn pass_known<'t>(lookup: &Lookup<'_, 't>, site: Site<'t>, format: Format) -> Pa
     requires { (system : System) → AreTrueIn system lookup.now.facts.now
         → stages.Right system lookup.now.folder.now (Knows site format) }
     ensures right { stages.IsRight lookup.now.folder.now lookup.now.facts.now result.stage }
-    ensures asks { IfSome result.stop (IsNew lookup.now.folder.now lookup.now.facts.now) }
+    ensures asks { IfSome result.pause (IsNew lookup.now.folder.now lookup.now.facts.now) }
 {
     let folder = site.folder;
     match place_by_format(lookup, &site, &format) {
@@ -626,16 +626,16 @@ fn pass_known<'t>(lookup: &Lookup<'_, 't>, site: Site<'t>, format: Format) -> Pa
 fn pass<'t>(lookup: &Lookup<'_, 't>, stage: Stage<'t>) -> Passed<'t>
     requires { stages.IsRight lookup.now.folder.now lookup.now.facts.now stage }
     ensures right { stages.IsRight lookup.now.folder.now lookup.now.facts.now result.stage }
-    ensures asks { IfSome result.stop (IsNew lookup.now.folder.now lookup.now.facts.now) }
+    ensures asks { IfSome result.pause (IsNew lookup.now.folder.now lookup.now.facts.now) }
 {
     match stage {
         Stage::Begins => match begin(lookup) {
             Ok(stage) => Passed::to(stage),
-            Err(stop) => Passed::stays(Stage::Begins, stop),
+            Err(pause) => Passed::stays(Stage::Begins, pause),
         },
         Stage::Starts(start) => match look_at(lookup, start) {
             Ok(stage) => Passed::to(stage),
-            Err(stop) => Passed::stays(Stage::Starts(start), stop),
+            Err(pause) => Passed::stays(Stage::Starts(start), pause),
         },
         Stage::Bounds(start, limits) => pass_bounds(lookup, start, limits),
         Stage::Climbs(start, limits, at) => pass_up(lookup, start, limits, at),
@@ -658,7 +658,7 @@ fn pass<'t>(lookup: &Lookup<'_, 't>, stage: Stage<'t>) -> Passed<'t>
 #[derive(Drop)]
 struct Ended<'t> {
     stage: Stage<'t>,
-    end: Result<Answer, Stop>,
+    end: Result<Answer, Pause>,
 }
 
 /// The answer of a search that has come to what Git does.
@@ -680,9 +680,9 @@ fn conclude<'t>(lookup: &Lookup<'_, 't>, place: Place) -> Ended<'t>
                 of_scopes: lists.of_scopes,
             }),
         },
-        Err(stop) => Ended {
+        Err(pause) => Ended {
             stage: Stage::Does(place),
-            end: Err(stop),
+            end: Err(pause),
         },
     }
 }
@@ -703,10 +703,10 @@ fn go<'t>(lookup: &Lookup<'_, 't>, stage: Stage<'t>) -> Ended<'t>
             other => {
                 let passed = pass(lookup, other);
                 stage = passed.stage;
-                if let Some(stop) = passed.stop {
+                if let Some(pause) = passed.pause {
                     return Ended {
                         stage,
-                        end: Err(stop),
+                        end: Err(pause),
                     };
                 }
             }
@@ -714,7 +714,7 @@ fn go<'t>(lookup: &Lookup<'_, 't>, stage: Stage<'t>) -> Ended<'t>
     }
     Ended {
         stage,
-        end: Err(Stop::Memory(AllocError)),
+        end: Err(Pause::Memory(AllocError)),
     }
 }
 
@@ -725,10 +725,10 @@ fn go<'t>(lookup: &Lookup<'_, 't>, stage: Stage<'t>) -> Ended<'t>
 /// them: a folder below 300 others takes about 900, and each file that is included one or two.
 ///
 /// ```rust
-/// use config_search::{Search, Stop, VARIABLE};
+/// use config_search::{Search, Pause, VARIABLE};
 ///
 /// let mut search = Search::new(alloc, b"");
-/// let Err(Stop::Ask(question)) = search.next() else {
+/// let Err(Pause::Ask(question)) = search.next() else {
 ///     panic!(rt; "a question");
 /// };
 /// assert_eq!(rt; question.subject, VARIABLE);
@@ -785,7 +785,7 @@ impl<'t> Search<'t> {
 
     /// What Git reads in the folder, or the question that no fact answers yet. It stops if memory is refused too, and then
     /// may go on. After an answer the search begins again.
-    pub fn next(&mut self) -> Result<Answer, Stop>
+    pub fn next(&mut self) -> Result<Answer, Pause>
         ensures same { self.new ≡ self.old }
         ensures answers { MatchResult result
             (λ answer. (system : System) → AreTrueIn system self.old.facts

@@ -6,7 +6,7 @@ ghost use Rattle.config_search.specs.Questions.{IsPlace};
 ghost use Rattle.config_search.specs.Shown.{IsNew};
 ghost use Rattle.config_search.specs.Rule as rule;
 
-use crate::fact::{Lookup, Stop, answer_in, is_word};
+use crate::fact::{Lookup, Pause, answer_in, is_word};
 use crate::{KIND, LINK, TEXT};
 
 /// Whether Git takes this for a blank around a reference.
@@ -88,7 +88,7 @@ fn is_reference_link(target: Option<&[u8]>) -> bool
 
 /// Whether HEAD of a folder is Git's.
 #[tactic(auto, unfolding(crate::specs::Rule::has_head))]
-pub(crate) fn has_head(lookup: &Lookup<'_, '_>, folder: &[u8]) -> Result<bool, Stop>
+pub(crate) fn has_head(lookup: &Lookup<'_, '_>, folder: &[u8]) -> Result<bool, Pause>
     requires { IsPlace lookup.now.folder.now lookup.now.facts.now folder.now }
     ensures { MatchResult result
         (λ has. (system : System) → AreTrueIn system lookup.now.facts.now → has ≡ rule.has_head system folder.now)

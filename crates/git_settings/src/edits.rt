@@ -18,7 +18,7 @@ use config_file::bytes::{self, Class};
 use config_file::entry::push_lower;
 use config_file::errors::FileError;
 use config_file::header::read_header;
-use config_file::{AddError, Entries, Entry, Key, KeyError, Scope};
+use config_file::{Entries, Entry, Key, KeyError, Scope, Stop};
 use config_host::text::Text;
 use config_host::{Disk, HereError, HostError, LockError, Locked};
 use itoa::Buffer;
@@ -272,13 +272,8 @@ fn tell_file(
 ) -> Ending {
     let is_of_sections = matches!(edit.change, Change::Rename(_) | Change::Remove);
     if is_of_sections || !is_no_file(text) {
-        let error = *error;
-        tell_stop(
-            rt,
-            &[],
-            Scope::Local,
-            HereError::Stops(AddError::Line { file, error }),
-        );
+        let stop = Stop::at(file, error.line, error.why);
+        tell_stop(rt, &[], Scope::Local, stop);
         return Ending::Refused;
     }
     let mut buffer = Buffer::new();
@@ -445,8 +440,8 @@ fn change_found(
     match change_here(rt, &kept, scope, edit, value) {
         Ok(ending) => Ok(ending),
         Err(HereError::Host(error)) => Err(error),
-        Err(error) => {
-            tell_stop(rt, &[], Scope::Local, error);
+        Err(HereError::Stops(stop)) => {
+            tell_stop(rt, &[], Scope::Local, stop);
             Ok(Ending::Refused)
         }
     }

@@ -164,7 +164,7 @@ fn read_all<'t>(
             }
             Err(Stopped::Git(stop)) if is_unknown(&stop) => return Ok(None),
             Err(Stopped::Git(stop)) => {
-                tell_stop(rt, &opened.sources, source.scope, HereError::Stops(stop));
+                tell_stop(rt, &opened.sources, source.scope, stop);
                 return Ok(Some(Ending::Refused));
             }
         }
@@ -328,7 +328,7 @@ pub fn run<'a>(
     match answer_in(rt, &texts, request, choice, commands) {
         Ok(ending) => Ok(ending),
         Err(HereError::Host(error)) => Err(error),
-        Err(stop) => {
+        Err(HereError::Stops(stop)) => {
             tell_stop(rt, &[], Scope::Local, stop);
             Ok(Ending::Refused)
         }

@@ -1,9 +1,10 @@
 //! Writes messages.
 
 use crate::request::Request;
+use bstr::BStr;
 pub use config_answers::answer::Ending;
 pub use config_answers::line::{Form, Name, Origin, Place, Unfiled};
-use config_host::HereError;
+use config_file::{Stop, Why};
 use config_host::shown::line_of;
 use config_host::text::Text;
 use itoa::Buffer;
@@ -50,18 +51,18 @@ pub fn tell_fatal<E: fmt::Display + Drop>(rt: &HostRuntime, error: E) {
     tell_error(rt, [b"fatal: ", b"", b""], error);
 }
 
-/// Tells why settings are not read here.
-pub fn tell_here(rt: &HostRuntime, error: HereError<'_>) {
-    match error {
-        HereError::Command(error) => {
-            tell_error(rt, [b"error: ", b"", b""], error);
+/// Tells where Git stops, and why. Without a line it is told as one of the command, or of a file that is not read.
+pub fn tell_place(rt: &HostRuntime, stop: Stop<&[u8]>) {
+    match (stop.why, stop.line) {
+        (Why::BadCommand, _) => {
+            tell(rt, &[b"error: ", stop.words]);
             tell(rt, &[b"fatal: unable to parse command-line config"]);
         }
-        HereError::File { file, error } => {
+        (Why::Unreadable | Why::NoFolder, 0) => {
             let front = b"fatal: unable to read config file '";
-            tell_error(rt, [front, file, b"': "], error);
+            tell_error(rt, [front, stop.file, b"': "], BStr::new(stop.words));
         }
-        error => tell_fatal(rt, error),
+        _ => tell_fatal(rt, stop),
     }
 }
 

@@ -1,9 +1,10 @@
 //! Settings of the command line, which stand before everything else: those of `-c` and `--config-env`.
 
-use crate::output::{tell, tell_here};
-use config_file::{CommandError, push_setting};
+use crate::output::{tell, tell_place};
+use config_answers::line::COMMAND;
+use config_file::{CommandError, Stop, Why, push_setting};
+use config_host::HostError;
 use config_host::environment::variable;
-use config_host::{HereError, HostError};
 
 /// A setting of the command line.
 #[derive(Clone, Copy)]
@@ -38,7 +39,16 @@ fn push(
         Ok(()) => Ok(true),
         Err(CommandError::Memory(error)) => Err(HostError::from(error)),
         Err(error) => {
-            tell_here(rt, HereError::Command(error));
+            let words = format!(in rt.alloc(); "{error}")?;
+            tell_place(
+                rt,
+                Stop {
+                    file: COMMAND,
+                    line: 0,
+                    why: Why::BadCommand,
+                    words: words.as_bytes(),
+                },
+            );
             Ok(false)
         }
     }

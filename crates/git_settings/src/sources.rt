@@ -1,12 +1,11 @@
 //! The texts that a request reads.
 ghost use Rattle.std.specs.Prelude.{⊤};
 
-use crate::output::{Place, Unfiled, tell, tell_error, tell_here, tell_line};
+use crate::output::{Place, Unfiled, tell, tell_error, tell_line, tell_place};
 use crate::request::{Request, Texts};
 use bumpalo::Bump;
 use config_answers::line::{COMMAND, INPUT};
-use config_file::errors::FileFault;
-use config_file::{AddError, Content, FilePlace, Files, IncludeFault, Scope};
+use config_file::{Content, FilePlace, Files, Scope, Stop, Why};
 use config_host::disk::ReadError;
 use config_host::reading::{files_of, seek_urls};
 use config_host::repository::{Location, find};
@@ -53,8 +52,8 @@ impl<'t> Files<'t> for Included<'t> {
 }
 
 /// Whether a reading stops since it is not known what conditions ask about.
-pub fn is_unknown(stop: &AddError<'_>) -> bool {
-    matches!(stop, AddError::Include { fault: IncludeFault::Unreadable(why), .. } if *why == UNKNOWN)
+pub fn is_unknown(stop: &Stop<&[u8]>) -> bool {
+    stop.why == Why::Unreadable && stop.words == UNKNOWN.as_bytes()
 }
 
 impl<'t> Opened<'t> {
@@ -113,24 +112,20 @@ pub fn unfiled(sources: &[Source<'_>]) -> Unfiled {
     unfiled
 }
 
-/// Tells why Git stops in a text of this scope, among these texts.
-pub fn tell_stop(rt: &HostRuntime, sources: &[Source<'_>], scope: Scope, stop: HereError<'_>) {
-    match stop {
-        HereError::Stops(AddError::Line { file, error }) => {
-            let why: &[u8] = match error.fault {
-                FileFault::BadLine => b"",
-                FileFault::Nul => b": a NUL byte outside a comment",
-            };
-            let place = Place {
-                origin: unfiled(sources).origin(scope, file),
-                scope,
-                file,
-                line: error.line,
-            };
-            tell_line(rt, &place, why);
-        }
-        stop => tell_here(rt, stop),
-    }
+/// Tells where Git stops in a text of this scope, among these texts, and why.
+pub fn tell_stop(rt: &HostRuntime, sources: &[Source<'_>], scope: Scope, stop: Stop<&[u8]>) {
+    let why: &[u8] = match stop.why {
+        Why::BadLine => b"",
+        Why::Nul => b": a NUL byte outside a comment",
+        _ => return tell_place(rt, stop),
+    };
+    let place = Place {
+        origin: unfiled(sources).origin(scope, stop.file),
+        scope,
+        file: stop.file,
+        line: stop.line,
+    };
+    tell_line(rt, &place, why);
 }
 
 /// Adds a text.
@@ -174,10 +169,7 @@ fn open<'t>(
     match text_of(rt, &opened.disk, scope, name) {
         Ok(source) => Ok(add(&mut opened.sources, source)?),
         Err(error) if error.is_memory() => Err(HereError::from(AllocError)),
-        Err(error) if request.lists() => Err(HereError::File {
-            file: opened.disk.kept(name)?,
-            error,
-        }),
+        Err(error) if request.lists() => Err(HereError::Stops(opened.disk.stop(name, &error)?)),
         Err(error) => {
             if !error.is_missing() {
                 tell_error(rt, [b"warning: unable to access '", name, b"': "], error);

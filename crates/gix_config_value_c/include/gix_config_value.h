@@ -85,7 +85,8 @@ typedef GCV_ENUM(gcv_status) {
     /* only of calls over files: one is not read, and errno says why; the settings of a command include a relative name;
      * another program holds the lock of a file; the lock is not made or the new text not written, and errno says why */
     GCV_NOT_READ = 64, GCV_RELATIVE = 65, GCV_LOCKED = 66, GCV_NOT_WRITTEN = 67,
-    GCV_BAD_FORMAT = 68     /* Git does not know a setting of a repository's format, or a variable of its own */
+    GCV_BAD_FORMAT = 68,    /* Git does not know a setting of a repository's format, or a variable of its own */
+    GCV_BAD_COMMAND = 69, GCV_NO_FOLDER = 70 /* only where a search stops: settings of the command; no such folder */
 } gcv_status;
 
 /* The kinds of values: k, m and g; a number with at most one suffix; the product of both; a truth value; the name of a
@@ -426,9 +427,7 @@ typedef GCV_ENUM(gcv_scope) {
 
 /* What a search tells. All texts are in the buffer and end with NUL; one that does not belong to the outcome is empty.
  * `kind` is for GCV_REFUSES: 1 GIT_DIR names no git directory, 2 a version, 3 an unknown extension, 4 an extension of a
- * later version, 5 an owner, 6 a bare repository. For GCV_STOPS: 1 no such folder, 2 a file is not read, 3 a line is
- * invalid, 4 a NUL, 5 an include without a value, 6 with an unknown directory, 7 not readable, 8 not from the root, 9
- * too deep, 10 a forbidden URL, 11 a value that Git does not know, 12 settings of the command. */
+ * later version, 5 an owner, 6 a bare repository. For GCV_STOPS it is a gcv_status. */
 typedef struct gcv_found {
     gcv_subject subject; const char *name; /* after GCV_ASKS, the question with its name of `name_length` bytes */
     size_t name_length;

@@ -10,7 +10,7 @@ pub into : {V : Type 0} (items : V → List ℕ) (makes : List ℕ → Type 0) (
     (edited : Result V EditError) {buffer buffer' : List ℕ} {size size' line line' status : ℕ}
     → MatchResult edited (λ new. makes (items new)) refuses
     → MatchResult edited (λ new. PutsText (items new) buffer buffer' size' status × (line' ≡ line))
-    (λ error. (status ≡ status_number (edit_status error)) × (line' ≡ told_line error line) × (buffer' ≡ buffer) × (size' ≡ size))
+    (λ error. (status ≡ edit_status error) × (line' ≡ told_line error line) × (buffer' ≡ buffer) × (size' ≡ size))
     → EditsInto makes refuses buffer buffer' size size' line line' status
 into items makes refuses (Ok new) made (puts, same) = put (items new) (made, same) puts
 into items makes refuses (Err error) refused (status, line, left, kept) = none (error, refused, line, status) left kept

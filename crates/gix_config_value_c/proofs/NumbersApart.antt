@@ -9,6 +9,8 @@ use Rattle.config_text.specs.declared.errors.Fault.{Fault}
 use Rattle.config_text.specs.declared.errors.Fault.TheVariants as faults
 use Rattle.config_path.specs.Interpolation.{path_error_text}
 use Rattle.config_path.specs.declared.interpolate.Error.{Error}
+use Rattle.config_file.specs.Errors.{why_number}
+use Rattle.config_file.specs.declared.errors.Why.{Why}
 use Rattle.gix_config_value_c.specs.declared.status.Status.{Status}
 use Rattle.gix_config_value_c.specs.declared.status.Status.TheVariants as statuses
 use Rattle.gix_config_value_c.specs.Answers.{TellsApart}
@@ -20,23 +22,26 @@ use Rattle.gix_config_value_c.specs.Faults.{place_number, path_fault_number, num
 pub told_apart : {V C : Type 0} (f : V → C) (found : C → Option V) → ((v : V) → found (f v) ≡ Some v) → TellsApart f
 told_apart f found again v w same = same_Some v w (sym (again v) ∙ (ap found same ∙ again w))
 
--- the statuses in the order of their numbers; no status has the number 11, so `Ok` fills its place
+-- the statuses in the order of their numbers; no status has the number 11 or that of a reason, so `Ok` fills its place
 abbrev all_statuses : List Status
 all_statuses =
     statuses.Ok ∷ statuses.Refused ∷ statuses.Overflow ∷ statuses.NoText ∷ statuses.TooManyNames ∷ statuses.Absent
     ∷ statuses.UnknownKind ∷ statuses.UnknownFault ∷ statuses.BadSuffix ∷ statuses.BadName ∷ statuses.BadFlag
     ∷ statuses.Ok ∷ statuses.BadLengths ∷ statuses.ShortBuffer ∷ statuses.NoMemory
-    ∷ statuses.BadLine ∷ statuses.Nul ∷ statuses.NoInclude ∷ statuses.NoValue ∷ statuses.NoDirectory
-    ∷ statuses.TooDeep ∷ statuses.BadDepth ∷ statuses.BadCount ∷ statuses.TooManySettings ∷ statuses.MissingKey
+    ∷ statuses.Ok ∷ statuses.Ok ∷ statuses.NoInclude ∷ statuses.Ok ∷ statuses.Ok
+    ∷ statuses.Ok ∷ statuses.BadDepth ∷ statuses.BadCount ∷ statuses.TooManySettings ∷ statuses.MissingKey
     ∷ statuses.MissingValue ∷ statuses.BadParameters ∷ statuses.NoKey ∷ statuses.EmptyKey ∷ statuses.NoSection
     ∷ statuses.NoKeyName ∷ statuses.BadKey ∷ statuses.KeyLineFeed ∷ statuses.BadValue ∷ statuses.BadSection
-    ∷ statuses.Several ∷ statuses.ForbiddenUrl ∷ statuses.Asks ∷ statuses.TooManyFacts ∷ []
+    ∷ statuses.Several ∷ statuses.Ok ∷ statuses.Asks ∷ statuses.TooManyFacts ∷ []
 
 pub statuses_apart : TellsApart status_number
 statuses_apart = told_apart status_number (λ n. slice_get all_statuses n) again where
   again : (s : Status) → slice_get all_statuses (status_number s) ≡ Some s
   again statuses.Ok = refl
   again s = refl
+
+pub reasons_apart : (status : Status) (why : Why) → status_number status ≢ why_number why
+reasons_apart status why same = grind arith
 
 pub roles_apart : TellsApart role_number
 roles_apart v w same = grind arith

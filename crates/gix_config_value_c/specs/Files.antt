@@ -5,11 +5,7 @@ use Rattle.std.specs.Cow.{cow_slice_items}
 use Rattle.config_file.specs.File.{Entry}
 use Rattle.config_file.specs.Listing.{IsListed}
 use Rattle.config_file.specs.Value.{Ending, SpellsValue}
-use Rattle.config_file.specs.declared.errors.FileFault.{FileFault}
-use Rattle.config_file.specs.declared.errors.FileFault.TheVariants.{BadLine, Nul}
 use Rattle.gix_config_value_c.specs.declared.files.Setting.{Setting}
-use Rattle.gix_config_value_c.specs.declared.status.Status.{Status}
-use Rattle.gix_config_value_c.specs.declared.status.Status.TheVariants as statuses
 
 -- the text of the value, if there is one
 abbrev pub value_of : Setting → Option (List ℕ)
@@ -34,8 +30,3 @@ ended text = text ++ 0 ∷ []
 -- the bytes of a setting: the key as Git lists it, and the value if there is one, each followed by NUL
 abbrev pub setting_bytes : Setting → List ℕ
 setting_bytes s = ended s.key.items ++ option_map_or ended (value_of s) []
-
--- the status for the fault of a refused line
-abbrev pub fault_status : FileFault → Status
-fault_status BadLine = statuses.BadLine
-fault_status Nul = statuses.Nul

@@ -22,7 +22,7 @@ abbrev pub StandsFor : {V C : Type 0} → (V → C) → C → Option V → Type 
 StandsFor {V} struct c None = (v : V) → c ≢ struct v
 StandsFor struct c (Some v) = c ≡ struct v
 
--- the number of a status, which a call returns
+-- the number of a status, which a call returns; where Git stops it returns that of the reason, `why_number`
 abbrev pub status_number : Status → ℕ
 status_number statuses.Ok = 0
 status_number statuses.Refused = 1
@@ -38,12 +38,7 @@ status_number statuses.BadFlag = 10
 status_number statuses.BadLengths = 12
 status_number statuses.ShortBuffer = 13
 status_number statuses.NoMemory = 14
-status_number statuses.BadLine = 15
-status_number statuses.Nul = 16
 status_number statuses.NoInclude = 17
-status_number statuses.NoValue = 18
-status_number statuses.NoDirectory = 19
-status_number statuses.TooDeep = 20
 status_number statuses.BadDepth = 21
 status_number statuses.BadCount = 22
 status_number statuses.TooManySettings = 23
@@ -59,7 +54,6 @@ status_number statuses.KeyLineFeed = 32
 status_number statuses.BadValue = 33
 status_number statuses.BadSection = 34
 status_number statuses.Several = 35
-status_number statuses.ForbiddenUrl = 36
 status_number statuses.Asks = 37
 status_number statuses.TooManyFacts = 38
 

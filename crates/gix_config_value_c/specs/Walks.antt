@@ -10,7 +10,10 @@ use Rattle.config_file.specs.Views.{entry_of}
 use Rattle.config_file.specs.Walk.{Content}
 use Rattle.config_file.specs.Reading.Walks.{Enters, Takes}
 use Rattle.config_file.specs.declared.entry.Entry as code
+use Rattle.config_file.specs.Errors.{why_number}
 use Rattle.config_file.specs.declared.errors.FileError.{FileError}
+use Rattle.config_file.specs.declared.errors.Why.TheVariants.{NoValue, TooDeep}
+use Rattle.config_file.specs.declared.errors.Why.TheVariants as why
 use Rattle.config_file.specs.declared.include.Includes.{Includes}
 use Rattle.config_file.specs.declared.include.Includes.TheVariants.{AsGit, Skipped}
 use Rattle.config_file.specs.declared.include.Repository.{Repository}
@@ -33,7 +36,7 @@ use Rattle.gix_config_value_c.specs.declared.walk.GcvFrame.{GcvFrame}
 use Rattle.gix_config_value_c.specs.declared.walk.GcvKnown.{GcvKnown}
 use Rattle.gix_config_value_c.specs.declared.walk.GcvStep.{GcvStep}
 use Rattle.gix_config_value_c.specs.declared.walk.Texts.{Texts}
-use Rattle.gix_config_value_c.specs.Files.{ended, setting_bytes, value_of, IsSettingOf, fault_status}
+use Rattle.gix_config_value_c.specs.Files.{ended, setting_bytes, value_of, IsSettingOf}
 use Rattle.gix_config_value_c.specs.Numbers.{status_number, role_number, flag_number}
 use Rattle.gix_config_value_c.specs.Paths.{IsGiven, HasBadFlag}
 use Rattle.gix_config_value_c.specs.Roles.{HasRole}
@@ -65,7 +68,7 @@ pub data EntersInto (count : ℕ) (frame : GcvFrame) (name real_dir text : List 
       → Enters [] place text (held ∷ []) → HoldsFrame frame' held → count' ≡ count + 1
       → status ≡ status_number statuses.Ok
       → EntersInto count frame name real_dir text count' frame' status
-  too_deep : 11 ≤ count → count' ≡ count → frame' ≡ frame → status ≡ status_number statuses.TooDeep
+  too_deep : 11 ≤ count → count' ≡ count → frame' ≡ frame → status ≡ why_number TooDeep
       → EntersInto count frame name real_dir text count' frame' status
 
 -- ---- what is known
@@ -108,13 +111,13 @@ abbrev pub name_in : Include → Option (List ℕ)
 name_in (Named name) = Some name.items
 name_in include = None
 
--- the status that says what an entry includes
-abbrev pub include_status : Include → Status
-include_status NotFollowed = statuses.NoInclude
-include_status MissingValue = statuses.NoValue
-include_status UnknownDirectory = statuses.NoDirectory
-include_status what.ForbiddenUrl = statuses.ForbiddenUrl
-include_status (Named name) = statuses.Ok
+-- the number of the status that says what an entry includes, or why Git stops there
+abbrev pub include_status : Include → ℕ
+include_status NotFollowed = status_number statuses.NoInclude
+include_status MissingValue = why_number NoValue
+include_status UnknownDirectory = why_number why.UnknownDirectory
+include_status what.ForbiddenUrl = why_number why.ForbiddenUrl
+include_status (Named name) = status_number statuses.Ok
 
 -- the texts of an entry: those of its setting, and the name of the file that it includes; and its role
 abbrev pub AreTextsOf : Entry → Include → Texts → Type 0
@@ -133,7 +136,7 @@ step_struct place entry include texts = record {
   included = texts.included;
   size = length texts.bytes.items;
   has_value = texts.has_value;
-  include = status_number (include_status include);
+  include = include_status include;
   role = role_number texts.role;
 }
 
@@ -162,7 +165,7 @@ TellsStep (step.Entry place entry include) buffer buffer' out out' status =
     × (length texts.bytes.items ≤ length buffer)
     × (buffer' ≡ texts.bytes.items ++ drop (length texts.bytes.items) buffer) × (status ≡ status_number statuses.Ok)
 TellsStep (step.Line place error) buffer buffer' out out' status = (buffer' ≡ buffer)
-    × (out' ≡ line_struct place error) × (status ≡ status_number (fault_status error.fault))
+    × (out' ≡ line_struct place error) × (status ≡ why_number error.why)
 TellsStep step.Ends buffer buffer' out out' status =
     (buffer' ≡ buffer) × (out' ≡ out) × (status ≡ status_number statuses.Absent)
 

@@ -6,6 +6,7 @@ ghost use Rattle.gix_config_value_c.specs.Numbers.{status_number};
 
 use crate::buffer::put;
 use crate::status::Status;
+use config_file::Why;
 use config_file::command::{CommandError, count_of, push_parameters, push_setting};
 use config_file::key::KeyError;
 use std::alloc::Global;
@@ -24,7 +25,7 @@ pub(crate) fn key_status(error: KeyError) -> u32
 
 /// Returns the number of the status that says why Git refuses the settings of a command.
 fn command_status(error: &CommandError) -> u32
-    ensures { result ≡ status_number (status_of error.now) }
+    ensures { result ≡ status_of error.now }
 {
     match error {
         CommandError::BadCount => Status::BadCount as u32,
@@ -35,7 +36,7 @@ fn command_status(error: &CommandError) -> u32
         CommandError::NoKey(_) => Status::NoKey as u32,
         CommandError::EmptyKey => Status::EmptyKey as u32,
         CommandError::Key { error, .. } => key_status(*error),
-        CommandError::Nul => Status::Nul as u32,
+        CommandError::Nul => Why::Nul.number(),
         CommandError::Memory(_) => Status::NoMemory as u32,
     }
 }

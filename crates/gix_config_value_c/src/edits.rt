@@ -7,7 +7,6 @@ ghost use Rattle.gix_config_value_c.specs.Numbers.{StandsFor, status_number};
 
 use crate::buffer::put;
 use crate::commands::key_status;
-use crate::files::fault_status;
 use crate::status::Status;
 use config_edit::{
     EditError, add, remove_section, rename_section, replace_all, set, unset, unset_all,
@@ -73,14 +72,14 @@ fn edited(
 
 /// Returns the number of the status that says why a text is not edited.
 fn edit_status(error: &EditError) -> u32
-    ensures { result ≡ status_number (status_of error.now) }
+    ensures { result ≡ status_of error.now }
 {
     match error {
         EditError::Memory(_) => Status::NoMemory as u32,
         EditError::Key(error) => key_status(*error),
         EditError::Section => Status::BadSection as u32,
         EditError::Value | EditError::Comment => Status::BadValue as u32,
-        EditError::File(error) => fault_status(error.fault),
+        EditError::File(error) => error.why.number(),
         EditError::Several => Status::Several as u32,
         EditError::Absent => Status::Absent as u32,
     }
@@ -95,7 +94,7 @@ fn answer(
 ) -> u32
     ensures { MatchResult edited
         (λ new. PutsText new.items buffer.old buffer.new size.new result × (line.new ≡ line.old))
-        (λ error. (result ≡ status_number (status_of error)) × (line.new ≡ told_line error line.old)
+        (λ error. (result ≡ status_of error) × (line.new ≡ told_line error line.old)
         × (buffer.new ≡ buffer.old) × (size.new ≡ size.old)) }
 {
     match edited {

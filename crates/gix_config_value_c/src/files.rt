@@ -3,12 +3,9 @@ ghost use Rattle.std.specs.Prelude.{◌≡◌, ◌++◌, [], IfOk, OnOk, option_
 ghost use Rattle.std.specs.Option.{option_map_or};
 ghost use Rattle.std.specs.Cow.{cow_slice_items};
 ghost use Rattle.config_file.specs.Views.{entry_of};
-ghost use Rattle.gix_config_value_c.specs.Files.{ended, fault_status as status_of, IsSettingOf};
-ghost use Rattle.gix_config_value_c.specs.Numbers.{status_number};
+ghost use Rattle.gix_config_value_c.specs.Files.{ended, IsSettingOf};
 
-use crate::status::Status;
 use config_file::entry::Entry;
-use config_file::errors::FileFault;
 use std::alloc::{AllocError, Global};
 use std::borrow::CowSlice;
 
@@ -79,15 +76,5 @@ pub(crate) fn push_value(
             Ok(1)
         }
         None => Ok(0),
-    }
-}
-
-/// Returns the status for the fault of a refused line.
-pub(crate) fn fault_status(fault: FileFault) -> u32
-    ensures { result ≡ status_number (status_of fault) }
-{
-    match fault {
-        FileFault::BadLine => Status::BadLine as u32,
-        FileFault::Nul => Status::Nul as u32,
     }
 }

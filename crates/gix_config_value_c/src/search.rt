@@ -4,10 +4,8 @@ ghost use Rattle.gix_config_value_c.specs.Held.{Begins, Refuses, Tells};
 
 use crate::held::GcvSearch;
 use crate::status::Status;
-use config_file::Scope;
-use config_search::{
-    Answer, Fact, Fault, FaultKind, Named, Outcome, Refusal, Repository, Search, Stop,
-};
+use config_file::{Scope, Stop};
+use config_search::{Answer, Fact, Named, Outcome, Pause, Refusal, Repository, Search};
 use std::alloc::{AllocError, Global};
 
 /// What a search tells. A text is an index in the buffer, at which it begins; a NUL is at its end. A text that does not
@@ -43,7 +41,7 @@ pub struct GcvFound {
     pub subject: u32,
     /// What Git does: 0 it finds no repository, 1 it uses one, 2 it refuses one, 3 it stops.
     pub outcome: u32,
-    /// The number of the refusal or of the fault.
+    /// The number of the refusal, or of the reason for which Git stops.
     pub kind: u32,
     /// 1 if HEAD names a branch, and otherwise 0.
     pub has_branch: u32,
@@ -121,12 +119,12 @@ impl Told {
     }
 
     /// Tells where Git stops.
-    fn push_fault(&mut self, fault: &Fault) -> Result<(), AllocError> {
+    fn push_stop(&mut self, stop: &Stop<Vec<u8>>) -> Result<(), AllocError> {
         self.found.outcome = STOPS;
-        self.found.kind = fault_number(fault.kind);
-        self.found.line = fault.line;
-        self.found.file = self.push(&fault.file)?;
-        self.found.reason = self.push(&fault.reason)?;
+        self.found.kind = stop.why.number();
+        self.found.line = stop.line;
+        self.found.file = self.push(&stop.file)?;
+        self.found.reason = self.push(&stop.words)?;
         Ok(())
     }
 
@@ -136,7 +134,7 @@ impl Told {
             Outcome::FindsNone => Ok(()),
             Outcome::Uses(repository) => self.push_repository(repository),
             Outcome::Refuses(refusal) => self.push_refusal(alloc, refusal),
-            Outcome::Stops(fault) => self.push_fault(fault),
+            Outcome::Stops(stop) => self.push_stop(stop),
         }
     }
 
@@ -188,26 +186,6 @@ fn refusal_number(refusal: &Refusal) -> u32 {
     }
 }
 
-/// The number of a fault.
-fn fault_number(kind: FaultKind) -> u32 {
-    match kind {
-        FaultKind::Folder => 1,
-        FaultKind::File => 2,
-        FaultKind::Line => 3,
-        FaultKind::Nul => 4,
-        FaultKind::NoValue => 5,
-        FaultKind::UnknownDirectory => 6,
-        FaultKind::Unreadable => 7,
-        FaultKind::Relative => 8,
-        FaultKind::TooDeep => 9,
-        FaultKind::ForbiddenUrl => 10,
-        FaultKind::Value => 11,
-        FaultKind::Command => 12,
-        // none that a header of this version names
-        _ => 0,
-    }
-}
-
 /// What a search tells next, and the status of that.
 fn told_next(alloc: Global, search: &mut Search<'static>) -> Result<(Told, u32), AllocError>
     ensures { search.new ≡ search.old }
@@ -218,12 +196,12 @@ fn told_next(alloc: Global, search: &mut Search<'static>) -> Result<(Told, u32),
             told.push_answer(alloc, &answer)?;
             Ok((told, Status::Ok as u32))
         }
-        Err(Stop::Ask(question)) => {
+        Err(Pause::Ask(question)) => {
             told.found.subject = question.subject;
             told.push(&question.name)?;
             Ok((told, Status::Asks as u32))
         }
-        Err(Stop::Memory(error)) => Err(error),
+        Err(Pause::Memory(error)) => Err(error),
     }
 }
 

@@ -1,6 +1,7 @@
 //! The statuses that calls return.
 
-/// The outcome of a call: `Ok`, or the reason why it is not. A call returns it to C as the number given here.
+/// The outcome of a call: `Ok`, or the reason why it is not. A call returns it to C as the number given here. Where Git
+/// stops, it returns the number of a [`Why`](config_file::Why), which none of these has.
 #[derive(Clone, Copy)]
 pub enum Status {
     /// The call has put its result.
@@ -31,18 +32,8 @@ pub enum Status {
     ShortBuffer = 13,
     /// Memory was refused, or the text of a path is longer than a block of memory can be.
     NoMemory = 14,
-    /// A line of a file is invalid.
-    BadLine = 15,
-    /// A file has a NUL outside a comment.
-    Nul = 16,
     /// The entry includes no file.
     NoInclude = 17,
-    /// The entry includes a file, but has no value.
-    NoValue = 18,
-    /// The path of an include begins with a user's name, or with a directory that is not given.
-    NoDirectory = 19,
-    /// The file is more than ten includes deep.
-    TooDeep = 20,
     /// No depth of colors has this number.
     BadDepth = 21,
     /// `GIT_CONFIG_COUNT` is no number.
@@ -73,8 +64,6 @@ pub enum Status {
     BadSection = 34,
     /// Several entries have the key.
     Several = 35,
-    /// The entry is the URL of a remote, in a file that is included on a condition, where Git allows none.
-    ForbiddenUrl = 36,
     /// A search needs a fact that it was not told.
     Asks = 37,
     /// No call returns this: a search takes as many facts as there is memory for. The number stays taken.

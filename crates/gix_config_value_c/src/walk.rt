@@ -13,7 +13,7 @@ ghost use Rattle.gix_config_value_c.specs.Walks.{AreUrls, flags, IsKnown, name_i
 ghost use Rattle.gix_config_value_c.specs.Walks.{step_struct, line_struct};
 ghost use Rattle.gix_config_value_c.specs.Values.{IsNoValue};
 
-use crate::files::{Setting, fault_status, push_text, push_value};
+use crate::files::{Setting, push_text, push_value};
 use crate::numbers::{flag_number, flag_of, role_number};
 use crate::paths::given;
 use crate::roles::{Role, role_of};
@@ -22,7 +22,7 @@ use config_file::errors::FileError;
 use config_file::section::{Section, Subsection};
 use config_file::{
     Directories, Entries, Entry, FilePlace, Frame, Include, Includes, Known, Repository, Step,
-    Urls, Walk,
+    Urls, Walk, Why,
 };
 use std::alloc::{AllocError, Global};
 
@@ -320,13 +320,13 @@ pub(crate) fn texts_of(
 
 /// Returns the number of the status that says what an entry includes.
 fn include_status(include: &Include) -> u32
-    ensures { result ≡ status_number (include_status include.now) }
+    ensures { result ≡ include_status include.now }
 {
     match include {
         Include::NotFollowed => Status::NoInclude as u32,
-        Include::MissingValue => Status::NoValue as u32,
-        Include::UnknownDirectory => Status::NoDirectory as u32,
-        Include::ForbiddenUrl => Status::ForbiddenUrl as u32,
+        Include::MissingValue => Why::NoValue.number(),
+        Include::UnknownDirectory => Why::UnknownDirectory.number(),
+        Include::ForbiddenUrl => Why::ForbiddenUrl.number(),
         Include::Named(_) => Status::Ok as u32,
     }
 }
@@ -383,7 +383,7 @@ pub extern "C" fn gcv_raw_enter<'t>(
     ensures { EntersInto count.old frame.old name.now real_dir.now text.now count.new frame.new result }
 {
     if *count >= MOST_FRAMES {
-        return Status::TooDeep as u32;
+        return Why::TooDeep.number();
     }
     let place = FilePlace { name, real_dir };
     let entries = Entries::new(text);
@@ -441,7 +441,7 @@ pub extern "C" fn gcv_raw_next<'t>(
         Step::Line(place, error) => {
             *out = line_struct(place, error);
             *count = put_frames(&walk, frames);
-            fault_status(error.fault)
+            error.why.number()
         }
         Step::Ends => {
             *count = put_frames(&walk, frames);

@@ -391,10 +391,10 @@ static void status_texts(void)
 {
     const char *unknown = gcv_status_text((gcv_status)11);
     count(strcmp(unknown, "unknown status") == 0 && gcv_status_text((gcv_status)UINT32_MAX) == unknown, unknown);
-    for (uint32_t status = GCV_OK; status <= GCV_BAD_FORMAT; status++) {
+    for (uint32_t status = GCV_OK; status <= GCV_NO_FOLDER; status++) {
         const char *text = gcv_status_text((gcv_status)status);
         int is_none = status == 11 || (status > GCV_TOO_MANY_FACTS && status < GCV_NOT_READ), differs = strlen(text) > 0;
-        for (uint32_t other = status + 1; other <= GCV_BAD_FORMAT + 1; other++) {
+        for (uint32_t other = status + 1; other <= GCV_NO_FOLDER + 1; other++) {
             differs = differs && (is_none || strcmp(text, gcv_status_text((gcv_status)other)) != 0);
         }
         count(differs && is_none == (text == unknown), text);

@@ -18,7 +18,7 @@ CRATE = pathlib.Path(__file__).resolve().parent.parent
 ROOT = CRATE.parent.parent
 HEADER, RAW, CALLS = CRATE / "include/gix_config_value.h", CRATE / "raw.h", CRATE / "calls.c"
 NUMBERS, FAULTS = CRATE / "specs/Numbers.antt", CRATE / "specs/Faults.antt"
-WORDS = ROOT / "crates/config_word"
+WORDS, REASONS = ROOT / "crates/config_word", ROOT / "crates/config_file"
 MODULE = ROOT / "python/_core.c"
 # a file, and the pattern of the version in it
 PLACES = [
@@ -41,7 +41,9 @@ CONSTANTS = [
 ENUMS = {
     "GCV_OK": [
         ("GCV_", CRATE / "src/status.rt", r"^    (\w+) = (\d+),$", int),
+        ("GCV_", REASONS / "src/errors.rt", r"^    (\w+) = (\d+),$", int),
         ("GCV_", NUMBERS, r"^status_number statuses\.(\w+) = (\d+)$", int),
+        ("GCV_", REASONS / "specs/Errors.antt", r"^why_number (\w+) = (\d+)$", int),
     ],
     "GCV_PLAIN": [
         ("GCV_", CRATE / "src/roles.rt", r"^    (\w+) = (\d+),$", int),
@@ -85,9 +87,10 @@ ENUMS = {
 }
 # the constants that are 0: the fault of a refused suffix, an integer without a suffix, no colors, a color without a name
 ZEROS = ("GCV_FAULT_NONE", "GCV_NO_SUFFIX", "GCV_NO_COLORS", "GCV_NO_NAME")
-# from this number on a status is one of calls over files
-OF_FILES = 64
-OTHER_NAMES = {"GCV_FAULT_ILL_FORMED_WHOLE": "GCV_FAULT_ILL_FORMED_PATH", "GCV_KIND": "GCV_FILE_KIND"}
+# the statuses that only calls over files return
+OF_FILES = ("GCV_LOCKED", "GCV_NOT_WRITTEN")
+OTHER_NAMES = {"GCV_FAULT_ILL_FORMED_WHOLE": "GCV_FAULT_ILL_FORMED_PATH", "GCV_KIND": "GCV_FILE_KIND",
+               "GCV_UNKNOWN_DIRECTORY": "GCV_NO_DIRECTORY", "GCV_UNREADABLE": "GCV_NOT_READ"}
 # the types of C for those of Rattle, and their sizes
 TYPES = {"i64": "int64_t", "u32": "uint32_t", "u8": "uint8_t", "usize": "size_t", "*mut u8": "void *"}
 TYPES |= {f"Gcv{it.title()}": f"gcv_{it}" for it in ("integer", "name", "color", "frame", "search")}
@@ -127,7 +130,7 @@ def numbers():
     """Each number of an enum of the header: in the header, and in each sort of file that has it. A proved call returns
     no status of the calls over files."""
     for first, places in ENUMS.items():
-        here = {name: number for name, number in enum_of(first).items() if first != "GCV_OK" or number < OF_FILES}
+        here = {name: number for name, number in enum_of(first).items() if name not in OF_FILES}
         found = {path.suffix: {} for _, path, *_ in places}
         for beginning, path, pattern, value in places:
             for it in re.finditer(pattern, text_of(path), re.MULTILINE):

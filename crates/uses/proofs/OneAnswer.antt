@@ -1,4 +1,5 @@
 -- The headline of configuration files has one answer, unless memory is refused.
+use denote.Ref.{Bor}
 use Rattle.std.proofs.Common.{◌≡◌, ◌++◌, ◌∷◌, [], ℕ, List, Bool, true, false, Option, None, Some, map, refl, sym, ap}
 use Rattle.std.proofs.Common.{◌∙◌, subst, append-nil}
 use Rattle.std.specs.Prelude.{Result, Ok, Err}
@@ -11,6 +12,7 @@ use Rattle.config_file.specs.Settings.{HasOneReading, IsSameEnd, TellsStop, foun
 use Rattle.config_file.specs.Value.{SpellsValue}
 use Rattle.config_file.specs.Walk.{Content, Item, Stop, WalksText, HasOneContent}
 use Rattle.config_file.specs.declared.key.KeyError.{KeyError}
+use Rattle.config_file.specs.declared.errors.Stop.{Stop as Told}
 use Rattle.config_file.specs.declared.settings.AddError.{AddError}
 use Rattle.config_file.specs.declared.settings.AddError.TheVariants as error
 use Rattle.config_file.specs.declared.walk.FilePlace.{FilePlace}
@@ -87,9 +89,7 @@ module _ (contents : List ℕ → Content → Type 0) (known : Known) (one : Has
     whole_or_stop : {found : List (List ℕ × Entry)} (e : AddError) → HasMemory {V = Bool} (Err (no_value.Stops e))
         → WalksAll contents known files found None → StopsWith contents known files e → ⊥
     whole_or_stop (error.Memory m) memory walks is = memory
-    whole_or_stop {found = f} (error.Line name at) memory walks (found, file, stop, also, tells) =
-        none-some _ (one_walks files f found None (Some (file, stop)) walks also).1
-    whole_or_stop {found = f} (error.Include name line why) memory walks (found, file, stop, also, tells) =
+    whole_or_stop {found = f} (error.Stops told) memory walks (found, file, stop, also, tells) =
         none-some _ (one_walks files f found None (Some (file, stop)) walks also).1
 
     no_entry_or_decided : {found : List (List ℕ × Entry)} {key other : Key} {entry : List ℕ × Entry} {text : List ℕ}
@@ -106,9 +106,10 @@ module _ (contents : List ℕ → Content → Type 0) (known : Known) (one : Has
         let entries = one_last (rw (same, founds) at is.is_last) so.is_last in
         (entries, one_text_of (subst (λ e. HasText e.1 s) entries is.has_text) so.has_text)
 
-    stopped : {found more : List (List ℕ × Entry)} {file other : List ℕ} {at to : Stop} (e f : AddError)
+    stopped : {found more : List (List ℕ × Entry)} {file other : List ℕ} {at to : Stop} (e f : Told (Bor (List ℕ)))
         → WalksAll contents known files found (Some (file, at)) → TellsStop file at e
-        → WalksAll contents known files more (Some (other, to)) → TellsStop other to f → IsSameEnd (Err e) (Err f)
+        → WalksAll contents known files more (Some (other, to)) → TellsStop other to f
+        → IsSameEnd (Err (error.Stops e)) (Err (error.Stops f))
     stopped {found = g} {more = h} {file = file} {other = other} {at = at} {to = to} e f walks tells also so =
         let (founds, both) = one_walks files g h (Some (file, at)) (Some (other, to)) walks also in
         let same = same_Some (file, at) (other, to) both in
@@ -119,14 +120,8 @@ module _ (contents : List ℕ → Content → Type 0) (known : Known) (one : Has
         → StopsWith contents known files f → IsSameEnd (Err e) (Err f)
     same_stop (error.Memory m) f memory also is so = absurd memory
     same_stop e (error.Memory m) memory also is so = absurd also
-    same_stop (error.Line n a) (error.Line m b) memory also (g, f, s, walks, tells) (h, o, t, more, so) =
-        stopped (error.Line n a) (error.Line m b) walks tells more so
-    same_stop (error.Line n a) (error.Include m l y) memory also (g, f, s, walks, tells) (h, o, t, more, so) =
-        stopped (error.Line n a) (error.Include m l y) walks tells more so
-    same_stop (error.Include n k x) (error.Line m b) memory also (g, f, s, walks, tells) (h, o, t, more, so) =
-        stopped (error.Include n k x) (error.Line m b) walks tells more so
-    same_stop (error.Include n k x) (error.Include m l y) memory also (g, f, s, walks, tells) (h, o, t, more, so) =
-        stopped (error.Include n k x) (error.Include m l y) walks tells more so
+    same_stop (error.Stops e) (error.Stops f) memory also (g, name, s, walks, tells) (h, o, t, more, so) =
+        stopped e f walks tells more so
 
 -- ---- answers
 

@@ -148,10 +148,7 @@ pub stops_after : (contents : List ℕ → Content → Type 0) (known : Known) (
     → AreRead contents known files old → AddsWalk contents known first.place first.text.now old new (Err e)
     → StopsWith contents known (files ++ first ∷ others) e
 stops_after contents known files others first old new (error.Memory m) read adds = tt
-stops_after contents known files others first old new (error.Line name at) (found, walks, rest)
-    (more, file, stop, adds, tells, walk) =
-    (found ++ more, file, stop, walks_append walks refl (stops walk), tells)
-stops_after contents known files others first old new (error.Include name line fault) (found, walks, rest)
+stops_after contents known files others first old new (error.Stops told) (found, walks, rest)
     (more, file, stop, adds, tells, walk) =
     (found ++ more, file, stop, walks_append walks refl (stops walk), tells)
 

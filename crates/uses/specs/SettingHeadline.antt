@@ -10,9 +10,10 @@ use Rattle.config_file.specs.File.{Entry}
 use Rattle.config_file.specs.Key.{Key, HasKey, IsKey, RefusesKey}
 use Rattle.config_file.specs.Settings.{IsSameEnd, TellsStop, found_item}
 use Rattle.config_file.specs.Value.{Ending, SpellsValue}
-use Rattle.config_file.specs.Walk.{Content, Stop, Stops, WalksText}
+use Rattle.config_file.specs.Walk.{Content, Stop, WalksText}
+use Rattle.config_file.specs.Walk as walk
 use Rattle.config_file.specs.declared.settings.AddError.{AddError}
-use Rattle.config_file.specs.declared.settings.AddError.TheVariants.{Memory}
+use Rattle.config_file.specs.declared.settings.AddError.TheVariants.{Memory, Stops}
 use Rattle.config_file.specs.declared.walk.Known.{Known}
 use Rattle.uses.specs.declared.setting_headline.FirstFile.{FirstFile}
 use Rattle.uses.specs.declared.setting_headline.NoValue.{NoValue}
@@ -31,7 +32,7 @@ pub data WalksAll (contents : List ℕ → Content → Type 0) (known : Known)
   stops : {first : FirstFile} {others : List FirstFile} {found : List (List ℕ × Entry)} {file : List ℕ}
       {stop : Stop}
       → WalksText contents known first.place first.text.now
-      (map found_item found ++ (file, Stops stop) ∷ []) false
+      (map found_item found ++ (file, walk.Stops stop) ∷ []) false
       → WalksAll contents known (first ∷ others) found (Some (file, stop))
 
 -- none of these entries has the key
@@ -59,11 +60,11 @@ pub record IsDecided (contents : List ℕ → Content → Type 0) (known : Known
   pub is_last : IsLast key found last
   pub has_text : HasText last.1 text
 
--- Git stops in the file of this name, and the error tells where and why; nothing is said of refused memory
+-- Git stops in the file of this name, and it is told where and why; nothing is said of refused memory
 abbrev pub StopsWith : (List ℕ → Content → Type 0) → Known → List FirstFile → AddError → Type 0
 StopsWith contents known first (Memory _) = ⊤
-StopsWith contents known first error = (found : List (List ℕ × Entry)) × (file : List ℕ) × (stop : Stop)
-    × WalksAll contents known first found (Some (file, stop)) × TellsStop file stop error
+StopsWith contents known first (Stops told) = (found : List (List ℕ × Entry)) × (file : List ℕ) × (stop : Stop)
+    × WalksAll contents known first found (Some (file, stop)) × TellsStop file stop told
 
 -- what a key gives: no value if no entry has it, or else the value that the grammar gives the text of the last
 -- entry, or a refusal of that text; or a stop of Git

@@ -52,7 +52,7 @@ AddsNext contents known from to old new (Ok true) =
     (found : List ℕ × Entry) × AddsEach (found ∷ []) old new × Comes contents known from (found_item found ∷ []) to
 AddsNext contents known from to old new (Ok false) = (new ≡ old) × (to ≡ []) × Comes contents known from [] to
 AddsNext contents known from to old new (Err (error.Memory _)) = new ≡ old
-AddsNext contents known from to old new (Err error) =
-    (found : List (List ℕ × Entry)) × (file : List ℕ) × (stop : Stop) × AddsEach found old new × TellsStop file stop error
+AddsNext contents known from to old new (Err (error.Stops told)) =
+    (found : List (List ℕ × Entry)) × (file : List ℕ) × (stop : Stop) × AddsEach found old new × TellsStop file stop told
     × ((frames : List Frame) × (length frames ≤ 11)
     × Comes contents known from (map found_item found ++ (file, Stops stop) ∷ []) frames)

@@ -2,7 +2,7 @@
 use Rattle.std.specs.Prelude.{◌≡◌, ℕ, true, List, Option, Some, None, ⊤}
 use Rattle.std.specs.List.{list_all}
 use Rattle.config_file.specs.File.{Entry, TakesEntry, EntryStops}
-use Rattle.config_file.specs.Header.{fault_at}
+use Rattle.config_file.specs.Header.{why_at}
 use Rattle.config_file.specs.Reading.Scans.{is_unmarked}
 use Rattle.config_file.specs.Value.{TakesValue, ValueStops}
 use Rattle.config_file.specs.declared.entry.EntryEnd.{EntryEnd}
@@ -32,14 +32,14 @@ abbrev pub EndsValueAs : EntryForm → List ℕ → List ℕ → ℕ → List �
 EndsValueAs Alone text raw lines rest = ⊥
 EndsValueAs Plain text raw lines rest = TakesValue text raw lines rest × FitsForm Plain raw
 EndsValueAs Marked text raw lines rest = TakesValue text raw lines rest × FitsForm Marked raw
-EndsValueAs Refused text raw lines rest = ValueStops text lines (fault_at rest)
+EndsValueAs Refused text raw lines rest = ValueStops text lines (why_at rest)
 
 abbrev pub IsValueEnd : List ℕ → ValueEnd → Type 0
 IsValueEnd text end = EndsValueAs end.form text end.raw.now end.lines end.rest.now
 
 -- the text begins with an entry of this form, or it is refused where this rest begins
 abbrev pub EndsEntryAs : EntryForm → List ℕ → List ℕ → List ℕ → ℕ → List ℕ → Type 0
-EndsEntryAs Refused text key raw lines rest = EntryStops text lines (fault_at rest)
+EndsEntryAs Refused text key raw lines rest = EntryStops text lines (why_at rest)
 EndsEntryAs form text key raw lines rest = TakesEntry text key (value_as form raw) lines rest × FitsForm form raw
 
 abbrev pub IsEntryEnd : List ℕ → EntryEnd → Type 0

@@ -5,24 +5,24 @@ ghost use Rattle.config_file.specs.Include.{IsSameCondition};
 
 use crate::bytes::Class;
 use crate::entry::{Entry, EntryForm, EntryParts};
-use crate::errors::{FileError, FileFault, Stop};
+use crate::errors::{FileError, ItemError, Stop, Why};
 use crate::files::Content;
 use crate::include::{Condition, Includes, Repository, Urls};
 use crate::key::{Key, KeyError};
 use crate::path::{Directories, Expanded};
 use crate::scope::Scope;
 use crate::section::{Section, Subsection};
-use crate::settings::{AddError, GetError, IncludeFault, RefusedSetting, SettingPlace};
+use crate::settings::{AddError, GetError, RefusedSetting, SettingPlace};
 use crate::value::Value;
 use crate::walk::{FilePlace, Known};
 
-/// Faults are equal exactly if they are the same.
-pub fn faults()
-    ensures equality { Equates (◌≡◌) ⟦<FileFault as PartialEq>⟧.eq }
-    ensures clones { IsCopied ⟦<FileFault as Clone>⟧.is_clone ⟦<FileFault as Clone>⟧.is_infallible }
+/// Reasons are equal exactly if they are the same.
+pub fn reasons()
+    ensures equality { Equates (◌≡◌) ⟦<Why as PartialEq>⟧.eq }
+    ensures clones { IsCopied ⟦<Why as Clone>⟧.is_clone ⟦<Why as Clone>⟧.is_infallible }
 {}
 
-/// Errors are equal exactly if their lines and their faults are the same.
+/// Errors are equal exactly if their lines and their reasons are the same.
 pub fn errors()
     ensures equality { Equates (◌≡◌) ⟦<FileError as PartialEq>⟧.eq }
     ensures clones { IsCopied ⟦<FileError as Clone>⟧.is_clone ⟦<FileError as Clone>⟧.is_infallible }
@@ -69,7 +69,7 @@ pub fn entries()
 /// A clone of a class of bytes, or of where the reading of an item stops, is the same, and never fails.
 pub fn items()
     ensures classes { IsCopied ⟦<Class as Clone>⟧.is_clone ⟦<Class as Clone>⟧.is_infallible }
-    ensures stops { IsCopied ⟦<Stop as Clone>⟧.is_clone ⟦<Stop as Clone>⟧.is_infallible }
+    ensures stops { IsCopied ⟦<ItemError as Clone>⟧.is_clone ⟦<ItemError as Clone>⟧.is_infallible }
 {}
 
 /// A clone of what a walk knows or finds is the same, and never fails.
@@ -93,8 +93,8 @@ pub fn walks()
 pub fn errors_of_settings()
     ensures added { IsCopied ⟦<AddError<'static> as Clone>⟧.is_clone
         ⟦<AddError<'static> as Clone>⟧.is_infallible }
-    ensures included { IsCopied ⟦<IncludeFault<'static> as Clone>⟧.is_clone
-        ⟦<IncludeFault<'static> as Clone>⟧.is_infallible }
+    ensures stops { IsCopied ⟦<Stop<&'static [u8]> as Clone>⟧.is_clone
+        ⟦<Stop<&'static [u8]> as Clone>⟧.is_infallible }
     ensures got { IsCopied ⟦<GetError<'static, 'static> as Clone>⟧.is_clone
         ⟦<GetError<'static, 'static> as Clone>⟧.is_infallible }
     ensures places { IsCopied ⟦<SettingPlace<'static, 'static> as Clone>⟧.is_clone

@@ -4,12 +4,16 @@ ghost use Rattle.config_text.specs.Faults.{fault_text};
 ghost use Rattle.config_text.specs.declared.errors.Fault.{Fault};
 ghost use Rattle.config_path.specs.Interpolation.{path_error_text};
 ghost use Rattle.config_path.specs.declared.interpolate.Error.{Error};
+ghost use Rattle.config_file.specs.Errors.{why_number};
+ghost use Rattle.config_file.specs.declared.errors.Why.{Why};
+ghost use Rattle.gix_config_value_c.specs.declared.status.Status.{Status};
 ghost use Rattle.gix_config_value_c.specs.Answers.{TellsApart};
 ghost use Rattle.gix_config_value_c.specs.Numbers.{status_number, kind_number, suffix_number, flag_number};
 ghost use Rattle.gix_config_value_c.specs.Numbers.{role_number, depth_number, fault_number};
 ghost use Rattle.gix_config_value_c.specs.Faults.{place_number, path_fault_number, numbered_text};
 
-/// No two statuses, roles, kinds, suffixes, depths or truth values have the same number.
+/// No two statuses, roles, kinds, suffixes, depths or truth values have the same number, and no status has that of a
+/// reason for which Git stops.
 pub fn numbers()
     ensures statuses { TellsApart status_number }
     ensures roles { TellsApart role_number }
@@ -17,6 +21,7 @@ pub fn numbers()
     ensures suffixes { TellsApart suffix_number }
     ensures depths { TellsApart depth_number }
     ensures flags { TellsApart flag_number }
+    ensures reasons { (status : Status) (why : Why) → status_number status ≢ why_number why }
 {}
 
 /// No two faults of texts have the same number, and no two places in a path have. Faults of paths with one

@@ -9,10 +9,10 @@ returns-then-is_empty c = rw (nil_from_length c.args.after.now (search rules)) a
 
 pub returns-then-is_empty-2 : goal.returns-then-is_empty-2
 returns-then-is_empty-2 c =
-    rw (c.stop_at.ensures.lines, c.stop_at.ensures.fault)
+    rw (c.stop_at.ensures.lines, c.stop_at.ensures.why)
     (name_stops_empty c.args.name.now c.args.after.now (search rules) (nil_from_length c.args.name.now (search rules)))
 
 pub returns-in-None : goal.returns-in-None
 returns-in-None c =
-    rw (c.stop_at-in-None.ensures.lines, c.stop_at-in-None.ensures.fault)
+    rw (c.stop_at-in-None.ensures.lines, c.stop_at-in-None.ensures.why)
     (name_stops_not_closed c.args.name.now c.args.after.now (search rules) c.in-None.ensures)

@@ -17,7 +17,7 @@ returns-then-is_empty c =
 
 pub returns-in_default : goal.returns-in_default
 returns-in_default c =
-    rw (c.stop_at.ensures.lines, c.stop_at.ensures.fault) (blanks c.run.ensures c.run-2.ensures (search rules) c.in_default.ensures)
+    rw (c.stop_at.ensures.lines, c.stop_at.ensures.why) (blanks c.run.ensures c.run-2.ensures (search rules) c.in_default.ensures)
 
 pub returns-in_err-subsection : goal.returns-in_err-subsection
 returns-in_err-subsection c =

@@ -4,8 +4,8 @@ use Rattle.config_search.specs.Questions.{MayName, by_settings}
 use Rattle.config_search.proofs.Stores.{if_some}
 use Rattle.config_search.proofs.format.format_in.Goals as goal
 
-pub returns : goal.returns
-returns c =
+pub returns-in-Ok : goal.returns-in-Ok
+returns-in-Ok c =
     let named : (system : System) → AreTrueIn system c.args.lookup.now.facts.now → MayName system =
     λ system agrees. by_settings (sym (rw c.in-Some.is at c.in_ok-text.ensures system agrees)) in
-    if_some _ named
+    if_some c.in-Ok.format.store.place named

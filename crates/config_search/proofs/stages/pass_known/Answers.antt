@@ -14,5 +14,5 @@ returns-in-Ok-clause-right c = λ system agrees. let (site, safe, named) = c.req
     (c.in-Ok.ensures system agrees site.shared safe))
 
 pub halts-requires-clause-stops : goal.halts-requires-clause-stops
-halts-requires-clause-stops c = λ system fault agrees.
-    site_stops system c.args.lookup.now.folder.now c.args.site fault (c.requires system agrees).0
+halts-requires-clause-stops c = λ system stop agrees.
+    site_stops system c.args.lookup.now.folder.now c.args.site stop (c.requires system agrees).0

@@ -4,8 +4,8 @@ use Rattle.config_search.proofs.Readings.{unread_more, unread_within}
 use Rattle.config_search.proofs.stages.pass_opens.Goals as goal
 
 pub halts-requires-clause-stops : goal.halts-requires-clause-stops
-halts-requires-clause-stops c = λ system fault agrees.
-    site_stops system c.args.lookup.now.folder.now c.args.site fault (c.requires system agrees).0
+halts-requires-clause-stops c = λ system stop agrees.
+    site_stops system c.args.lookup.now.folder.now c.args.site stop (c.requires system agrees).0
 
 pub returns-in-Some-clause-right : goal.returns-in-Some-clause-right
 returns-in-Some-clause-right c = λ system agrees. let (site, is) = c.requires system agrees in

@@ -15,12 +15,12 @@ halts-requires-clause-right c = λ system agrees. let (site, is) = c.requires sy
 )
 
 pub halts-requires-clause-stops : goal.halts-requires-clause-stops
-halts-requires-clause-stops c = λ system fault agrees.
-    site_stops system c.args.lookup.now.folder.now c.args.site fault (c.requires system agrees).0
+halts-requires-clause-stops c = λ system stop agrees.
+    site_stops system c.args.lookup.now.folder.now c.args.site stop (c.requires system agrees).0
 
 pub halts-requires-in-Err-take-clause-stops : goal.halts-requires-in-Err-take-clause-stops
-halts-requires-in-Err-take-clause-stops c = λ system fault agrees.
-    site_stops system c.args.lookup.now.folder.now c.args.site fault (c.requires system agrees).0
+halts-requires-in-Err-take-clause-stops c = λ system stop agrees.
+    site_stops system c.args.lookup.now.folder.now c.args.site stop (c.requires system agrees).0
 
 pub halts-requires-in-Err-take-clause-asks : goal.halts-requires-in-Err-take-clause-asks
 halts-requires-in-Err-take-clause-asks c = c.in-Err-take.ensures.takes c.args.lookup.now.folder.now c.args.lookup.now.facts.now

@@ -3,8 +3,8 @@ use Rattle.config_search.proofs.Stores.{if_some}
 use Rattle.config_search.proofs.stages.pass_stated.Goals as goal
 
 pub halts-requires-clause-stops : goal.halts-requires-clause-stops
-halts-requires-clause-stops c = λ system fault agrees.
-    site_stops system c.args.lookup.now.folder.now c.args.site fault (c.requires system agrees).0
+halts-requires-clause-stops c = λ system stop agrees.
+    site_stops system c.args.lookup.now.folder.now c.args.site stop (c.requires system agrees).0
 
 pub returns-then-not-format-clause-right : goal.returns-then-not-format-clause-right
 returns-then-not-format-clause-right c = λ system agrees. let (site, safe, named) = c.requires system agrees in

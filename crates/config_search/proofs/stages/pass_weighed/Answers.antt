@@ -2,12 +2,12 @@ use Rattle.config_search.proofs.StageSteps.{site_stops}
 use Rattle.config_search.proofs.stages.pass_weighed.Goals as goal
 
 pub halts-requires-clause-stops : goal.halts-requires-clause-stops
-halts-requires-clause-stops c = λ system fault agrees.
-    site_stops system c.args.lookup.now.folder.now c.args.site fault (c.requires system agrees).0
+halts-requires-clause-stops c = λ system stop agrees.
+    site_stops system c.args.lookup.now.folder.now c.args.site stop (c.requires system agrees).0
 
 pub halts-requires-in-Err-refuse-clause-stops : goal.halts-requires-in-Err-refuse-clause-stops
-halts-requires-in-Err-refuse-clause-stops c = λ system fault agrees.
-    site_stops system c.args.lookup.now.folder.now c.args.site fault (c.requires system agrees).0
+halts-requires-in-Err-refuse-clause-stops c = λ system stop agrees.
+    site_stops system c.args.lookup.now.folder.now c.args.site stop (c.requires system agrees).0
 
 pub returns-in-Trusted-clause-right : goal.returns-in-Trusted-clause-right
 returns-in-Trusted-clause-right c = λ system agrees. rw c.to.ensures.same (

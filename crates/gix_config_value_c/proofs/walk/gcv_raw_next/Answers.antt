@@ -62,7 +62,7 @@ returns-in-Line c =
       c.in-Some-walk_of.ensures,
       λ answers. rw c.in-Line.is at (c.in-Ok.ensures.takes answers),
     ) c.put_frames-in-Line.ensures.count c.put_frames-in-Line.ensures.holds
-    (refl, c.line_struct.ensures, c.fault_status.ensures)
+    (refl, c.line_struct.ensures, c.number.ensures)
 
 pub returns-in-Ends : goal.returns-in-Ends
 returns-in-Ends c =

@@ -1,7 +1,7 @@
 use Rattle.std.proofs.Common.{rules, refl, [], ◌∷◌}
 use Rattle.config_file.specs.Views.{entry_of}
 use Rattle.config_file.specs.Walk.{Line, TooDeep}
-use Rattle.config_file.proofs.Coming.{line_next, ends_next, passed_next, entered_next, deep_next, stop_comes}
+use Rattle.config_file.proofs.Coming.{line_next, ends_next, passed_next, entered_next, deep_next, stop_comes, told_in_words}
 use Rattle.config_answers.specs.Given.{nothing, one_more}
 use Rattle.config_answers.proofs.choice.Choice.give_next.Goals as goal
 
@@ -11,7 +11,7 @@ returns-in-Line-clause-gives g c = (
   c.in-Line.place.name.now,
   Line c.in-Line.error,
   nothing,
-  (refl, refl),
+  told_in_words c.at.ensures.place.0 c.at.ensures.place.1 c.at.ensures.reason.0 c.at.ensures.reason.1,
   (
     c.next.new.self.frames.items,
     c.next.new.self.fits,
@@ -52,7 +52,8 @@ returns-in-In-2-clause-gives g c = (
   c.in-Entry.place.name.now,
   TooDeep (entry_of c.in-Entry.entry),
   one_more _ nothing c.in-Ok-give.ensures.gives,
-  (refl, refl, tt),
+  told_in_words c.at-in-In-2.ensures.place.0 c.at-in-In-2.ensures.place.1 c.at-in-In-2.ensures.reason.0
+      c.at-in-In-2.ensures.reason.1,
   (
     c.next.new.self.frames.items,
     c.next.new.self.fits,
@@ -67,8 +68,9 @@ pub returns-in-Stops-clause-gives : goal.returns-in-Stops-clause-gives
 returns-in-Stops-clause-gives g c =
     let (stop, tells, comes) = stop_comes (g.F.Files.contents c.args.files.now) c.args.known.now
     c.args.walk.now.frames.items c.next.new.self.frames.items c.in-Entry.place c.in-Entry.entry
-    c.in-Entry.include c.in-Stops.fault (λ answers. rw c.in-Entry.is at (c.in-Ok.ensures.takes answers))
-    (rw c.in-Stops.is at c.in-Ok-next_of.ensures) in (
+    c.in-Entry.include (record { file = c.in-Entry.place.name; line = (entry_of c.in-Entry.entry).line; why = c.in-Stops.why; words = c.in-Stops.words })
+    (λ answers. rw c.in-Entry.is at (c.in-Ok.ensures.takes answers))
+    ((rw c.in-Stops.is at c.in-Ok-next_of.ensures).0) ((rw c.in-Stops.is at c.in-Ok-next_of.ensures).1) refl refl in (
       (c.in-Entry.place.name.now, entry_of c.in-Entry.entry) ∷ [],
       c.in-Entry.place.name.now,
       stop,

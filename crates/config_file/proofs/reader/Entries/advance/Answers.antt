@@ -55,7 +55,7 @@ refuse-requires c =
 
 pub returns-in-Err-clause-advances : goal.returns-in-Err-clause-advances
 returns-in-Err-clause-advances c = rw c.refuse.ensures.form (
-  c.items.invariant.same _ _ (refused_as _ c.refuse.ensures.line c.refuse.ensures.fault
+  c.items.invariant.same _ _ (refused_as _ c.refuse.ensures.line c.refuse.ensures.why
       (rw c.in-Some.ensures (file.header_refused c.if-byte-eq91.true c.in-Err.ensures))),
   c.refuse.ensures.left,
 )
@@ -72,7 +72,7 @@ returns-else-is_ascii_alphabetic-clause-advances c =
     let refused = c.refuse-else-is_ascii_alphabetic in
     rw refused.ensures.form (
       c.items.invariant.same _ _ (no_item _ _ c.in-Some.ensures other refused.ensures.line
-          (refused.ensures.fault ∙ c.fault_at-fault.ensures)),
+          (refused.ensures.why ∙ c.why_at-why.ensures)),
       refused.ensures.left,
     )
 

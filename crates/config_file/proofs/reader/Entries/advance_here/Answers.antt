@@ -15,7 +15,7 @@ returns-in-Refused-clause-advances c =
     let (b, rest, is, letter) = c.requires in
     let stops = is_stopped c.read_end-end.result.form _ _ _ (search rules) c.read_end-end.ensures in
     rw c.refuse.ensures.form (
-      refused_as _ c.refuse.ensures.line (c.refuse.ensures.fault ∙ c.fault_at-fault.ensures)
+      refused_as _ c.refuse.ensures.line (c.refuse.ensures.why ∙ c.why_at-why.ensures)
           (rw is (file.entry_refused letter (rw is at stops))),
       c.refuse.ensures.left,
     )

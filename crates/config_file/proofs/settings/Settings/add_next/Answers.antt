@@ -2,7 +2,7 @@ use Rattle.std.proofs.Common.{rules, refl, [], ◌∷◌}
 use Rattle.config_file.specs.Views.{entry_of}
 use Rattle.config_file.specs.Walk.{Line, TooDeep}
 use Rattle.config_file.proofs.Adding.{adds_none}
-use Rattle.config_file.proofs.Coming.{line_next, ends_next, passed_next, entered_next, deep_next, stop_comes}
+use Rattle.config_file.proofs.Coming.{line_next, ends_next, passed_next, entered_next, deep_next, stop_comes, told_in_words}
 use Rattle.config_file.proofs.settings.Settings.add_next.Goals as goal
 
 pub returns-in-Line-clause-adds : goal.returns-in-Line-clause-adds
@@ -11,7 +11,7 @@ returns-in-Line-clause-adds g c = (
   c.in-Line.place.name.now,
   Line c.in-Line.error,
   adds_none c.args.self.now.entries.items,
-  (refl, refl),
+  told_in_words c.at.ensures.place.0 c.at.ensures.place.1 c.at.ensures.reason.0 c.at.ensures.reason.1,
   (
     c.next.new.self.frames.items,
     c.next.new.self.fits,
@@ -52,7 +52,7 @@ returns-in-In-2-clause-adds g c = (
   c.in-Entry.place.name.now,
   TooDeep (entry_of c.in-Entry.entry),
   c.in-Ok-add.ensures.adds,
-  (refl, refl, tt),
+  told_in_words c.at-in-In-2.ensures.place.0 c.at-in-In-2.ensures.place.1 c.at-in-In-2.ensures.reason.0 c.at-in-In-2.ensures.reason.1,
   (
     c.next.new.self.frames.items,
     c.next.new.self.fits,
@@ -67,8 +67,9 @@ pub returns-in-Stops-clause-adds : goal.returns-in-Stops-clause-adds
 returns-in-Stops-clause-adds g c =
     let (stop, tells, comes) = stop_comes (g.S.Files.contents c.args.files.now) c.args.known.now
     c.args.walk.now.frames.items c.next.new.self.frames.items c.in-Entry.place c.in-Entry.entry
-    c.in-Entry.include c.in-Stops.fault (λ answers. rw c.in-Entry.is at (c.in-Ok.ensures.takes answers))
-    (rw c.in-Stops.is at c.in-Ok-next_of.ensures) in (
+    c.in-Entry.include (record { file = c.in-Entry.place.name; line = (entry_of c.in-Entry.entry).line; why = c.in-Stops.why; words = c.in-Stops.words })
+    (λ answers. rw c.in-Entry.is at (c.in-Ok.ensures.takes answers))
+    ((rw c.in-Stops.is at c.in-Ok-next_of.ensures).0) ((rw c.in-Stops.is at c.in-Ok-next_of.ensures).1) refl refl in (
       (c.in-Entry.place.name.now, entry_of c.in-Entry.entry) ∷ [],
       c.in-Entry.place.name.now,
       stop,
