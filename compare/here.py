@@ -16,20 +16,17 @@ A difference has to belong to a class of classes.OF_PLACES that is expected in t
 that is expected has to be seen. The run is the same for the same seed and number. The last line is 'N passed, M
 failed'. Without such a Git it says `skipped` and why, and nothing has passed.
 """
-import argparse
 import collections
 import os
-import pathlib
 import random
 import shlex
 import shutil
 import subprocess
 import sys
-import tempfile
 
 import classes
 import readers
-from programs import counted, report
+from programs import compared, report
 
 SHOWN = 20
 REFUSED = 128
@@ -424,6 +421,11 @@ PLACES = [
       for name in ("HOME", "XDG_CONFIG_HOME") for slashes in ("/", "//")),
     *(Shown(None, set(), {"GIT_WORK_TREE": "", **more}, "top", {"top/.git/config": "[a]b=1\n"})
       for more in ({}, {"GIT_DIR": ".git"}, {"GIT_DIR": "x"})),
+    # a user whom nobody knows, also behind a value that names every folder
+    *(Shown(None, set(), {"GIT_TEST_ASSUME_DIFFERENT_OWNER": more}, "top",
+            {"system": f"[safe]directory{first}\n[safe]directory=~nobody-of-this-name/x\n", "top/.git/config": "[a]b=1\n"})
+      for more in ("0", "1") for first in ("=*", "=", "=%(prefix)/x")),
+    *(Shown(None, set(), {}, "top", {"top/.git/config": f"[core]{line}\n[a]b=1\n[bad\n"}) for line in ("bare=x", "bare=no")),
 ]
 MADE = r"""
 git init -q -b main work; git -C work commit -q --allow-empty -m x; mkdir -p work/deep
@@ -568,18 +570,7 @@ def compare(arguments, folder):
 
 
 def main():
-    arguments = argparse.ArgumentParser()
-    arguments.add_argument("program", nargs="?")
-    arguments.add_argument("--seed", type=int, default=1)
-    arguments.add_argument("--places", type=int, default=400)
-    arguments.add_argument("--git", default="git")
-    arguments.add_argument("--python")
-    arguments.add_argument("--c")
-    arguments = arguments.parse_args()
-    if not (arguments.program or arguments.python or arguments.c):
-        sys.exit("neither a program nor a package")
-    with tempfile.TemporaryDirectory() as folder:
-        return counted(lambda: compare(arguments, pathlib.Path(os.path.realpath(folder))))
+    return compared(compare, seed=1, places=400)
 
 
 if __name__ == "__main__":

@@ -1,7 +1,10 @@
 """Asks programs that answer each line of their input by a line, also the Rust crate's, which bench/upstream builds."""
+import argparse
+import os
 import pathlib
 import subprocess
 import sys
+import tempfile
 
 ROOT = pathlib.Path(__file__).resolve().parent.parent
 
@@ -26,6 +29,23 @@ def counted(compare):
         failed = 1
     print(f"{passed} passed, {failed} failed")
     return 1 if failed else 0
+
+
+def compared(compare, **numbers):
+    """Compares the program, the Python package and the C library with a Git, as the arguments say, in a folder of its
+    own. Each of the numbers is an option too, and its default. Returns the exit status."""
+    arguments = argparse.ArgumentParser()
+    arguments.add_argument("program", nargs="?")
+    arguments.add_argument("--git", default="git")
+    arguments.add_argument("--python")
+    arguments.add_argument("--c")
+    for name, number in numbers.items():
+        arguments.add_argument(f"--{name}", type=int, default=number)
+    arguments = arguments.parse_args()
+    if not (arguments.program or arguments.python or arguments.c):
+        sys.exit("neither a program nor a package")
+    with tempfile.TemporaryDirectory() as folder:
+        return counted(lambda: compare(arguments, pathlib.Path(os.path.realpath(folder))))
 
 
 def report(comparison, told, shown):

@@ -11,17 +11,14 @@ Each row of ROWS is a folder, in which some files may not be read. Without setpr
 these rows are left out. The last line is 'N passed, M failed'. Without such a Git it says `skipped` and why, and nothing
 has passed.
 """
-import argparse
 import collections
 import os
-import pathlib
 import shutil
 import subprocess
 import sys
-import tempfile
 
 import readers
-from programs import counted, report
+from programs import compared, report
 
 SHOWN = 20
 # what root does as another user would
@@ -165,16 +162,7 @@ def compare(arguments, folder):
 
 
 def main():
-    arguments = argparse.ArgumentParser()
-    arguments.add_argument("program", nargs="?")
-    arguments.add_argument("--git", default="git")
-    arguments.add_argument("--python")
-    arguments.add_argument("--c")
-    arguments = arguments.parse_args()
-    if not (arguments.program or arguments.python or arguments.c):
-        sys.exit("neither a program nor a package")
-    with tempfile.TemporaryDirectory() as folder:
-        return counted(lambda: compare(arguments, pathlib.Path(os.path.realpath(folder))))
+    return compared(compare)
 
 
 if __name__ == "__main__":
