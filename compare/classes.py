@@ -249,14 +249,14 @@ BARE = "a git directory of a work tree as a bare repository"
 NOWHERE = "a file .git that leads nowhere"
 NO_PATH = "a GIT_DIR that is no path"
 NO_TREE = "a work tree that is missing"
-FIRST_DIR = "a first reading with a GIT_DIR that is not used"
+FIRST = "a first reading"
 NO_WORD = "a word about bare repositories that is missing"
 STORED = "references in a place of their own"
 NO_STORE = "references without a repository"
 OF_PLACES = {NO_URL: When(), PARTIAL: When(before=(2, 44)), SAFE_PATH: When(before=(2, 46)),
              EXTENSION: When(before=(2, 48)), OF_COMMAND: When(since=(2, 55)), COMMAND_KEY: When(before=(2, 55)),
              REFUSED_DIR: When(before=(2, 47)), BARE: When(before=(2, 45)), NOWHERE: When(), NO_PATH: When(), NO_TREE: When(),
-             FIRST_DIR: When(), NO_WORD: When(), STORED: When(before=(2, 54)), NO_STORE: When(since=(2, 54))}
+             FIRST: When(), NO_WORD: When(), STORED: When(before=(2, 54)), NO_STORE: When(since=(2, 54))}
 
 
 def dotted(version):

@@ -33,6 +33,8 @@ REFUSED = 128
 # another user, to whom files are given
 OTHER = 12345
 IS_ROOT = os.geteuid() == 0
+# variables that say where a file of the system or of the user is
+OF_FILES = {"GIT_CONFIG_SYSTEM", "GIT_CONFIG_GLOBAL", "XDG_CONFIG_HOME", "HOME"}
 SECTION = "[%s]\n\t%s\n"
 
 # the settings that were read, or None if the reader refuses to go on, and the folder that Python puts before the names
@@ -267,6 +269,8 @@ class Place:
         for name, values in choices.items():
             if self.rarely():
                 self.known[name] = self.one(*values)
+                if name in OF_FILES and self.known[name] and not os.path.isabs(self.known[name]):
+                    self.words.add("relative name")
         if self.rarely():
             self.known["GIT_DIR"] = self.one(".git", "top/.git", "../.git", f"{folder}/top/.git", f"{folder}/held", "",
                                              f"{folder}/top", ".", "missing")
@@ -334,8 +338,8 @@ def class_of(place, ours, git, running):
         classes.OF_COMMAND: "relative condition" in place.words and b"must come from files" in git.told,
         classes.COMMAND_KEY: "blank key" in place.words and b"invalid key" in ours.told,
         classes.REFUSED_DIR: "GIT_DIR" in place.words and git.told.startswith(b"warning: "),
-        classes.FIRST_DIR: "GIT_DIR" in place.words and git.told.startswith((b"fatal: remote URLs cannot be ",
-                                                                             b"error: relative config includes ")),
+        classes.FIRST: place.words & {"GIT_DIR", "relative name"} and git.told.startswith((
+            b"fatal: remote URLs cannot be ", b"error: relative config includes ", b"fatal: bad config line ")),
         classes.BARE: "safe.bareRepository" in place.words and ".git" in place.where.split("/"),
         classes.NO_WORD: git.status == -11 and "word alone" in place.words,
         classes.NO_STORE: "store" in place.words and (b"main_ref_store outside of repository" in git.told
@@ -384,7 +388,9 @@ PLACES = [
           {"top/deep/.git": "gitdir: nowhere\n", "top/.git/config": "[a]b=1\n"}),
     Shown(classes.NO_TREE, set(), {}, "top", {"top/.git/config": "[core]repositoryformatversion=0\n worktree=../x\n"}),
     Shown(classes.NO_PATH, {"GIT_DIR"}, {"GIT_DIR": ""}, "top", {"system": ON_DIR}),
-    Shown(classes.FIRST_DIR, {"GIT_DIR"}, {"GIT_DIR": "missing"}, "top",
+    Shown(classes.FIRST, {"relative name"}, {"GIT_CONFIG_GLOBAL": "g"}, "top/deep", {"top/deep/g": "[bad\n", "top/g": ""}),
+    Shown(classes.FIRST, {"GIT_DIR"}, {"GIT_DIR": "../top"}, "top", {"top/config": "[bad\n"}),
+    Shown(classes.FIRST, {"GIT_DIR"}, {"GIT_DIR": "missing"}, "top",
           {"system": '[includeIf "gitdir:missing"]path=F/url\n[includeIf "hasconfig:remote.*.url:x"]path=F/more\n',
            "url": '[remote "r"]url=x\n'}),
     Shown(classes.NO_WORD, {"word alone"}, {}, "top/.git", {"system": BARE_WORD}),

@@ -42,7 +42,7 @@ PARTS = {name: text.strip().format for name, text in re.findall(
 # modules and items that are public only because another crate of the repository needs them
 INNER = """after_mark begins_with_run config_file.bytes config_file.header digit_of EntryParts
     equals equals_ignoring_case exists files_of has_includes is_name is_section is_spellable ItemError line_of
-    LONGEST_NAME LONGEST_SET normalize_into_as Pause push_as_git push_header push_lower read_bytes read_cow read_entry
+    LONGEST_NAME LONGEST_SET normalize_into_as push_as_git push_header push_lower read_bytes read_cow read_entry
     read_owned read_text rgb_bytes same_as seek_urls""".split()
 # the calls whose clauses are the sentences of README: for any kind, for colors, and for settings in files
 SENTENCE = {"headline": ("config_text.value.meaning", "config_text.value.one_meaning"),

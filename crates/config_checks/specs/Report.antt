@@ -104,9 +104,9 @@ unknown_finding before setting unknown = record {
 }
 
 -- why a file is refused at a line
-abbrev pub stop_shown : Why → List ℕ
-stop_shown BadLine = codes "Git cannot read this line, and reads nothing of the file"
-stop_shown why = why_text why
+abbrev pub reason_shown : Why → List ℕ
+reason_shown BadLine = codes "Git cannot read this line, and reads nothing of the file"
+reason_shown why = why_text why
 
 abbrev pub refused_finding : List ℕ → errors.FileError → Finding
 refused_finding file error = record {
@@ -118,7 +118,7 @@ refused_finding file error = record {
   key = None;
   row = None;
   value = None;
-  reason = stop_shown error.why;
+  reason = reason_shown error.why;
   fault = None;
   suggested_key = None;
   suggested_value = None;

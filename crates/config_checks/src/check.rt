@@ -13,7 +13,7 @@ ghost use Rattle.config_checks.specs.Reading.Steps.{IsFirstRun};
 
 use crate::code::Code;
 use crate::finding::{
-    Finding, bytes_of, fault_of, instead_of, key_meant, push_reason, stop_shown, value_meant,
+    Finding, bytes_of, fault_of, instead_of, key_meant, push_reason, reason_shown, value_meant,
     value_of,
 };
 use crate::lookup::runs_of;
@@ -453,7 +453,7 @@ fn tell<R: Receiver>(
         key: None,
         row: None,
         value: None,
-        reason: stop_shown(error.why).as_bytes(),
+        reason: reason_shown(error.why).as_bytes(),
         fault: None,
         suggested_key: None,
         suggested_value: None,

@@ -10,7 +10,7 @@ ghost use Rattle.config_checks.specs.Findings.{piece_shown, shown, range_text, v
 ghost use Rattle.config_checks.specs.Findings.{more_text, few_words_text, no_word_front, list_text};
 ghost use Rattle.config_checks.specs.Findings.{word_asked, meant_text, no_word_text, reason_text};
 ghost use Rattle.config_checks.specs.Report.{value_meant, instead_of, fault_of_form, fault_of, key_meant};
-ghost use Rattle.config_checks.specs.Report.{stop_shown};
+ghost use Rattle.config_checks.specs.Report.{reason_shown};
 ghost use Rattle.config_checks.specs.Settings.{value_of};
 
 use crate::code::Code;
@@ -390,8 +390,8 @@ pub(crate) fn key_meant(
 }
 
 /// Why a file is refused at a line.
-pub(crate) fn stop_shown(why: Why) -> &'static str
-    ensures { result.now ≡ stop_shown why }
+pub(crate) fn reason_shown(why: Why) -> &'static str
+    ensures { result.now ≡ reason_shown why }
 {
     match why {
         Why::BadLine => "Git cannot read this line, and reads nothing of the file",

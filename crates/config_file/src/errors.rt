@@ -44,7 +44,7 @@ pub enum Why {
 }
 
 impl Why {
-    /// The number of the status that the C library returns.
+    /// The number that the C library has for it.
     pub fn number(self) -> u32
         ensures { result ≡ why_number self }
     {

@@ -15,7 +15,7 @@ fn numbered<'t>(
     number: usize,
 ) -> Result<Option<&'t [u8]>, AllocError> {
     let name = format!(in disk.host.alloc(); "{name}{number}")?;
-    variables.get(disk, &name.into_bytes())
+    variables.get(disk, &name)
 }
 
 /// Appends the setting of this number.

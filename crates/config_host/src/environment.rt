@@ -4,11 +4,12 @@ ghost use Rattle.config_host.specs.declared.environment.HostError.TheVariants.{S
 ghost use Rattle.config_host.specs.declared.environment.ArgumentError.TheVariants.{Memory};
 
 use crate::disk::Disk;
+use crate::names::answer;
 use bstr::{BStr, ByteSlice};
 use std::alloc::{AllocError, Global};
 use std::collections::HashMap;
 use std::env::{Env, FillError};
-use std::io;
+use std::{fs, io};
 use thiserror::Error;
 
 /// Why a program cannot say where it runs.
@@ -88,8 +89,6 @@ impl From<AllocError> for ArgumentError {
 enum Input<'n> {
     Argument(usize),
     Variable(&'n str),
-    /// A variable by its place: its name, `=` and its value.
-    Place(usize),
 }
 
 /// The number of bytes that is enough for most variables.
@@ -102,7 +101,6 @@ fn fill(host: &HostRuntime, input: Input<'_>, buffer: &mut [u8]) -> Result<usize
     match input {
         Input::Argument(index) => host.arg(index, buffer),
         Input::Variable(name) => host.var(name, buffer),
-        Input::Place(index) => host.var_at(index, buffer),
     }
 }
 
@@ -140,28 +138,36 @@ pub(crate) fn kept_variable<'t>(
     }
 }
 
-/// The variables whose names begin with `GIT_CONFIG_`. They are read as soon as one is asked for, since the system looks
-/// through all variables for each one, and there may be two for each setting of a command.
+/// The variables whose names begin with `GIT_CONFIG_`. They are read together when the first is asked for, since the
+/// system looks through all variables for each one, and there may be two for each setting of a command.
 #[derive(Drop)]
 pub(crate) struct CommandVariables<'t> {
-    values: Option<HashMap<Vec<u8>, &'t [u8]>>,
+    /// Their values by their names, as soon as one is asked for: `None` where the system does not show them.
+    read: Option<Option<HashMap<&'t [u8], &'t [u8]>>>,
 }
 
-/// Their values, by their names.
-fn values_of<'t>(disk: &Disk<'t>) -> Result<HashMap<Vec<u8>, &'t [u8]>, AllocError> {
-    let alloc = disk.host.alloc();
+/// The variables as the system shows them, each with a NUL behind it, or `None` if it does not.
+fn shown_variables<'t>(disk: &Disk<'t>) -> Result<Option<&'t [u8]>, AllocError> {
+    match answer(fs::read(disk.host, "/proc/self/environ")) {
+        Ok(Some(text)) => Ok(Some(disk.kept(&text)?)),
+        Ok(None) => Ok(None),
+        Err(_) => Err(AllocError),
+    }
+}
+
+/// The values of those of a command by their names, of which the first counts.
+fn values_of<'t>(
+    alloc: Global,
+    variables: &'t [u8],
+) -> Result<HashMap<&'t [u8], &'t [u8]>, AllocError> {
     let mut values = HashMap::new(alloc);
-    for index in 0..usize::MAX {
-        let Some(variable) = bytes_of(disk.host, Input::Place(index))? else {
-            break;
-        };
+    for variable in variables.split_str(b"\0") {
         if !variable.starts_with(b"GIT_CONFIG_") {
             continue;
         }
-        if let Some((name, value)) = variable.as_slice().split_once_str(b"=") {
-            let name = name.to_vec(alloc)?;
+        if let Some((name, value)) = variable.split_once_str(b"=") {
             if values.get(&name).is_none() {
-                values.insert(name, disk.kept(value)?)?;
+                values.insert(name, value)?;
             }
         }
     }
@@ -171,17 +177,20 @@ fn values_of<'t>(disk: &Disk<'t>) -> Result<HashMap<Vec<u8>, &'t [u8]>, AllocErr
 impl<'t> CommandVariables<'t> {
     /// None is read.
     pub fn new() -> CommandVariables<'t> {
-        CommandVariables { values: None }
+        CommandVariables { read: None }
     }
 
     /// The value of one, or `None` if it is not set.
-    pub fn get(&mut self, disk: &Disk<'t>, name: &Vec<u8>) -> Result<Option<&'t [u8]>, AllocError> {
-        if self.values.is_none() {
-            self.values = Some(values_of(disk)?);
+    pub fn get(&mut self, disk: &Disk<'t>, name: &str) -> Result<Option<&'t [u8]>, AllocError> {
+        if self.read.is_none() {
+            self.read = Some(match shown_variables(disk)? {
+                Some(variables) => Some(values_of(disk.host.alloc(), variables)?),
+                None => None,
+            });
         }
-        match &self.values {
-            Some(values) => Ok(values.get(name).copied()),
-            None => Ok(None),
+        match &self.read {
+            Some(Some(values)) => Ok(values.get(&name.as_bytes()).copied()),
+            _ => kept_variable(disk, name),
         }
     }
 }

@@ -227,10 +227,9 @@ fn fact_of<'t>(
     variables: &mut CommandVariables<'t>,
     question: &Question,
 ) -> Result<Fact<'t>, HostError> {
-    let told = if is_counted(question) {
-        variables.get(disk, &question.name)?
-    } else {
-        answer_to(disk, question)?
+    let told = match str::from_utf8(&question.name) {
+        Ok(name) if is_counted(question) => variables.get(disk, name)?,
+        _ => answer_to(disk, question)?,
     };
     Ok(Fact {
         name: disk.kept(&question.name)?,

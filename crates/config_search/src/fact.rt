@@ -38,7 +38,7 @@ pub struct Question {
     pub name: Vec<u8>,
 }
 
-/// Why a search stops before its end.
+/// Why a search stops before its end. The example of [`Search`](crate::Search) gets one.
 #[derive(Drop)]
 pub enum Pause {
     /// It needs the answer to this question, which no fact gives.
