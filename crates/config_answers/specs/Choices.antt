@@ -37,7 +37,7 @@ pub record Choice : Type 0 where
 abbrev pub keys_of : code_keys.Keys → Keys
 keys_of code_key.All = all
 keys_of (code_key.One key) = one (key_of key)
-keys_of (code_key.Found matcher) = found (matcher_pattern matcher)
+keys_of (code_key.Found matcher) = found (matcher_pattern matcher.value)
 keys_of (code_key.Listed text) = listed_as text.now
 keys_of (code_key.Colored text) = colored text.now
 keys_of (code_key.Within section name) = within section.now (option_copied name)
@@ -46,7 +46,7 @@ abbrev pub choice_of : code.Choice → Choice
 choice_of c = record {
   keys = keys_of c.keys;
   fixed = option_copied c.fixed;
-  values = option_map matcher_pattern c.values;
+  values = option_map (λ m. matcher_pattern m.value) c.values;
   is_negated = c.is_negated;
 }
 

@@ -33,7 +33,7 @@ pub enum Keys<'k, 'p> {
     /// This key.
     One(Key<'k>),
     /// Those that are listed as a text in which a pattern is found.
-    Found(Matcher<'p>),
+    Found(Box<Matcher<'p>>),
     /// The one that is listed as this text.
     Listed(&'k [u8]),
     /// The one that is listed as this text, and those that decide in its place: `diff.color` and `color.ui`.
@@ -65,7 +65,7 @@ pub struct Choice<'k, 'p> {
     /// The value, byte for byte.
     pub fixed: Option<&'k [u8]>,
     /// What searches for the pattern of values.
-    pub values: Option<Matcher<'p>>,
+    pub values: Option<Box<Matcher<'p>>>,
     /// Whether a value fits in which that is not found.
     pub is_negated: bool,
     /// The key of the last entry, as it is listed.

@@ -1,13 +1,14 @@
 -- The first fact that answers a question, where one is added.
-use Rattle.std.proofs.Common.{◌≡◌, ◌∙◌, ◌==◌, ◌&&◌, ◌∷◌, ◌++◌, [], ℕ, Bool, List, Option, None, Some, true, false, if◌then◌else◌, cond, refl, sym, ap, inl, inr, true≢false}
+use Rattle.std.proofs.Common.{◌≡◌, ◌∙◌, IfSome, ◌==◌, ◌&&◌, ◌∷◌, ◌++◌, [], ℕ, Bool, List, Option, None, Some, true, false, if◌then◌else◌, cond, refl, sym, ap, inl, inr, true≢false}
 use Rattle.std.specs.Str.{bytes_eq}
 use Rattle.std.proofs.lemmas.Bool.Decides.{eqb_tells}
 use Rattle.std.proofs.lemmas.List.Elements.{All-cons, All-head, All-nil, All-tail}
 use Rattle.std.proofs.lemmas.Option.{same_Some}
 use Rattle.std.proofs.lemmas.Slice.Eq.{bytes_eq-Decides}
-use Rattle.config_search.specs.Shown.{first_of}
+use Rattle.config_search.specs.Shown.{AreRecent, IsFirst, first_of}
 use Rattle.config_search.specs.System.{Differs, IsFactOf, IsOpen, IsTrueIn, answer_of}
 use Rattle.config_search.specs.declared.fact.Fact.{Fact}
+use Rattle.config_search.specs.declared.fact.Recent.{Recent}
 
 -- whether a fact answers a question
 abbrev pub answers : Fact → ℕ → List ℕ → Bool
@@ -41,6 +42,12 @@ asked_by fact subject name is = elim (eqb_tells fact.subject subject) [
   | inr other ↦ absurd (true≢false (sym (rw other.0 at is)))
 ]
 
+answers_itself : (fact : Fact) → answers fact fact.subject fact.name.now ≡ true
+answers_itself fact = elim (eqb_tells fact.subject fact.subject) [
+  | inl same ↦ rw same.0 ((bytes_eq-Decides fact.name.now fact.name.now).1 refl)
+  | inr other ↦ absurd (other.1 refl)
+]
+
 same_first : (facts : List Fact) (fact : Fact) (subject : ℕ) (name : List ℕ) → answers fact subject name ≡ true
     → first_of facts subject name ≡ first_of facts fact.subject fact.name.now
 same_first facts fact subject name is = let (same, named) = asked_by fact subject name is in rw (same, named) refl
@@ -70,6 +77,28 @@ pub new_push : (facts : List Fact) (fact : Fact) → first_of facts fact.subject
     → cond (answers fact subject name) (Some fact) (first_of facts subject name) ≡ first_of (facts ++ fact ∷ []) subject name
 new_push facts fact unknown subject name = new_by (answers fact subject name) fact (first_of facts subject name)
     (λ is. same_first facts fact subject name is ∙ unknown) ∙ sym (first_push facts fact subject name)
+
+-- one that is the first stays it
+kept_first : (facts : List Fact) (fact : Fact) (one : Option Fact) → IfSome one (IsFirst facts)
+    → IfSome one (IsFirst (facts ++ fact ∷ []))
+kept_first facts fact None first = cc
+kept_first facts fact (Some one) first = first_push facts fact one.subject one.name.now
+    ∙ ap (λ (f : Option Fact). or_else f (if answers fact one.subject one.name.now then Some fact else None)) first
+
+pub kept_recent : (facts : List Fact) (fact : Fact) (recent : Recent) (is_told : Bool) → AreRecent facts recent
+    → AreRecent (if is_told then facts ++ fact ∷ [] else facts) recent
+kept_recent facts fact recent true (last, before, third) = (
+  kept_first facts fact recent.last last,
+  kept_first facts fact recent.before before,
+  kept_first facts fact recent.third third,
+)
+kept_recent facts fact recent false are = are
+
+-- one that answers a new question is such a one
+pub new_first : (facts : List Fact) (fact : Fact) → first_of facts fact.subject fact.name.now ≡ None
+    → IsFirst (facts ++ fact ∷ []) fact
+new_first facts fact unknown = sym (new_push facts fact unknown fact.subject fact.name.now)
+    ∙ ap (λ (is : Bool). cond is (Some fact) (first_of facts fact.subject fact.name.now)) (answers_itself fact)
 
 -- the first fact that answers a question is one of its facts
 answers_by : (is : Bool) (one fact : Fact) (rest : List Fact) (subject : ℕ) (name : List ℕ)

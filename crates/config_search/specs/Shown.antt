@@ -12,6 +12,7 @@ use Rattle.config_search.specs.Names.{opened}
 use Rattle.config_search.specs.Questions.{IsNeeded, MayName}
 use Rattle.config_search.specs.declared.fact.Fact.{Fact}
 use Rattle.config_search.specs.declared.fact.Pause.{Pause}
+use Rattle.config_search.specs.declared.fact.Recent.{Recent}
 use Rattle.config_search.specs.declared.fact.Pause.TheVariants.{Ask, Memory}
 use Rattle.config_search.specs.declared.halt.Halt.{Halt}
 use Rattle.config_search.specs.declared.halt.Halt.TheVariants.{Pauses, Stops}
@@ -41,6 +42,15 @@ first_of (fact ∷ rest) subject name =
 abbrev pub AreFirst : {S : Type 0} → HashMap (ℕ × Vec ℕ) Fact S → List Fact → Type 0
 AreFirst facts list = (q : ℕ × Vec ℕ)
     → get_by (λ k. (q.0 == k.0) && bytes_eq q.1.items k.1.items) facts ≡ first_of list q.0 q.1.items
+
+-- no fact before it answers its question
+abbrev pub IsFirst : List Fact → Fact → Type 0
+IsFirst list fact = first_of list fact.subject fact.name.now ≡ Some fact
+
+-- the facts that are kept apart are such
+abbrev pub AreRecent : List Fact → Recent → Type 0
+AreRecent list recent =
+    IfSome recent.last (IsFirst list) × IfSome recent.before (IsFirst list) × IfSome recent.third (IsFirst list)
 
 -- a question at which a search in a folder pauses is one that it needs, and that no fact answers
 abbrev pub IsNew : List ℕ → List Fact → Pause → Type 0

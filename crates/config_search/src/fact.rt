@@ -1,9 +1,9 @@
 //! Facts, and the questions that they answer.
-ghost use Rattle.std.specs.Prelude.{◌≡◌, ◌++◌, ◌∷◌, [], List, MatchResult, OnErr, OnOk, is_some, option_copied};
+ghost use Rattle.std.specs.Prelude.{◌≡◌, ◌++◌, ◌∷◌, [], List, Some, IfSome, MatchResult, OnErr, OnOk, is_some, option_copied};
 ghost use Rattle.config_search.specs.System.{System, AreTrueIn, IsFactOf};
 ghost use Rattle.config_search.specs.System as system;
 ghost use Rattle.config_search.specs.Questions.{IsNeeded};
-ghost use Rattle.config_search.specs.Shown.{AreFirst, IsNew, first_of};
+ghost use Rattle.config_search.specs.Shown.{AreFirst, AreRecent, IsFirst, IsNew, first_of};
 ghost use Rattle.config_search.specs.Names.{inside};
 ghost use Rattle.config_search.specs.Rule as rule;
 ghost use Rattle.config_search.specs.declared.fact.Fact.{Fact as FactOf};
@@ -60,6 +60,56 @@ impl From<AllocError> for Pause {
 pub(crate) struct Facts<'t> {
     list: Vec<Fact<'t>>,
     first: HashMap<(u32, Vec<u8>), Fact<'t>>,
+    recent: Recent<'t>,
+}
+
+/// The last facts that count, of which a stage that goes on asks first: the map reads a long name slowly.
+#[derive(Clone, Copy)]
+pub(crate) struct Recent<'t> {
+    last: Option<Fact<'t>>,
+    before: Option<Fact<'t>>,
+    third: Option<Fact<'t>>,
+}
+
+/// The fact, if it answers the question.
+fn if_about<'t>(fact: &Option<Fact<'t>>, question: &(u32, Vec<u8>)) -> Option<Fact<'t>>
+    ensures { IfSome result (λ it. (fact.now ≡ Some it) × (it.subject ≡ question.now.0)
+        × (it.name.now ≡ question.now.1.items)) }
+{
+    match fact {
+        Some(fact) if fact.subject == question.0 && fact.name == question.1.as_slice() => {
+            Some(*fact)
+        }
+        _ => None,
+    }
+}
+
+impl<'t> Recent<'t> {
+    /// The one that answers a question.
+    fn get(&self, question: &(u32, Vec<u8>)) -> Option<Fact<'t>>
+        ensures { (facts : List FactOf) → AreRecent facts self.now
+            → IfSome result (λ fact. first_of facts question.now.0 question.now.1.items ≡ Some fact) }
+    {
+        if let Some(fact) = if_about(&self.last, question) {
+            return Some(fact);
+        }
+        if let Some(fact) = if_about(&self.before, question) {
+            return Some(fact);
+        }
+        if_about(&self.third, question)
+    }
+
+    /// Those after this one, which is the first that answers its question.
+    fn after(self, fact: Fact<'t>) -> Recent<'t>
+        ensures { (facts : List FactOf) → AreRecent facts self.entry → IsFirst facts fact.entry
+            → AreRecent facts result }
+    {
+        Recent {
+            last: Some(fact),
+            before: self.last,
+            third: self.before,
+        }
+    }
 }
 
 impl<'t> Model for Facts<'t> {
@@ -67,7 +117,7 @@ impl<'t> Model for Facts<'t> {
 
     ghost view = { λ f. f.list.items };
 
-    ghost invariant = { λ f. AreFirst f.first f.list.items };
+    ghost invariant = { λ f. AreFirst f.first f.list.items × AreRecent f.list.items f.recent };
 }
 
 impl<'t> Facts<'t> {
@@ -78,6 +128,11 @@ impl<'t> Facts<'t> {
         Facts {
             list: Vec::new(alloc),
             first: HashMap::new(alloc),
+            recent: Recent {
+                last: None,
+                before: None,
+                third: None,
+            },
         }
     }
 
@@ -85,6 +140,9 @@ impl<'t> Facts<'t> {
     pub fn get(&self, question: &(u32, Vec<u8>)) -> Option<Fact<'t>>
         ensures { result ≡ first_of self.now question.now.0 question.now.1.items }
     {
+        if let Some(fact) = self.recent.get(question) {
+            return Some(fact);
+        }
         match self.first.get(question) {
             Some(fact) => Some(*fact),
             None => None,
@@ -102,7 +160,10 @@ impl<'t> Facts<'t> {
         }
         self.list.push(fact)?;
         match self.first.insert(question, fact) {
-            Ok(_) => Ok(()),
+            Ok(_) => {
+                self.recent = self.recent.after(fact);
+                Ok(())
+            }
             Err(_) => {
                 let _ = self.list.pop();
                 Err(AllocError)

@@ -230,7 +230,7 @@ fn keep_first(first: &mut Option<Vec<u8>>, alloc: Global, name: &[u8]) -> Result
     Ok(())
 }
 
-/// Whether the section of an entry is one that a format looks at.
+/// Whether the section of an entry is one that a format looks at. The first letter passes over most.
 fn may_count(entry: &Entry<'_>) -> bool {
     let Some(section) = &entry.section else {
         return false;
@@ -239,7 +239,11 @@ fn may_count(entry: &Entry<'_>) -> bool {
         Some(start) => start.eq_ignore_ascii_case(front),
         None => false,
     };
-    begins(b"core") || begins(b"extensions")
+    match section.name {
+        [b'c' | b'C', ..] => begins(b"core"),
+        [b'e' | b'E', ..] => begins(b"extensions"),
+        _ => false,
+    }
 }
 
 impl Format {

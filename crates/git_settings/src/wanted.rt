@@ -154,14 +154,23 @@ pub fn section_and_name(text: &str) -> (&str, Option<&str>) {
     }
 }
 
+/// A search for this pattern.
+#[inline(never)]
+fn matcher<'p>(alloc: Global, pattern: &'p Regex) -> Result<Box<Matcher<'p>>, AllocError> {
+    Ok(Box::new(alloc, pattern.matcher(alloc)?)?)
+}
+
 /// A search for a pattern, if there is one.
-fn search<'p>(alloc: Global, pattern: &'p Option<Regex>) -> Result<Option<Matcher<'p>>, Unclear> {
-    match pattern {
-        None => Ok(None),
-        Some(pattern) => match pattern.matcher(alloc) {
-            Ok(matcher) => Ok(Some(matcher)),
-            Err(_) => Err(Unclear::Values(NoPattern::Memory)),
-        },
+fn search<'p>(
+    alloc: Global,
+    pattern: &'p Option<Regex>,
+) -> Result<Option<Box<Matcher<'p>>>, Unclear> {
+    let Some(pattern) = pattern else {
+        return Ok(None);
+    };
+    match matcher(alloc, pattern) {
+        Ok(matcher) => Ok(Some(matcher)),
+        Err(_) => Err(Unclear::Values(NoPattern::Memory)),
     }
 }
 
