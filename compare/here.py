@@ -19,6 +19,7 @@ failed'. Without such a Git it says `skipped` and why, and nothing has passed.
 import collections
 import os
 import random
+import re
 import shlex
 import shutil
 import subprocess
@@ -325,6 +326,16 @@ class Place:
         return f"{self.kind} in {self.where}, {known}, {sorted(self.words)}"
 
 
+def is_read_first(place, told):
+    """Whether Git stops at a file that it reads before it knows the repository: below a `GIT_DIR`, or by a relative name."""
+    found = re.match(rb"fatal: bad config line \d+ in file (.*)\n", told)
+    if not found:
+        return told.startswith((b"fatal: remote URLs cannot be ", b"error: relative config includes "))
+    name = os.fsdecode(found[1])
+    given = place.known.get("GIT_DIR")
+    return not name.startswith("/") or given is not None and name.startswith(given)
+
+
 def class_of(place, ours, git, running):
     """The class of the difference, or None."""
     rules = {
@@ -338,8 +349,7 @@ def class_of(place, ours, git, running):
         classes.OF_COMMAND: "relative condition" in place.words and b"must come from files" in git.told,
         classes.COMMAND_KEY: "blank key" in place.words and b"invalid key" in ours.told,
         classes.REFUSED_DIR: "GIT_DIR" in place.words and git.told.startswith(b"warning: "),
-        classes.FIRST: place.words & {"GIT_DIR", "relative name"} and git.told.startswith((
-            b"fatal: remote URLs cannot be ", b"error: relative config includes ", b"fatal: bad config line ")),
+        classes.FIRST: place.words & {"GIT_DIR", "relative name"} and is_read_first(place, git.told),
         classes.BARE: "safe.bareRepository" in place.words and ".git" in place.where.split("/"),
         classes.NO_WORD: git.status == -11 and "word alone" in place.words,
         classes.NO_STORE: "store" in place.words and (b"main_ref_store outside of repository" in git.told
@@ -460,6 +470,7 @@ COUNTED = {"GIT_CONFIG_COUNT": "2", "GIT_CONFIG_KEY_0": "a.b", "GIT_CONFIG_VALUE
 ALIAS = ("git", "-c", "a.b=c d", "-c", "e.f", "-c", 'alias.x=!sh "$SCRIPT"', "x")
 HOOK = ("git", "-c", "a.b='", "--config-env=g.h=HOME", "hook", "run", "pre-commit")
 MOUNT = ("unshare", "-m", "sh", "-ec", 'mount -t tmpfs none "$PWD"; cd "$PWD"; exec sh "$SCRIPT"')
+NO_PROC = ("unshare", "-m", "sh", "-ec", 'mount -t tmpfs none /proc; exec sh "$SCRIPT"')
 # a layout: its folder, more variables, or None for no variables at all, and the words that call the reader
 Layout = collections.namedtuple("Layout", "name folder more words", defaults=[{}, ("sh", "-c", 'exec sh "$SCRIPT"')])
 LAYOUTS = [
@@ -477,7 +488,7 @@ LAYOUTS = [
 PLACED = [Layout("a table in a place of its own", "work", {"GIT_REFERENCE_BACKEND": "reftable://../../moved/.git"})]
 # those that need root
 OF_ROOT = [Layout("another owner", "owned"), Layout("another owner that is safe", "owned", SAFE),
-           Layout("a mount", "above/mounted", {}, MOUNT)]
+           Layout("a mount", "above/mounted", {}, MOUNT), Layout("no /proc", "work", SAFE, NO_PROC)]
 
 
 class Comparison:
@@ -557,7 +568,7 @@ class Comparison:
             print(f"skipped: {len(OF_ROOT)} layouts, which need root")
         for layout in LAYOUTS + PLACED * (self.git.running["Git"] >= (2, 54)) + OF_ROOT * IS_ROOT:
             git = of_git(self.called(layout, listing(self.git.command, "config")))
-            if layout.words == MOUNT and git.status != 0:
+            if layout.words in (MOUNT, NO_PROC) and git.status != 0:
                 print(f"skipped: {layout.name}, since {git.told.decode(errors='replace').strip()}")
                 continue
             for reader, (words, answer) in self.ours.items():

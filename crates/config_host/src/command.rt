@@ -39,7 +39,7 @@ fn push_counted(disk: &Disk<'_>, text: &mut Vec<u8>) -> Result<(), CommandError>
     let Some(count) = variable(disk.host, "GIT_CONFIG_COUNT")? else {
         return Ok(());
     };
-    let mut variables = CommandVariables::new();
+    let mut variables = CommandVariables::Unread;
     for number in 0..count_of(&count)? {
         push_numbered(disk, &mut variables, text, number)?;
     }

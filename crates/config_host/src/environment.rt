@@ -141,9 +141,13 @@ pub(crate) fn kept_variable<'t>(
 /// The variables whose names begin with `GIT_CONFIG_`. They are read together when the first is asked for, since the
 /// system looks through all variables for each one, and there may be two for each setting of a command.
 #[derive(Drop)]
-pub(crate) struct CommandVariables<'t> {
-    /// Their values by their names, as soon as one is asked for: `None` where the system does not show them.
-    read: Option<Option<HashMap<&'t [u8], &'t [u8]>>>,
+pub(crate) enum CommandVariables<'t> {
+    /// None is asked for yet.
+    Unread,
+    /// Their values by their names.
+    Shown(HashMap<&'t [u8], &'t [u8]>),
+    /// The system does not show them, so that it is asked for each.
+    Hidden,
 }
 
 /// The variables as the system shows them, each with a NUL behind it, or `None` if it does not.
@@ -175,21 +179,18 @@ fn values_of<'t>(
 }
 
 impl<'t> CommandVariables<'t> {
-    /// None is read.
-    pub fn new() -> CommandVariables<'t> {
-        CommandVariables { read: None }
-    }
-
     /// The value of one, or `None` if it is not set.
     pub fn get(&mut self, disk: &Disk<'t>, name: &str) -> Result<Option<&'t [u8]>, AllocError> {
-        if self.read.is_none() {
-            self.read = Some(match shown_variables(disk)? {
-                Some(variables) => Some(values_of(disk.host.alloc(), variables)?),
-                None => None,
-            });
+        if matches!(self, CommandVariables::Unread) {
+            *self = match shown_variables(disk)? {
+                Some(variables) => {
+                    CommandVariables::Shown(values_of(disk.host.alloc(), variables)?)
+                }
+                None => CommandVariables::Hidden,
+            };
         }
-        match &self.read {
-            Some(Some(values)) => Ok(values.get(&name.as_bytes()).copied()),
+        match self {
+            CommandVariables::Shown(values) => Ok(values.get(&name.as_bytes()).copied()),
             _ => kept_variable(disk, name),
         }
     }

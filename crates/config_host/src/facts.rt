@@ -165,6 +165,8 @@ fn numbers_of<'t>(
 }
 
 /// The answer about the file, the variable or the user of this name.
+// Not inlined, so that its values are not on the stack while the search goes on: a run pays for each page.
+#[inline(never)]
 fn answer_named<'t>(
     disk: &Disk<'t>,
     subject: u32,
@@ -193,6 +195,7 @@ fn answer_named<'t>(
 }
 
 /// The answer to a question.
+#[inline(never)]
 fn answer_to<'t>(disk: &Disk<'t>, question: &Question) -> Result<Option<&'t [u8]>, HostError> {
     match question.subject {
         asks::CURRENT => Ok(match answer(current_folder(disk.host))? {
@@ -222,6 +225,7 @@ fn is_counted(question: &Question) -> bool {
 }
 
 /// The answer to a question, as a fact.
+#[inline(never)]
 fn fact_of<'t>(
     disk: &Disk<'t>,
     variables: &mut CommandVariables<'t>,
@@ -245,7 +249,7 @@ pub(crate) fn search_here<'t>(
     folder: &'t [u8],
 ) -> Result<(Answer, Search<'t>), HostError> {
     let mut search = Search::new(disk.host.alloc(), folder);
-    let mut variables = CommandVariables::new();
+    let mut variables = CommandVariables::Unread;
     for _ in 0..u64::MAX {
         match search.next() {
             Ok(answer) => return Ok((answer, search)),

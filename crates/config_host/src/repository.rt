@@ -64,6 +64,8 @@ impl<'t> Location<'t> {
 }
 
 /// The repository that a search has found.
+// Not inlined, as those below, so that its values are not on the stack during the search.
+#[inline(never)]
 fn kept_repository<'t>(
     disk: &Disk<'t>,
     found: &Repository,
@@ -96,6 +98,7 @@ fn read_text<'t>(
 }
 
 /// The files that a search has found in a folder.
+#[inline(never)]
 fn kept_files<'t>(
     disk: &Disk<'t>,
     search: &Search<'t>,
@@ -115,6 +118,7 @@ fn kept_files<'t>(
 }
 
 /// Where Git stops, with texts that are kept.
+#[inline(never)]
 fn kept_stop<'t>(disk: &Disk<'t>, stop: &Stop<Vec<u8>>) -> Result<Stop<&'t [u8]>, AllocError> {
     Ok(Stop {
         file: disk.kept(&stop.file)?,

@@ -189,6 +189,7 @@ impl<'t> Passed<'t> {
 }
 
 /// What comes after a stage that looks at what ends a way up.
+#[inline(never)]
 fn pass_bounds<'t>(lookup: &Lookup<'_, 't>, start: Folder<'t>, limits: Limits<'t>) -> Passed<'t>
     requires { (system : System) → AreTrueIn system lookup.now.facts.now
         → stages.IsBounded system lookup.now.folder.now start limits }
@@ -213,6 +214,7 @@ fn pass_bounds<'t>(lookup: &Lookup<'_, 't>, start: Folder<'t>, limits: Limits<'t
 }
 
 /// What comes after a stage in which the search climbs.
+#[inline(never)]
 fn pass_up<'t>(
     lookup: &Lookup<'_, 't>,
     start: Folder<'t>,
@@ -330,6 +332,7 @@ fn halts<'t>(
 }
 
 /// What comes after a stage that has found something.
+#[inline(never)]
 fn pass_found<'t>(lookup: &Lookup<'_, 't>, start: Folder<'t>, found: Discovery<'t>) -> Passed<'t>
     requires started { (system : System) → AreTrueIn system lookup.now.facts.now
         → stages.IsStart system lookup.now.folder.now start }
@@ -360,6 +363,7 @@ fn begin_weighing<'t>(lookup: &Lookup<'_, 't>, site: &Site<'t>) -> Result<Option
 }
 
 /// What comes after a stage that has a git directory.
+#[inline(never)]
 fn pass_site<'t>(lookup: &Lookup<'_, 't>, site: Site<'t>) -> Passed<'t>
     requires { (system : System) → AreTrueIn system lookup.now.facts.now
         → stages.IsSite system lookup.now.folder.now site }
@@ -378,6 +382,7 @@ fn pass_site<'t>(lookup: &Lookup<'_, 't>, site: Site<'t>) -> Passed<'t>
 }
 
 /// What comes after a stage in which settings of the command are counted.
+#[inline(never)]
 fn pass_counted<'t>(lookup: &Lookup<'_, 't>, site: Site<'t>, counted: Counted) -> Passed<'t>
     requires { (system : System) → AreTrueIn system lookup.now.facts.now
         → stages.Right system lookup.now.folder.now (Counts site counted) }
@@ -399,6 +404,7 @@ fn pass_counted<'t>(lookup: &Lookup<'_, 't>, site: Site<'t>, counted: Counted) -
 }
 
 /// What comes after a stage in which no text is begun.
+#[inline(never)]
 fn pass_opens<'t>(lookup: &Lookup<'_, 't>, site: Site<'t>, reading: Reading<'t>) -> Passed<'t>
     requires { (system : System) → AreTrueIn system lookup.now.facts.now
         → stages.Right system lookup.now.folder.now (Opens site reading) }
@@ -428,6 +434,7 @@ fn close<'t>(site: Site<'t>, reading: Reading<'t>) -> Stage<'t>
 }
 
 /// What comes after a stage in which a text is read: the next entry, or the end of the text.
+#[inline(never)]
 fn pass_reads<'t>(
     lookup: &Lookup<'_, 't>,
     site: Site<'t>,
@@ -463,6 +470,7 @@ fn pass_reads<'t>(
 }
 
 /// What comes after a stage in which all settings are read, as if each condition on the URLs of remotes held.
+#[inline(never)]
 fn pass_collected<'t>(
     lookup: &Lookup<'_, 't>,
     site: Site<'t>,
@@ -493,6 +501,7 @@ fn pass_collected<'t>(
 }
 
 /// What comes after a stage in which all settings are read.
+#[inline(never)]
 fn pass_weighed<'t>(lookup: &Lookup<'_, 't>, site: Site<'t>, settings: Settings<'t>) -> Passed<'t>
     requires { (system : System) → AreTrueIn system lookup.now.facts.now
         → stages.Right system lookup.now.folder.now (Weighs site settings) }
@@ -539,6 +548,7 @@ fn decide<'t>(
 }
 
 /// What comes after a stage in which settings are looked through for those that name the folder as safe.
+#[inline(never)]
 fn pass_named<'t>(lookup: &Lookup<'_, 't>, site: Site<'t>, naming: Naming<'t>) -> Passed<'t>
     requires { (system : System) → AreTrueIn system lookup.now.facts.now
         → stages.Right system lookup.now.folder.now (Names site naming) }
@@ -564,6 +574,7 @@ fn pass_named<'t>(lookup: &Lookup<'_, 't>, site: Site<'t>, naming: Naming<'t>) -
 }
 
 /// What comes after a stage that has a git directory which Git trusts.
+#[inline(never)]
 fn pass_trusted<'t>(lookup: &Lookup<'_, 't>, site: Site<'t>) -> Passed<'t>
     requires { (system : System) → AreTrueIn system lookup.now.facts.now
         → stages.Right system lookup.now.folder.now (Trusts site) }
@@ -582,6 +593,7 @@ fn pass_trusted<'t>(lookup: &Lookup<'_, 't>, site: Site<'t>) -> Passed<'t>
 }
 
 /// What comes after a stage that knows what is stated of the format.
+#[inline(never)]
 fn pass_stated<'t>(lookup: &Lookup<'_, 't>, site: Site<'t>, format: Format) -> Passed<'t>
     requires { (system : System) → AreTrueIn system lookup.now.facts.now
         → stages.Right system lookup.now.folder.now (States site format) }
@@ -609,6 +621,7 @@ fn pass_stated<'t>(lookup: &Lookup<'_, 't>, site: Site<'t>, format: Format) -> P
 }
 
 /// What comes after a stage that knows the format.
+#[inline(never)]
 fn pass_known<'t>(lookup: &Lookup<'_, 't>, site: Site<'t>, format: Format) -> Passed<'t>
     requires { (system : System) → AreTrueIn system lookup.now.facts.now
         → stages.Right system lookup.now.folder.now (Knows site format) }
@@ -623,6 +636,8 @@ fn pass_known<'t>(lookup: &Lookup<'_, 't>, site: Site<'t>, format: Format) -> Pa
 }
 
 /// What comes after a stage.
+// No stage is inlined here, so that the stack holds the values of one stage and not of all: a run pays for each page.
+#[inline(never)]
 fn pass<'t>(lookup: &Lookup<'_, 't>, stage: Stage<'t>) -> Passed<'t>
     requires { stages.IsRight lookup.now.folder.now lookup.now.facts.now stage }
     ensures right { stages.IsRight lookup.now.folder.now lookup.now.facts.now result.stage }
@@ -662,6 +677,7 @@ struct Ended<'t> {
 }
 
 /// The answer of a search that has come to what Git does.
+#[inline(never)]
 fn conclude<'t>(lookup: &Lookup<'_, 't>, place: Place) -> Ended<'t>
     requires { stages.IsRight lookup.now.folder.now lookup.now.facts.now (Does place) }
     ensures right { stages.IsRight lookup.now.folder.now lookup.now.facts.now result.stage }

@@ -457,6 +457,8 @@ fn change_texts(rt: &HostRuntime, edit: &Edit<'_>, value: &[u8]) -> Result<Endin
 }
 
 /// Does a change. Its value is written as its type asks.
+// Not inlined, so that a run that reads pays for no page of the stack that a change needs.
+#[inline(never)]
 pub fn run(rt: &HostRuntime, edit: &Edit<'_>) -> Result<Ending, HostError> {
     let (Change::Set(value) | Change::Add(value) | Change::Replace(value)) = edit.change else {
         return change_texts(rt, edit, b"");

@@ -306,6 +306,8 @@ fn answer_in<'r, 't>(
 }
 
 /// Answers the request, after all of whose texts these settings of the command line come.
+// Not inlined, so that a run pays for no page of the stack that a change needs.
+#[inline(never)]
 pub fn run<'a>(
     rt: &HostRuntime,
     request: &Request<'a>,

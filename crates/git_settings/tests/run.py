@@ -214,6 +214,13 @@ def repositories(tests):
         tests.compare(f"a ceiling {ceilings}", at, folder=b"outer/a/b", more=more, holds=holds)
 
 
+class Twice(dict):
+    """Variables of which one is there a second time, with another value: in Git the first counts."""
+
+    def items(self):
+        return [*super().items(), (b"GIT_CONFIG_VALUE_0", b"second")]
+
+
 def here(tests):
     """What Git reads in a folder, without a file that is named."""
     tests.git_dir(b"here/.git")
@@ -232,6 +239,11 @@ def here(tests):
                  b"a.size=0x10\nlocal\tfile:.git/config\ta.wrong=x\nlocal\tfile:.git/config\ta.alone\n"
                  b"command\tcommand line:\ta.size=1k\n", ours.stdout)
     tests.expect("a list in Git", git.stdout, ours.stdout)
+    # Git 2.39.5 is asked too; one that is called by a shell gets one of the two
+    twice = Twice(tests.known | counted)
+    for words in ([tests.program], ["git", "config"]):
+        run = subprocess.run([*words, "a.size"], cwd=tests.path(b"here"), env=twice, capture_output=True, check=False)
+        tests.expect(f"a variable twice by {words}", b"1k\n", run.stdout)
     missing = {b"GIT_CONFIG_COUNT": b"1"}
     git = tests.run(tests.git, "config", "--list", folder=b"here", more=missing)
     tests.refuse("a missing key", ["--list"], git.stderr[:-1], more=missing, folder=b"here")
