@@ -87,7 +87,7 @@ Right system asked (Has site) = IsSite system asked site
 Right system asked (Counts site counted) = IsSite system asked site × IsCounting system counted
 Right system asked (Opens site reading) = IsSite system asked site × IsReading system site.start.name.now reading
 Right system asked (Reads site reading reader) =
-    IsSite system asked site × IsReadingIn system site.start.name.now reading reader
+    IsSite system asked site × IsReadingIn system site.start.name.now reading reader.value
 Right system asked (Collects site sources settings) =
     IsSite system asked site × AreSources system sources × AreRead system site settings
 Right system asked (Weighs site settings) = IsSite system asked site × AreRead system site settings

@@ -130,6 +130,15 @@ impl<'t> Reader<'t> {
         }
     }
 
+    /// The same in a box.
+    pub fn boxed(alloc: Global, source: Source<'t>) -> Result<Box<Reader<'t>>, AllocError>
+        ensures source { IfOk result (λ reader. reader.value.source ≡ source.entry) }
+        ensures keeps { IfOk result (λ reader. (system : System) (folder : List ℕ) (known : KnownOf)
+            (before : List SettingOf) → IsWithin (Holds system folder) known reader.value before before) }
+    {
+        Ok(Box::new(alloc, Reader::new(source))?)
+    }
+
     /// Goes on behind the entry that waits, in the file that it includes if there is one. Names begin in this folder.
     pub fn go_on(&mut self, lookup: &Lookup<'_, 't>, folder: &[u8]) -> Result<(), Halt>
         ensures goes { OnOk result (self.new.waits ≡ None) }

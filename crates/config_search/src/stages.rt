@@ -50,8 +50,8 @@ pub(crate) enum Stage<'t> {
     Counts(Site<'t>, Counted),
     /// Some files of these settings are read, and no other is begun.
     Opens(Site<'t>, Reading<'t>),
-    /// One of their texts is being read.
-    Reads(Site<'t>, Reading<'t>, Reader<'t>),
+    /// One of their texts is being read. A reader is long, and a stage is moved often, so that it is in a box.
+    Reads(Site<'t>, Reading<'t>, Box<Reader<'t>>),
     /// All are read, as if each condition on the URLs of remotes held.
     Collects(Site<'t>, Sources<'t>, Settings<'t>),
     /// All are read.
@@ -417,7 +417,10 @@ fn pass_opens<'t>(lookup: &Lookup<'_, 't>, site: Site<'t>, reading: Reading<'t>)
         Err(halt) => return halts(lookup, start, Stage::Opens(site, reading), halt),
     };
     match found {
-        Some(source) => Passed::to(Stage::Reads(site, reading, Reader::new(source))),
+        Some(source) => match Reader::boxed(lookup.alloc, source) {
+            Ok(reader) => Passed::to(Stage::Reads(site, reading, reader)),
+            Err(error) => Passed::stays(Stage::Opens(site, reading), Pause::Memory(error)),
+        },
         None => Passed::to(Stage::Opens(site, reading.with_next())),
     }
 }
@@ -439,7 +442,7 @@ fn pass_reads<'t>(
     lookup: &Lookup<'_, 't>,
     site: Site<'t>,
     reading: Reading<'t>,
-    reader: Reader<'t>,
+    reader: Box<Reader<'t>>,
 ) -> Passed<'t>
     requires { (system : System) → AreTrueIn system lookup.now.facts.now
         → stages.Right system lookup.now.folder.now (Reads site reading reader) }

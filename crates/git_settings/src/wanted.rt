@@ -9,11 +9,11 @@ use regex::bytes::{Matcher, Regex};
 use regex::{Error, RegexBuilder};
 use std::alloc::{AllocError, Global};
 
-/// The patterns of a request.
+/// The patterns of a request, in boxes, since they are long and most requests have none.
 #[derive(Drop)]
 pub struct Patterns {
-    key: Option<Regex>,
-    value: Option<Regex>,
+    key: Option<Box<Regex>>,
+    value: Option<Box<Regex>>,
     /// Whether a value fits that the pattern does not match.
     is_negated: bool,
 }
@@ -83,13 +83,17 @@ impl Unclear {
 }
 
 /// The pattern of this text, in which a point stands for a line end too, or why there is none.
-fn pattern_of(alloc: Global, text: &str) -> Result<Regex, NoPattern> {
+#[inline(never)]
+fn pattern_of(alloc: Global, text: &str) -> Result<Box<Regex>, NoPattern> {
     let text = translated(alloc, text)?;
     let built = RegexBuilder::new(&text)
         .dot_matches_new_line(true)
         .build_bytes(alloc);
     match built {
-        Ok(pattern) => Ok(pattern),
+        Ok(pattern) => match Box::new(alloc, pattern) {
+            Ok(pattern) => Ok(pattern),
+            Err(_) => Err(NoPattern::Memory),
+        },
         Err(Error::OutOfMemory) => Err(NoPattern::Memory),
         Err(_) => Err(NoPattern::Invalid),
     }
@@ -163,7 +167,7 @@ fn matcher<'p>(alloc: Global, pattern: &'p Regex) -> Result<Box<Matcher<'p>>, Al
 /// A search for a pattern, if there is one.
 fn search<'p>(
     alloc: Global,
-    pattern: &'p Option<Regex>,
+    pattern: &'p Option<Box<Regex>>,
 ) -> Result<Option<Box<Matcher<'p>>>, Unclear> {
     let Some(pattern) = pattern else {
         return Ok(None);
@@ -178,7 +182,7 @@ fn search<'p>(
 fn keys_of<'k, 'p>(
     alloc: Global,
     subject: Subject<'k>,
-    pattern: &'p Option<Regex>,
+    pattern: &'p Option<Box<Regex>>,
 ) -> Result<Keys<'k, 'p>, Unclear> {
     Ok(match subject {
         Subject::Entries => Keys::All,

@@ -7,16 +7,16 @@ pub halts-requires-clause-stops : goal.halts-requires-clause-stops
 halts-requires-clause-stops c = λ system stop agrees.
     site_stops system c.args.lookup.now.folder.now c.args.site stop (c.requires system agrees).0
 
-pub returns-in-Some-clause-right : goal.returns-in-Some-clause-right
-returns-in-Some-clause-right c = λ system agrees. let (site, is) = c.requires system agrees in
+pub returns-in-Ok-boxed-clause-right : goal.returns-in-Ok-boxed-clause-right
+returns-in-Ok-boxed-clause-right c = λ system agrees. let (site, is) = c.requires system agrees in
     rw c.to.ensures.same (
       site,
       record {
         sources = is.0;
         before = c.args.reading.settings.entries.items;
         are_in = is.1;
-        is_from = rw c.new.ensures.source (rw c.in-Some.is at (c.in-Ok.ensures system agrees));
-        within = c.new.ensures.keeps system c.args.site.start.name.now (outside c.args.reading.sources.home) _;
+        is_from = rw c.in-Ok-boxed.ensures.source (rw c.in-Some.is at (c.in-Ok.ensures system agrees));
+        within = c.in-Ok-boxed.ensures.keeps system c.args.site.start.name.now (outside c.args.reading.sources.home) _;
       },
     )
 

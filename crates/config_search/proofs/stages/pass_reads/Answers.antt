@@ -9,8 +9,9 @@ halts-requires-clause-right c = λ system agrees. let (site, is) = c.requires sy
     sources = is.sources;
     before = is.before;
     are_in = is.are_in;
-    is_from = rw c.go_on.ensures.source is.is_from;
-    within = c.go_on.ensures.keeps system (outside c.args.reading.sources.home) is.before _ agrees is.within;
+    is_from = rw (c.go_on.ensures.source, c.deref_mut.ensures.value) is.is_from;
+    within = c.go_on.ensures.keeps system (outside c.args.reading.sources.home) is.before _ agrees
+        (rw c.deref_mut.ensures.value is.within);
   },
 )
 
