@@ -328,11 +328,12 @@ class Place:
 
 def is_read_first(place, told):
     """Whether Git stops at a file that it reads before it knows the repository: below a `GIT_DIR`, or by a relative name."""
-    found = re.match(rb"fatal: bad config line \d+ in file (.*)\n", told)
+    if re.search(rb"^(fatal: remote URLs cannot be |error: relative config includes )", told, re.MULTILINE):
+        return True
+    found = re.search(rb"^fatal: bad config line \d+ in file (.*)$", told, re.MULTILINE)
     if not found:
-        return told.startswith((b"fatal: remote URLs cannot be ", b"error: relative config includes "))
-    name = os.fsdecode(found[1])
-    given = place.known.get("GIT_DIR")
+        return False
+    name, given = os.fsdecode(found[1]), place.known.get("GIT_DIR")
     return not name.startswith("/") or given is not None and name.startswith(given)
 
 
