@@ -334,7 +334,7 @@ def is_read_first(place, told):
     if not found:
         return False
     name, given = os.fsdecode(found[1]), place.known.get("GIT_DIR")
-    return not name.startswith("/") or given is not None and name.startswith(given)
+    return not name.startswith("/") or bool(given) and name.startswith(given.rstrip("/") + "/")
 
 
 def class_of(place, ours, git, running):

@@ -239,7 +239,7 @@ def here(tests):
                  b"a.size=0x10\nlocal\tfile:.git/config\ta.wrong=x\nlocal\tfile:.git/config\ta.alone\n"
                  b"command\tcommand line:\ta.size=1k\n", ours.stdout)
     tests.expect("a list in Git", git.stdout, ours.stdout)
-    # Git 2.39.5 is asked too; one that is called by a shell gets one of the two
+    # of Gits the installed one: a shell that calls another hands on one of the two
     twice = Twice(tests.known | counted)
     for words in ([tests.program], ["git", "config"]):
         run = subprocess.run([*words, "a.size"], cwd=tests.path(b"here"), env=twice, capture_output=True, check=False)
