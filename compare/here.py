@@ -443,6 +443,9 @@ PLACES = [
             {"system": f"[safe]directory{first}\n[safe]directory=~nobody-of-this-name/x\n", "top/.git/config": "[a]b=1\n"})
       for more in ("0", "1") for first in ("=*", "=", "=%(prefix)/x")),
     *(Shown(None, set(), {}, "top", {"top/.git/config": f"[core]{line}\n[a]b=1\n[bad\n"}) for line in ("bare=x", "bare=no")),
+    # a line of a file, and a file, before the settings of the command
+    *(Shown(None, set(), {"GIT_TEST_ASSUME_DIFFERENT_OWNER": "1", "GIT_CONFIG_COUNT": "x"}, "top",
+            {"system": text, "top/.git/config": "[a]b=1\n"}) for text in ("[bad\n", "[include]path\n", "[a]b=1\n")),
 ]
 MADE = r"""
 git init -q -b main work; git -C work commit -q --allow-empty -m x; mkdir -p work/deep

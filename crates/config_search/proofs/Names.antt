@@ -1,17 +1,19 @@
 -- Texts that begin with others.
-use Rattle.std.proofs.Common.{◌≡◌, ◌∙◌, ◌-◌, ℕ, Bool, List, [], ◌++◌, true, false, if◌then◌else◌, ◌||◌, arith, codes, length, take, drop, refl, subst, sym, ap, append_assoc}
+use Rattle.std.proofs.Common.{◌≡◌, ◌∙◌, ◌-◌, ℕ, Bool, List, [], ◌++◌, true, false, if◌then◌else◌, ◌||◌}
+use Rattle.std.proofs.Common.{◌==◌, arith, codes, length, take, drop, refl, subst, sym, ap, append_assoc}
 use Rattle.std.specs.Str.{bytes_eq}
 use Rattle.std.proofs.Math.Seq.{drop-append_seam, take-append_seam}
 use Rattle.std.proofs.lemmas.Bool.{true≢false}
 use Rattle.std.proofs.lemmas.List.{append_cancel_left, length-append, take-append-drop}
 use Rattle.std.proofs.lemmas.Slice.Eq.{bytes_eq-Decides}
-use Rattle.config_search.specs.Names.{begins, inside}
+use Rattle.config_search.specs.Names.{begins, ends_with_slash, inside}
 
 -- a text that begins with these bytes goes on with the others
 pub goes_on : (front text : List ℕ) → bytes_eq (take (length front) text) front ≡ true
     → text ≡ front ++ drop (length front) text
 goes_on front text is = sym (take-append-drop (length front) text)
-    ∙ ap (λ (t : List ℕ). t ++ drop (length front) text) ((bytes_eq-Decides (take (length front) text) front).0 is)
+    ∙ ap (λ (t : List ℕ). t ++ drop (length front) text) ((bytes_eq-Decides (take (length front) text)
+    front).0 is)
 
 -- a text that does not begin with them is none that goes on after them
 pub begins_not : (front text rest : List ℕ) → bytes_eq (take (length front) text) front ≡ false
@@ -28,7 +30,8 @@ drop_front front end =
 -- a text that does not end with these bytes is none that ends with them after others
 pub ends_not : (text end front : List ℕ) → bytes_eq (drop (length text - length end) text) end ≡ false
     → text ≡ front ++ end → ⊥
-ends_not text end front not is = true≢false (sym ((bytes_eq-Decides (drop (length text - length end) text) end).1
+ends_not text end front not is = true≢false (sym ((bytes_eq-Decides (drop (length text - length end) text)
+    end).1
     (subst (λ (t : List ℕ). drop (length t - length end) t ≡ end) (sym is) (drop_front front end))) ∙ not)
 
 -- what follows the same bytes is the same
@@ -61,3 +64,16 @@ or_first b c x y is = rw is refl
 -- and so does a name from the root in any
 pub inside_root : (folder name : List ℕ) → begins (codes "/") name ≡ true → inside folder name ≡ name
 inside_root folder name is = or_first (begins (codes "/") name) _ name _ is
+
+end_by : (is_whole ends : Bool) (folder name : List ℕ)
+    → let whole = if is_whole then name else (if ends then folder ++ name else folder ++ codes "/" ++ name) in
+    drop (length whole - length name) whole ≡ name
+end_by true ends folder name = drop_front [] name
+end_by false true folder name = drop_front folder name
+end_by false false folder name = drop_front (folder ++ codes "/") name
+
+-- the name of a file is the end of its name in a folder
+pub end_of_inside : (folder name : List ℕ) → drop (length (inside folder name) - length name)
+    (inside folder name) ≡ name
+end_of_inside folder name =
+    end_by (begins (codes "/") name || (length folder == 0)) (ends_with_slash folder) folder name

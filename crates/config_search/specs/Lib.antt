@@ -4,6 +4,9 @@ pub mod Rule
 pub mod Search
 pub mod Files
 pub mod Owner
+pub mod Command
+pub mod Reads
+pub mod Receiving
 pub mod Protected
 pub mod Trust
 pub mod Questions

@@ -1,5 +1,6 @@
 -- What the rule says of the values of the program.
-use Rattle.std.specs.Prelude.{◌≡◌, ◌++◌, ◌⊎◌, ◌==◌, ◌&&◌, ℕ, Bool, true, false, List, [], ◌∷◌, Option, None, Some, if◌then◌else◌, IfSome, MatchBool, codes, map, option_copied}
+use Rattle.std.specs.Prelude.{◌≡◌, ◌++◌, ◌⊎◌, ◌==◌, ◌&&◌, ℕ, Bool, true, false, List, [], ◌∷◌, Option, None}
+use Rattle.std.specs.Prelude.{Some, if◌then◌else◌, IfSome, MatchBool, codes, map, option_copied}
 use Rattle.std.specs.Global.{Vec}
 use Rattle.std.specs.HashMap.{HashMap, get_by}
 use Rattle.std.specs.Str.{bytes_eq}
@@ -15,7 +16,7 @@ use Rattle.config_search.specs.declared.fact.Pause.{Pause}
 use Rattle.config_search.specs.declared.fact.Recent.{Recent}
 use Rattle.config_search.specs.declared.fact.Pause.TheVariants.{Ask, Memory}
 use Rattle.config_search.specs.declared.halt.Halt.{Halt}
-use Rattle.config_search.specs.declared.halt.Halt.TheVariants.{Pauses, Stops}
+use Rattle.config_search.specs.declared.halt.Halt.TheVariants.{Pauses, Stops, Fails}
 use Rattle.config_search.specs.Rule as rule
 use Rattle.config_search.specs.Search as search
 use Rattle.config_search.specs.Files.{File}
@@ -50,7 +51,8 @@ IsFirst list fact = first_of list fact.subject fact.name.now ≡ Some fact
 -- the facts that are kept apart are such
 abbrev pub AreRecent : List Fact → Recent → Type 0
 AreRecent list recent =
-    IfSome recent.last (IsFirst list) × IfSome recent.before (IsFirst list) × IfSome recent.third (IsFirst list)
+    IfSome recent.last (IsFirst list) × IfSome recent.before (IsFirst list) × IfSome recent.third
+    (IsFirst list)
 
 -- a question at which a search in a folder pauses is one that it needs, and that no fact answers
 abbrev pub IsNew : List ℕ → List Fact → Pause → Type 0
@@ -82,7 +84,8 @@ folder_in git_dir Broken = git_dir
 
 -- settings or a variable may name the folder of references, if they have one of their own
 abbrev pub IsStore : List Fact → Store → Type 0
-IsStore facts store = IfSome store.place (λ place. (system : System) → AreTrueIn system facts → MayName system)
+IsStore facts store = IfSome store.place (λ place. (system : System) → AreTrueIn system facts → MayName
+    system)
 
 -- how the program says that a git directory is named
 abbrev pub form_of : Form → rule.Form
@@ -112,6 +115,7 @@ AreLimits system start limits = (search.ceilings system ≡ map (λ c. c.now) li
 abbrev pub IsNewHalt : List ℕ → List Fact → Halt → Type 0
 IsNewHalt folder facts (Pauses pause) = IsNew folder facts pause
 IsNewHalt folder facts (Stops stop) = Unit {0}
+IsNewHalt folder facts (Fails error) = Unit {0}
 
 -- it is no question at which the search pauses
 abbrev pub AsksNothing : Halt → Type 0

@@ -1,13 +1,17 @@
 -- What is right in a system of what a stage of a search holds.
 --
 -- Look for: where the search climbs, what is found from there on is what is found from the folder in which Git starts.
-use Rattle.std.specs.Prelude.{◌≡◌, ℕ, List, None, Some, IfSome, codes}
+use Rattle.std.specs.Prelude.{◌≡◌, ◌++◌, ◌∷◌, ℕ, List, [], None, Some, IfSome, codes}
+use Rattle.std.specs.List.{AllZip}
+use Rattle.config_file.specs.declared.settings.Setting.{Setting}
 use Rattle.config_file.specs.declared.settings.Settings.{Settings}
 use Rattle.config_search.specs.System.{System, AreTrueIn}
 use Rattle.config_search.specs.Questions.{Comes, MayName}
 use Rattle.config_search.specs.Names.{opened}
-use Rattle.config_search.specs.Protected.{AreProtected}
-use Rattle.config_search.specs.Reading.{AreSources, IsCounting, IsNamedSafe, IsOther, IsReading, IsReadingIn}
+use Rattle.config_search.specs.Protected.{AreProtected, IsKnown, IsSettingOfRead}
+use Rattle.config_search.specs.Files.{File, AreFiles}
+use Rattle.config_search.specs.Reads.{AreOpened, End, ReadEntry}
+use Rattle.config_search.specs.Reading.{AreRightTexts, InRounds, IsNamedSafe, IsOpening, IsOther, texts_in}
 use Rattle.config_search.specs.Rule as rule
 use Rattle.config_search.specs.Rule.{find_in}
 use Rattle.config_search.specs.Search.{Sought, Inside, Above, Seeks, path_of, start_of}
@@ -19,12 +23,17 @@ use Rattle.config_search.specs.declared.fact.Fact.{Fact}
 use Rattle.config_search.specs.declared.format.Format.{Format}
 use Rattle.config_search.specs.declared.owner.Naming.{Naming}
 use Rattle.config_search.specs.declared.place.Site.{Site}
+use Rattle.config_search.specs.declared.protected.Collected.{Collected}
+use Rattle.config_search.specs.declared.rounds.Rounds.{Rounds}
+use Rattle.config_search.specs.declared.texts.Opening.{Opening}
 use Rattle.config_search.specs.declared.seek.Folder.{Folder}
 use Rattle.config_search.specs.declared.seek.Limits.{Limits}
 use Rattle.config_search.specs.declared.stages.Climb.{Climb}
 use Rattle.config_search.specs.declared.stages.Climb.TheVariants as climb
 use Rattle.config_search.specs.declared.stages.Stage.{Stage}
-use Rattle.config_search.specs.declared.stages.Stage.TheVariants.{Begins, Starts, Bounds, Climbs, Finds, Has, Counts, Opens, Reads, Collects, Weighs, Names, Trusts, States, Knows, Does}
+use Rattle.config_search.specs.declared.stages.Stage.TheVariants.{Begins, Starts, Bounds, Climbs, Finds}
+use Rattle.config_search.specs.declared.stages.Stage.TheVariants.{Has, Opens, Reads, Weighs, Names, Trusts}
+use Rattle.config_search.specs.declared.stages.Stage.TheVariants.{States, Knows, Does}
 
 -- the folder that a search is asked about, and the facts that it was told
 pub record Told : Type 0 where
@@ -33,7 +42,8 @@ pub record Told : Type 0 where
 
 -- Git starts in this folder where it is asked about one of this name
 abbrev pub IsStart : System → List ℕ → Folder → Type 0
-IsStart system asked start = (start.name.now ≡ start_of asked) × (Some start.path.now ≡ path_of system (start_of asked))
+IsStart system asked start = (start.name.now ≡ start_of asked)
+    × (Some start.path.now ≡ path_of system (start_of asked))
 
 -- the git directory is the one that is found, and shares this folder
 pub record IsSite (system : System) (asked : List ℕ) (site : Site) : Type 0 where
@@ -59,12 +69,36 @@ pub record IsBounded (system : System) (asked : List ℕ) (start : Folder) (limi
   pub are_limits : AreLimits system start.name.now limits
 
 -- up to this folder there is no git directory, where a search began in one
-pub record IsUpTo (system : System) (asked : List ℕ) (start : Folder) (limits : Limits) (at : List ℕ) : Type 0 where
+pub record IsUpTo (system : System) (asked : List ℕ) (start : Folder) (limits : Limits) (at : List ℕ)
+    : Type 0 where
   pub begun : IsStart system asked start
   pub are_limits : AreLimits system start.name.now limits
   pub whole : limits.rest ≡ None
   pub place : Comes system asked at
   pub goes_on : (found : Sought) → Above system start.name.now at found → Seeks system start.name.now found
+
+-- the texts of settings that no repository can change are being opened
+abbrev pub OpensProtected : System → Site → Opening → Type 0
+OpensProtected system site opening =
+    (files : List File) × AreFiles system [] files × IsOpening system site.start.name.now files opening
+
+-- they are being read
+pub record ReadsProtected (system : System) (start : List ℕ) (rounds : Rounds) (collected : Collected)
+    : Type 0 where
+  pub files : List File
+  pub are_files : AreFiles system [] files
+  pub opened : End
+  pub are_opened : AreOpened system start files (texts_in rounds) opened
+  pub are_right : AreRightTexts system start rounds opened
+  pub is_known : IsKnown system rounds.known
+  pub read : List ReadEntry
+  pub in_rounds : InRounds system start rounds opened read
+  pub are : AllZip IsSettingOfRead read collected.settings.entries.items
+
+-- the setting of an entry is collected
+abbrev pub Collects : Collected → ReadEntry → Collected → Type 0
+Collects old it new = (setting : Setting) × IsSettingOfRead it setting
+    × (new.settings.entries.items ≡ old.settings.entries.items ++ setting ∷ [])
 
 -- these are the settings that no repository can change, for the folder in which Git starts
 abbrev pub AreRead : System → Site → Settings → Type 0
@@ -82,20 +116,21 @@ Right system asked Begins = Unit {0}
 Right system asked (Starts start) = IsStart system asked start
 Right system asked (Bounds start limits) = IsBounded system asked start limits
 Right system asked (Climbs start limits at) = IsUpTo system asked start limits at.now
-Right system asked (Finds start found) = IsStart system asked start × Seeks system start.name.now (found_of found)
+Right system asked (Finds start found) = IsStart system asked start × Seeks system start.name.now
+    (found_of found)
 Right system asked (Has site) = IsSite system asked site
-Right system asked (Counts site counted) = IsSite system asked site × IsCounting system counted
-Right system asked (Opens site reading) = IsSite system asked site × IsReading system site.start.name.now reading
-Right system asked (Reads site reading reader) =
-    IsSite system asked site × IsReadingIn system site.start.name.now reading reader.value
-Right system asked (Collects site sources settings) =
-    IsSite system asked site × AreSources system sources × AreRead system site settings
+Right system asked (Opens site opening) = IsSite system asked site × OpensProtected system site opening
+Right system asked (Reads site rounds collected) =
+    IsSite system asked site × ReadsProtected system site.start.name.now rounds collected
 Right system asked (Weighs site settings) = IsSite system asked site × AreRead system site settings
 Right system asked (Names site naming) = IsSite system asked site × IsNaming system site naming
 Right system asked (Trusts site) = IsSite system asked site × IsSafeSite system site
-Right system asked (States site format) = IsSite system asked site × IsSafeSite system site × IsNamedBy system format
-Right system asked (Knows site format) = IsSite system asked site × IsSafeSite system site × IsNamedBy system format
-Right system asked (Does place) = IsDone system (start_of asked) (path_of system (start_of asked)) place.outcome
+Right system asked (States site format) = IsSite system asked site × IsSafeSite system site × IsNamedBy
+    system format
+Right system asked (Knows site format) = IsSite system asked site × IsSafeSite system site × IsNamedBy
+    system format
+Right system asked (Does place) = IsDone system (start_of asked) (path_of system (start_of asked))
+    place.outcome
 
 -- what a stage holds is right in each system in which the facts are true
 abbrev pub IsRight : List ℕ → List Fact → Stage → Type 0

@@ -1,12 +1,15 @@
 //! Why the part of a search that reads settings stops.
-ghost use Rattle.config_search.specs.Shown.{AsksNothing};
-ghost use Rattle.std.specs.Prelude.{◌≡◌, IfOk};
+ghost use Rattle.std.specs.Prelude.{◌≡◌, ℕ, List, IfErr, IfOk, MatchResult};
+ghost use Rattle.config_search.specs.Shown.{AsksNothing, IsNew, IsNewHalt};
+ghost use Rattle.config_search.specs.Reading.{IsCopy, PausesAs, StopsAs};
+ghost use Rattle.config_search.specs.declared.fact.Fact.{Fact};
 ghost use Rattle.config_search.specs.declared.fact.Pause.TheVariants.{Memory};
-ghost use Rattle.config_search.specs.declared.halt.Halt.TheVariants.{Pauses};
+ghost use Rattle.config_search.specs.declared.halt.Halt.TheVariants.{Pauses, Stops};
 
 use crate::fact::Pause;
 use config_file::Stop;
 use std::alloc::{AllocError, Global};
+use std::io;
 
 /// Why it stops before its end.
 #[derive(Drop)]
@@ -15,6 +18,8 @@ pub(crate) enum Halt {
     Pauses(Pause),
     /// Git stops here.
     Stops(Stop<Vec<u8>>),
+    /// What gets the entries fails.
+    Fails(io::Error),
 }
 
 impl From<Pause> for Halt {
@@ -33,14 +38,37 @@ impl From<AllocError> for Halt {
     }
 }
 
-/// Git stops here, for this reason.
-pub(crate) fn stop(alloc: Global, at: Stop<&[u8]>) -> Result<Halt, AllocError>
-    ensures { IfOk result AsksNothing }
+impl Halt {
+    /// Where Git stops, or the pause. What fails counts as memory.
+    pub fn into_stop(self) -> Result<Stop<Vec<u8>>, Pause>
+        ensures same { MatchResult result (λ told. self ≡ Stops told) (PausesAs self) }
+        ensures asks { IfErr result
+            (λ pause. (folder : List ℕ) (facts : List Fact) → IsNewHalt folder facts self → IsNew folder facts pause) }
+    {
+        match self {
+            Halt::Stops(told) => Ok(told),
+            Halt::Pauses(pause) => Err(pause),
+            Halt::Fails(_) => Err(Pause::Memory(AllocError)),
+        }
+    }
+}
+
+/// Where Git stops, with texts of its own.
+pub(crate) fn told(alloc: Global, at: Stop<&[u8]>) -> Result<Stop<Vec<u8>>, AllocError>
+    ensures { IfOk result (IsCopy at.entry) }
 {
-    Ok(Halt::Stops(Stop {
+    Ok(Stop {
         file: at.file.to_vec(alloc)?,
         line: at.line,
         why: at.why,
         words: at.words.to_vec(alloc)?,
-    }))
+    })
+}
+
+/// Git stops here, for this reason.
+pub(crate) fn stop(alloc: Global, at: Stop<&[u8]>) -> Result<Halt, AllocError>
+    ensures asks { IfOk result AsksNothing }
+    ensures stops { IfOk result (StopsAs at.entry) }
+{
+    Ok(Halt::Stops(told(alloc, at)?))
 }

@@ -34,23 +34,27 @@
 #![tactic(auto)]
 
 pub mod answer;
+mod command;
 pub mod fact;
 mod files;
 mod format;
 mod git_dir;
 mod halt;
 mod head;
+mod includes;
 pub mod laws;
 mod name;
 mod owner;
 mod place;
 mod protected;
 mod reader;
+mod receiver;
 mod reftable;
+mod rounds;
 mod seek;
-mod sources;
 mod stages;
 mod start;
+mod texts;
 
 pub use crate::answer::{Answer, Named, Outcome, Refusal, Repository};
 pub use crate::fact::{Fact, Pause, Question};

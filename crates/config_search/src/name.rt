@@ -1,5 +1,5 @@
 //! Names of files and folders.
-ghost use Rattle.std.specs.Prelude.{◌≡◌, ◌≢◌, ◌≤◌, ◌<◌, ◌++◌, ◌∷◌, [], ℕ, List, length, IfOk, OnErr, OnOk, IfSome, MatchBool, MatchOption, option_copied};
+ghost use Rattle.std.specs.Prelude.{◌≡◌, ◌≢◌, ◌≤◌, ◌<◌, ◌++◌, ◌∷◌, ◌-◌, [], ℕ, List, length, take, IfOk, OnErr, OnOk, IfSome, MatchBool, MatchOption, option_copied};
 ghost use Rattle.std.specs.List.{prefix_len, suffix_len};
 ghost use Rattle.config_search.specs.Names as names;
 
@@ -136,6 +136,14 @@ pub(crate) fn folder_of(name: &[u8]) -> &[u8]
         return b"";
     }
     &name[..(front - 1).max(1)]
+}
+
+/// The folder of a name from the root without links, without a slash at its end.
+pub(crate) fn dir_of(name: &[u8]) -> &[u8]
+    ensures { result.now ≡ take (names.front_len name.now - 1) name.now }
+{
+    let front = name.len() - last_length(name);
+    &name[..front.saturating_sub(1)]
 }
 
 /// The last part of a name.

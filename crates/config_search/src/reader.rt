@@ -1,22 +1,27 @@
 //! Reads a text of settings with what it includes, an entry at a time. Where an entry includes a file of which no fact
 //! tells, it waits, and goes on there once one does.
-ghost use Rattle.std.specs.Prelude.{◌≡◌, List, ℕ, Ok, None, IfErr, IfOk, OnOk, MatchResult, drop, length, ◌-◌};
-ghost use Rattle.config_file.specs.Settings.{AddsWalk, HoldsContent};
-ghost use Rattle.config_file.specs.declared.settings.Setting.{Setting as SettingOf};
+ghost use Rattle.std.specs.Prelude.{◌≡◌, ◌-◌, ◌||◌, [], List, ℕ, None, IfErr, IfOk, OnOk, MatchResult, codes, drop, length, option_copied};
+ghost use Rattle.config_file.specs.File.{Entry as EntryOf};
+ghost use Rattle.config_file.specs.Settings.{HoldsContent};
+ghost use Rattle.config_file.specs.declared.errors.Why.TheVariants.{Relative, TooDeep, Unreadable};
 ghost use Rattle.config_file.specs.declared.walk.Known.{Known as KnownOf};
 ghost use Rattle.config_search.specs.System.{System, AreTrueIn};
-ghost use Rattle.config_search.specs.Protected.{Holds};
-ghost use Rattle.config_search.specs.Questions.{either};
-ghost use Rattle.config_search.specs.Reading.{IsWithin};
+ghost use Rattle.config_search.specs.Names.{begins, inside};
+ghost use Rattle.config_search.specs.Reads.{Holds, HoldsFor, IsDirOf, shown_reason};
+ghost use Rattle.config_search.specs.Reading.{GoesOn, GoesThrough, HasCome, IsLost, ReadsNext, ReadsPlain, StepsOn, StopsHere, in_one};
 ghost use Rattle.config_search.specs.Shown.{AsksNothing, IsNew, IsNewHalt};
+ghost use Rattle.config_search.specs.declared.TheConstants.{REFUSAL as REFUSAL_OF};
 
 use crate::fact::{Lookup, Pause, answer_in, answer_of, fact_in};
 use crate::halt::{Halt, stop};
-use crate::name::{joined, push};
-use crate::{INCLUDED, REFUSAL};
+use crate::includes::has_include;
+use crate::name::{dir_of, joined};
+use crate::receiver::Receiver;
+use crate::{INCLUDED, REAL, REFUSAL};
 use config_file::entry::EntryForm;
+use config_file::walk::include_of;
 use config_file::{
-    Content, Entry, FilePlace, Include, Known, Scope, Setting, Settings, Step, Stop, Walk, Why,
+    Content, Entries, Entry, FilePlace, Frame, Include, Known, Scope, Step, Stop, Walk, Why,
 };
 use std::alloc::{AllocError, Global};
 
@@ -60,11 +65,42 @@ pub(crate) fn refusal_in<'t>(
     folder: &[u8],
     name: &[u8],
 ) -> Result<Option<&'t [u8]>, Pause>
-    ensures { IfErr result (IsNew lookup.now.folder.now lookup.now.facts.now) }
+    ensures { MatchResult result
+        (λ refusal. (system : System) → AreTrueIn system lookup.now.facts.now
+        → option_copied refusal ≡ system REFUSAL_OF (inside folder.now name.now))
+        (IsNew lookup.now.folder.now lookup.now.facts.now) }
 {
-    match answer_in(lookup, REFUSAL, folder, name)? {
-        Some(b"denied") => Ok(Some(b"Permission denied")),
-        refusal => Ok(refusal),
+    Ok(answer_in(lookup, REFUSAL, folder, name)?)
+}
+
+/// The words of such a reason.
+pub(crate) fn words_of(reason: &[u8]) -> &[u8]
+    ensures { result.now ≡ shown_reason reason.now }
+{
+    if reason == b"denied".as_slice() {
+        return b"Permission denied";
+    }
+    reason
+}
+
+/// The folder without links of a file in a folder that has this text, if a condition in it may ask for that.
+pub(crate) fn dir_in<'t>(
+    lookup: &Lookup<'_, 't>,
+    folder: &[u8],
+    name: &[u8],
+    text: &[u8],
+) -> Result<&'t [u8], Pause>
+    ensures { MatchResult result
+        (λ dir. (system : System) → AreTrueIn system lookup.now.facts.now
+        → IsDirOf system folder.now name.now text.now dir.now)
+        (IsNew lookup.now.folder.now lookup.now.facts.now) }
+{
+    if !has_include(text) {
+        return Ok(b"");
+    }
+    match answer_in(lookup, REAL, folder, name)? {
+        Some(real) => Ok(dir_of(real)),
+        None => Ok(b"\0"),
     }
 }
 
@@ -79,31 +115,49 @@ fn content_of<'t>(lookup: &Lookup<'_, 't>, folder: &[u8], name: &[u8]) -> Result
     if let Some(text) = answer_of(&fact) {
         let place = FilePlace {
             name: end_of(fact.name, name),
-            real_dir: b"",
+            real_dir: dir_in(lookup, folder, name, text)?,
         };
         return Ok(Content::Text(place, text));
     }
-    match answer_in(lookup, REFUSAL, folder, name)? {
+    match refusal_in(lookup, folder, name)? {
         None => Ok(Content::Missing),
         Some(_) => Ok(Content::Unreadable("")),
     }
 }
 
+/// Whether a text may include the file of this name. One that is of no file includes only what is named from the root.
+fn may_include(is_file: bool, name: &[u8]) -> bool
+    ensures { result ≡ (is_file || begins (codes "/") name.now) }
+{
+    is_file || name.starts_with(b"/")
+}
+
 impl Waits<'_> {
     /// Where Git stops, since this is no entry of a file, and the name of what it includes does not begin at the root.
     fn of_no_file(&self, alloc: Global) -> Result<Halt, AllocError>
-        ensures { IfOk result AsksNothing }
+        ensures asks { IfOk result AsksNothing }
+        ensures stops { IfOk result (StopsHere self.now.place.name.now self.now.entry.line Relative) }
     {
         let at = Stop::at(self.place.name, self.entry.line, Why::Relative);
         stop(alloc, at)
     }
 
+    /// Where Git stops, since the file is included too deep.
+    fn too_deep(&self, alloc: Global) -> Result<Halt, AllocError>
+        ensures asks { IfOk result AsksNothing }
+        ensures stops { IfOk result (StopsHere self.now.place.name.now self.now.entry.line TooDeep) }
+    {
+        let at = Stop::at(self.place.name, self.entry.line, Why::TooDeep);
+        stop(alloc, at)
+    }
+
     /// Where Git stops, since the file is there, and is not read.
     fn not_read(&self, lookup: &Lookup<'_, '_>, folder: &[u8]) -> Result<Halt, Pause>
-        ensures { MatchResult result AsksNothing (IsNew lookup.now.folder.now lookup.now.facts.now) }
+        ensures asks { MatchResult result AsksNothing (IsNew lookup.now.folder.now lookup.now.facts.now) }
+        ensures stops { IfOk result (StopsHere self.now.place.name.now self.now.entry.line Unreadable) }
     {
         let alloc = lookup.alloc;
-        let why = refusal_in(lookup, folder, &self.name)?.unwrap_or_default();
+        let why = words_of(refusal_in(lookup, folder, &self.name)?.unwrap_or_default());
         let front = joined(alloc, b"cannot read ", &self.name, b": ")?;
         let words = joined(alloc, &front, why, b"")?;
         let at = Stop {
@@ -116,12 +170,84 @@ impl Waits<'_> {
     }
 }
 
+/// Hands on the entries of a file as far as they include none. Returns what is left of the file.
+fn read_plain<'t, R: Receiver<'t>>(
+    alloc: Global,
+    known: &Known<'_>,
+    scope: Scope,
+    place: FilePlace<'t>,
+    entries: Entries<'t>,
+    receiver: &mut R,
+) -> Result<Entries<'t>, Halt>
+    ensures reads { IfOk result (λ left. ReadsPlain known.now R.receives scope
+        (in_one place.entry entries.entry) (in_one place.entry left) receiver.old receiver.new) }
+    ensures lost { IfErr result IsLost }
+{
+    let mut left = entries;
+    'plain: for _ in 0..u64::MAX {
+        let (section, line, rest) = left.parts();
+        if let Some(form) = left.advance() {
+            match form {
+                EntryForm::Refused => {}
+                form => {
+                    let entry = left.entry(form);
+                    if let Include::NotFollowed = include_of(alloc, known, place, &entry)? {
+                        match receiver.receive(scope, place.name, &entry, form) {
+                            Ok(()) => continue 'plain,
+                            Err(error) => return Err(Halt::Fails(error)),
+                        }
+                    }
+                }
+            }
+        }
+        match Entries::resume(section, line, rest) {
+            Some(same) => return Ok(same),
+            None => return Err(Halt::from(AllocError)),
+        }
+    }
+    Err(Halt::from(AllocError))
+}
+
+/// Hands on the entries of the first file of a walk as far as they include none, if the walk is in no other file. A walk
+/// copies what is left of its last file at each step, which takes longer.
+fn read_first<'t, R: Receiver<'t>>(
+    alloc: Global,
+    known: &Known<'_>,
+    scope: Scope,
+    walk: &mut Walk<'t>,
+    receiver: &mut R,
+) -> Result<(), Halt>
+    ensures reads { OnOk result (ReadsPlain known.now R.receives scope walk.old.frames.items walk.new.frames.items
+        receiver.old receiver.new) }
+    ensures lost { IfErr result IsLost }
+{
+    let [frame] = walk.frames() else {
+        return Ok(());
+    };
+    let place = frame.place;
+    let (section, line, rest) = frame.entries.parts();
+    let Some(entries) = Entries::resume(section, line, rest) else {
+        return Err(Halt::from(AllocError));
+    };
+    let entries = read_plain(alloc, known, scope, place, entries, receiver)?;
+    let mut first = Walk::default();
+    if !first.go_on(Frame {
+        place,
+        entries,
+        forbids_urls: false,
+    }) {
+        return Err(Halt::from(AllocError));
+    }
+    *walk = first;
+    Ok(())
+}
+
 impl<'t> Reader<'t> {
     /// Nothing of this text is read.
     pub fn new(source: Source<'t>) -> Reader<'t>
         ensures source { result.source ≡ source.entry }
-        ensures keeps { (system : System) (folder : List ℕ) (known : KnownOf) (before : List SettingOf)
-            → IsWithin (Holds system folder) known result before before }
+        ensures begins { (system : System) (folder : List ℕ) (known : KnownOf)
+            → HasCome (HoldsFor system folder source.entry.is_file) known result [] }
     {
         Reader {
             source,
@@ -130,29 +256,29 @@ impl<'t> Reader<'t> {
         }
     }
 
-    /// The same in a box.
+    /// The same in a box. It fails only if memory is refused.
     pub fn boxed(alloc: Global, source: Source<'t>) -> Result<Box<Reader<'t>>, AllocError>
         ensures source { IfOk result (λ reader. reader.value.source ≡ source.entry) }
-        ensures keeps { IfOk result (λ reader. (system : System) (folder : List ℕ) (known : KnownOf)
-            (before : List SettingOf) → IsWithin (Holds system folder) known reader.value before before) }
+        ensures begins { IfOk result (λ reader. (system : System) (folder : List ℕ) (known : KnownOf)
+            → HasCome (HoldsFor system folder source.entry.is_file) known reader.value []) }
     {
         Ok(Box::new(alloc, Reader::new(source))?)
     }
 
     /// Goes on behind the entry that waits, in the file that it includes if there is one. Names begin in this folder.
-    pub fn go_on(&mut self, lookup: &Lookup<'_, 't>, folder: &[u8]) -> Result<(), Halt>
+    fn go_on(&mut self, lookup: &Lookup<'_, 't>, folder: &[u8]) -> Result<(), Halt>
         ensures goes { OnOk result (self.new.waits ≡ None) }
-        ensures keeps { (system : System) (known : KnownOf) (before settings : List SettingOf)
+        ensures keeps { (system : System) (known : KnownOf) (found : List (List ℕ × EntryOf))
             → AreTrueIn system lookup.now.facts.now
-            → IsWithin (Holds system folder.now) known self.old before settings
-            → IsWithin (Holds system folder.now) known self.new before settings }
+            → HasCome (HoldsFor system folder.now self.old.source.is_file) known self.old found
+            → GoesOn (HoldsFor system folder.now self.old.source.is_file) known self.new found result }
         ensures asks { IfErr result (IsNewHalt lookup.now.folder.now lookup.now.facts.now) }
         ensures source { self.new.source ≡ self.old.source }
     {
         let Some(waits) = &self.waits else {
             return Ok(());
         };
-        if !self.source.is_file && !waits.name.starts_with(b"/") {
+        if !may_include(self.source.is_file, &waits.name) {
             return Err(waits.of_no_file(lookup.alloc)?);
         }
         match content_of(lookup, folder, &waits.name)? {
@@ -160,8 +286,7 @@ impl<'t> Reader<'t> {
             Content::Unreadable(_) => return Err(waits.not_read(lookup, folder)?),
             Content::Text(place, text) => {
                 if !self.walk.enter(place, text) {
-                    let at = Stop::at(waits.place.name, waits.entry.line, Why::TooDeep);
-                    return Err(stop(lookup.alloc, at)?);
+                    return Err(waits.too_deep(lookup.alloc)?);
                 }
             }
         }
@@ -169,21 +294,16 @@ impl<'t> Reader<'t> {
         Ok(())
     }
 
-    /// Adds the setting of the next entry, and returns false at the end of the text.
-    pub fn take(
+    /// Hands on the next entry, and returns false at the end of the text.
+    fn read_next<R: Receiver<'t>>(
         &mut self,
         alloc: Global,
         known: &Known<'_>,
-        settings: &mut Settings<'t>,
+        receiver: &mut R,
     ) -> Result<bool, Halt>
         requires { self.old.waits ≡ None }
-        ensures takes { MatchResult result
-            (λ goes. (system : System) (folder : List ℕ) (before : List SettingOf)
-            → IsWithin (Holds system folder) known.now self.old before settings.old.entries.items
-            → either goes (IsWithin (Holds system folder) known.now self.new before settings.new.entries.items)
-            (AddsWalk (Holds system folder) known.now self.old.source.place self.old.source.text.now before
-            settings.new.entries.items (Ok tt)))
-            AsksNothing }
+        ensures reads { ReadsNext known.now R.receives self.old self.new receiver.old receiver.new result }
+        ensures asks { IfErr result AsksNothing }
         ensures source { self.new.source ≡ self.old.source }
     {
         let (place, entry, include) = match self.walk.next(alloc, known)? {
@@ -194,8 +314,11 @@ impl<'t> Reader<'t> {
             Step::Ends => return Ok(false),
         };
         let (file, line) = (place.name, entry.line);
-        let setting = Setting::of_form(alloc, self.source.scope, file, entry, EntryForm::Marked)?;
-        push(&mut settings.entries, setting)?;
+        // a walk does not tell how an entry is written, and this fits each
+        match receiver.receive(self.source.scope, file, &entry, EntryForm::Marked) {
+            Ok(()) => {}
+            Err(error) => return Err(Halt::Fails(error)),
+        }
         let why = match include {
             Include::NotFollowed => return Ok(true),
             Include::Named(name) => {
@@ -208,32 +331,62 @@ impl<'t> Reader<'t> {
         };
         Err(stop(alloc, Stop::at(file, line, why))?)
     }
-}
 
-/// Adds the settings of a text and of what it includes. Names begin in this folder.
-pub(crate) fn add_source<'t>(
-    lookup: &Lookup<'_, 't>,
-    folder: &[u8],
-    known: &Known<'_>,
-    settings: &mut Settings<'t>,
-    source: Source<'t>,
-) -> Result<(), Halt>
-    ensures { MatchResult result
-        (λ done. (system : System) → AreTrueIn system lookup.now.facts.now
-        → AddsWalk (Holds system folder.now) known.now source.entry.place source.entry.text.now
-        settings.old.entries.items settings.new.entries.items (Ok tt))
-        (IsNewHalt lookup.now.folder.now lookup.now.facts.now) }
-{
-    let mut reader = Reader::new(source);
-    'entries: for _ in 0..u64::MAX {
-        reader.go_on(lookup, folder)?;
-        let goes = match reader.take(lookup.alloc, known, settings) {
-            Ok(goes) => goes,
+    /// Hands on entries up to one that may include a file, and returns false at the end of the text. Names begin in this
+    /// folder.
+    #[inline(always)]
+    fn step<R: Receiver<'t>>(
+        &mut self,
+        lookup: &Lookup<'_, 't>,
+        folder: &[u8],
+        known: &Known<'_>,
+        receiver: &mut R,
+    ) -> Result<bool, Halt>
+        ensures reads { StepsOn lookup.now.facts.now folder.now known.now R.receives self.old self.new
+            receiver.old receiver.new result }
+        ensures asks { IfErr result (IsNewHalt lookup.now.folder.now lookup.now.facts.now) }
+        ensures source { self.new.source ≡ self.old.source }
+    {
+        match self.go_on(lookup, folder) {
+            Ok(()) => {}
             Err(halt) => return Err(halt),
-        };
-        if !goes {
-            return Ok(());
+        }
+        read_first(
+            lookup.alloc,
+            known,
+            self.source.scope,
+            &mut self.walk,
+            receiver,
+        )?;
+        match self.read_next(lookup.alloc, known, receiver) {
+            Ok(goes) => Ok(goes),
+            Err(halt) => Err(halt),
         }
     }
-    Err(Halt::from(AllocError))
+
+    /// Hands on the entries of the text and of what it includes, from where it has come, to the end. Names begin in this
+    /// folder.
+    pub fn read<R: Receiver<'t>>(
+        &mut self,
+        lookup: &Lookup<'_, 't>,
+        folder: &[u8],
+        known: &Known<'_>,
+        receiver: &mut R,
+    ) -> Result<(), Halt>
+        ensures reads { GoesThrough lookup.now.facts.now folder.now known.now R.receives self.old self.new
+            receiver.old receiver.new result }
+        ensures asks { IfErr result (IsNewHalt lookup.now.folder.now lookup.now.facts.now) }
+        ensures source { self.new.source ≡ self.old.source }
+    {
+        'steps: for _ in 0..u64::MAX {
+            let goes = match self.step(lookup, folder, known, receiver) {
+                Ok(goes) => goes,
+                Err(halt) => return Err(halt),
+            };
+            if !goes {
+                return Ok(());
+            }
+        }
+        Err(Halt::from(AllocError))
+    }
 }

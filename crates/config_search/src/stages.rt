@@ -7,26 +7,26 @@ ghost use Rattle.config_search.specs.Answers as answers;
 ghost use Rattle.config_search.specs.Search as search;
 ghost use Rattle.config_search.specs.Stages as stages;
 ghost use Rattle.config_search.specs.declared.TheConstants.{VARIABLE};
-ghost use Rattle.config_search.specs.Reading.{HasEnded, IsCounting};
 ghost use Rattle.config_search.specs.Trust.{SaysSafe};
 ghost use Rattle.config_search.specs.declared.answer.Outcome.TheVariants.{Stops};
-ghost use Rattle.config_search.specs.declared.stages.Stage.TheVariants.{Counts, Opens, Reads, Collects, Weighs, Names, Trusts, States, Knows, Does};
+ghost use Rattle.config_search.specs.declared.stages.Stage.TheVariants.{Opens, Reads, Weighs, Names, Trusts, States, Knows, Does};
 
 use crate::VARIABLE;
 use crate::answer::{Answer, Outcome, Refusal};
 use crate::fact::{Fact, Facts, Lookup, Pause, answer_to};
+use crate::files::protected_files;
 use crate::format::{Format, Store, format_in, given_store, own_text};
 use crate::halt::Halt;
 use crate::name::{copied, parent};
 use crate::owner::{Naming, Weighed, is_weighed, weigh};
 use crate::place::{Place, Site, check_booleans, lists_of, nowhere, place_by_format, site_of};
-use crate::protected::{Reading, with_urls};
-use crate::reader::Reader;
+use crate::protected::{Collected, outside};
+use crate::rounds::Rounds;
 use crate::seek::{
     Discovery, Folder, GitDir, Limits, find_given, find_in, first_folder, real_folder,
 };
-use crate::sources::{Counted, Sources};
-use config_file::{Directories, Includes, Known, Settings, Urls};
+use crate::texts::Opening;
+use config_file::Settings;
 use std::alloc::{AllocError, Global};
 use std::marker::Model;
 use std::mem;
@@ -46,14 +46,10 @@ pub(crate) enum Stage<'t> {
     Finds(Folder<'t>, Discovery<'t>),
     /// To a git directory, of which is not known whether Git trusts it.
     Has(Site<'t>),
-    /// To one that settings decide about. Some of those of the command are known.
-    Counts(Site<'t>, Counted),
-    /// Some files of these settings are read, and no other is begun.
-    Opens(Site<'t>, Reading<'t>),
-    /// One of their texts is being read. A reader is long, and a stage is moved often, so that it is in a box.
-    Reads(Site<'t>, Reading<'t>, Box<Reader<'t>>),
-    /// All are read, as if each condition on the URLs of remotes held.
-    Collects(Site<'t>, Sources<'t>, Settings<'t>),
+    /// To one that settings decide about, whose texts are being opened.
+    Opens(Site<'t>, Opening<'t>),
+    /// They are being read.
+    Reads(Site<'t>, Rounds<'t>, Collected<'t>),
     /// All are read.
     Weighs(Site<'t>, Settings<'t>),
     /// Some are looked through for those that name the folder as safe.
@@ -324,6 +320,7 @@ fn halts<'t>(
 {
     match halt {
         Halt::Pauses(pause) => Passed::stays(stage, pause),
+        Halt::Fails(_) => Passed::stays(stage, Pause::Memory(AllocError)),
         Halt::Stops(stop) => match Place::new(lookup.alloc, folder, Outcome::Stops(stop)) {
             Ok(place) => Passed::to(Stage::Does(place)),
             Err(error) => Passed::stays(stage, Pause::Memory(error)),
@@ -347,19 +344,23 @@ fn pass_found<'t>(lookup: &Lookup<'_, 't>, start: Folder<'t>, found: Discovery<'
     }
 }
 
-/// Whether Git trusts a git directory without settings, or the start of what is read of them.
-fn begin_weighing<'t>(lookup: &Lookup<'_, 't>, site: &Site<'t>) -> Result<Option<Counted>, Halt>
+/// Whether Git trusts a git directory without settings, or the texts of those that decide.
+fn begin_weighing<'t>(
+    lookup: &Lookup<'_, 't>,
+    site: &Site<'t>,
+) -> Result<Option<Opening<'t>>, Pause>
     requires { (system : System) → AreTrueIn system lookup.now.facts.now
         → stages.IsSite system lookup.now.folder.now site.now }
     ensures { MatchResult result
         (λ found. (system : System) → AreTrueIn system lookup.now.facts.now
-        → MatchOption found (stages.IsSafeSite system site.now) (IsCounting system))
-        (IsNewHalt lookup.now.folder.now lookup.now.facts.now) }
+        → MatchOption found (stages.IsSafeSite system site.now) (stages.OpensProtected system site.now))
+        (IsNew lookup.now.folder.now lookup.now.facts.now) }
 {
-    if is_weighed(lookup, site.folder.name, &site.git_dir)? {
-        return Ok(Some(Counted::new(lookup)?));
+    if !is_weighed(lookup, site.folder.name, &site.git_dir)? {
+        return Ok(None);
     }
-    Ok(None)
+    let files = protected_files(lookup)?;
+    Ok(Some(Opening::new(lookup, site.start.name, &files)?))
 }
 
 /// What comes after a stage that has a git directory.
@@ -370,136 +371,67 @@ fn pass_site<'t>(lookup: &Lookup<'_, 't>, site: Site<'t>) -> Passed<'t>
     ensures right { stages.IsRight lookup.now.folder.now lookup.now.facts.now result.stage }
     ensures asks { IfSome result.pause (IsNew lookup.now.folder.now lookup.now.facts.now) }
 {
-    let start = site.start;
     let found = match begin_weighing(lookup, &site) {
         Ok(found) => found,
-        Err(halt) => return halts(lookup, start, Stage::Has(site), halt),
+        Err(pause) => return Passed::stays(Stage::Has(site), pause),
     };
     match found {
         None => Passed::to(Stage::Trusts(site)),
-        Some(counted) => Passed::to(Stage::Counts(site, counted)),
+        Some(opening) => Passed::to(Stage::Opens(site, opening)),
     }
 }
 
-/// What comes after a stage in which settings of the command are counted.
+/// What comes after a stage in which texts are opened.
 #[inline(never)]
-fn pass_counted<'t>(lookup: &Lookup<'_, 't>, site: Site<'t>, counted: Counted) -> Passed<'t>
+fn pass_opens<'t>(lookup: &Lookup<'_, 't>, site: Site<'t>, opening: Opening<'t>) -> Passed<'t>
     requires { (system : System) → AreTrueIn system lookup.now.facts.now
-        → stages.Right system lookup.now.folder.now (Counts site counted) }
+        → stages.Right system lookup.now.folder.now (Opens site opening) }
     ensures right { stages.IsRight lookup.now.folder.now lookup.now.facts.now result.stage }
     ensures asks { IfSome result.pause (IsNew lookup.now.folder.now lookup.now.facts.now) }
 {
-    let mut counted = counted;
-    let start = site.start;
-    if !counted.is_whole() {
-        return match counted.push_next(lookup) {
-            Ok(()) => Passed::to(Stage::Counts(site, counted)),
-            Err(halt) => halts(lookup, start, Stage::Counts(site, counted), halt),
+    let mut opening = opening;
+    if !opening.is_whole {
+        return match opening.go_on(lookup) {
+            Ok(()) => Passed::to(Stage::Opens(site, opening)),
+            Err(pause) => Passed::stays(Stage::Opens(site, opening), pause),
         };
     }
-    match Sources::new(lookup, &counted) {
-        Ok(sources) => Passed::to(Stage::Opens(site, Reading::new(lookup.alloc, sources))),
-        Err(halt) => halts(lookup, start, Stage::Counts(site, counted), halt),
+    match outside(lookup) {
+        Ok(known) => {
+            let rounds = Rounds::new(lookup.alloc, opening.texts, known);
+            Passed::to(Stage::Reads(site, rounds, Collected::new(lookup.alloc)))
+        }
+        Err(pause) => Passed::stays(Stage::Opens(site, opening), pause),
     }
 }
 
-/// What comes after a stage in which no text is begun.
-#[inline(never)]
-fn pass_opens<'t>(lookup: &Lookup<'_, 't>, site: Site<'t>, reading: Reading<'t>) -> Passed<'t>
-    requires { (system : System) → AreTrueIn system lookup.now.facts.now
-        → stages.Right system lookup.now.folder.now (Opens site reading) }
-    ensures right { stages.IsRight lookup.now.folder.now lookup.now.facts.now result.stage }
-    ensures asks { IfSome result.pause (IsNew lookup.now.folder.now lookup.now.facts.now) }
-{
-    let start = site.start;
-    let found = match reading.next_source(lookup, start.name) {
-        Ok(found) => found,
-        Err(halt) => return halts(lookup, start, Stage::Opens(site, reading), halt),
-    };
-    match found {
-        Some(source) => match Reader::boxed(lookup.alloc, source) {
-            Ok(reader) => Passed::to(Stage::Reads(site, reading, reader)),
-            Err(error) => Passed::stays(Stage::Opens(site, reading), Pause::Memory(error)),
-        },
-        None => Passed::to(Stage::Opens(site, reading.with_next())),
-    }
-}
-
-/// What comes after the end of a text.
-fn close<'t>(site: Site<'t>, reading: Reading<'t>) -> Stage<'t>
-    ensures { (system : System) (asked : List ℕ) → stages.IsSite system asked site.entry
-        → HasEnded system site.entry.start.name.now reading.entry → stages.Right system asked result }
-{
-    if reading.has_next() {
-        return Stage::Opens(site, reading.with_next());
-    }
-    Stage::Collects(site, reading.sources, reading.settings)
-}
-
-/// What comes after a stage in which a text is read: the next entry, or the end of the text.
+/// What comes after a stage in which texts are read.
 #[inline(never)]
 fn pass_reads<'t>(
     lookup: &Lookup<'_, 't>,
     site: Site<'t>,
-    reading: Reading<'t>,
-    reader: Box<Reader<'t>>,
+    rounds: Rounds<'t>,
+    collected: Collected<'t>,
 ) -> Passed<'t>
     requires { (system : System) → AreTrueIn system lookup.now.facts.now
-        → stages.Right system lookup.now.folder.now (Reads site reading reader) }
+        → stages.Right system lookup.now.folder.now (Reads site rounds collected) }
     ensures right { stages.IsRight lookup.now.folder.now lookup.now.facts.now result.stage }
     ensures asks { IfSome result.pause (IsNew lookup.now.folder.now lookup.now.facts.now) }
 {
-    let (mut reading, mut reader) = (reading, reader);
+    let (mut rounds, mut collected) = (rounds, collected);
     let start = site.start;
-    if let Err(halt) = reader.go_on(lookup, start.name) {
-        return halts(lookup, start, Stage::Reads(site, reading, reader), halt);
-    }
-    let known = Known {
-        directories: Directories {
-            home: reading.sources.home,
-            install_dir: None,
+    match rounds.read(lookup, start.name, &mut collected) {
+        Ok(()) => Passed::to(Stage::Weighs(site, collected.settings)),
+        Err(halt) => match halt.into_stop() {
+            Ok(stop) => halts(lookup, start, Stage::Begins, Halt::Stops(stop)),
+            Err(pause) => match pause {
+                Pause::Ask(question) => {
+                    Passed::stays(Stage::Reads(site, rounds, collected), Pause::Ask(question))
+                }
+                // what is read is lost, where memory is refused
+                Pause::Memory(error) => Passed::stays(Stage::Begins, Pause::Memory(error)),
+            },
         },
-        includes: Includes::AsGit(None, Urls::Sought),
-    };
-    let goes = match reader.take(lookup.alloc, &known, &mut reading.settings) {
-        Ok(goes) => goes,
-        // what is read is lost, where memory is refused
-        Err(halt) => return halts(lookup, start, Stage::Begins, halt),
-    };
-    if goes {
-        return Passed::to(Stage::Reads(site, reading, reader));
-    }
-    Passed::to(close(site, reading))
-}
-
-/// What comes after a stage in which all settings are read, as if each condition on the URLs of remotes held.
-#[inline(never)]
-fn pass_collected<'t>(
-    lookup: &Lookup<'_, 't>,
-    site: Site<'t>,
-    sources: Sources<'t>,
-    settings: Settings<'t>,
-) -> Passed<'t>
-    requires { (system : System) → AreTrueIn system lookup.now.facts.now
-        → stages.Right system lookup.now.folder.now (Collects site sources settings) }
-    ensures right { stages.IsRight lookup.now.folder.now lookup.now.facts.now result.stage }
-    ensures asks { IfSome result.pause (IsNew lookup.now.folder.now lookup.now.facts.now) }
-{
-    let start = site.start;
-    let found = match with_urls(lookup, start.name, &sources, &settings) {
-        Ok(found) => found,
-        Err(halt) => {
-            return halts(
-                lookup,
-                start,
-                Stage::Collects(site, sources, settings),
-                halt,
-            );
-        }
-    };
-    match found {
-        None => Passed::to(Stage::Weighs(site, settings)),
-        Some(more) => Passed::to(Stage::Weighs(site, more)),
     }
 }
 
@@ -659,10 +591,8 @@ fn pass<'t>(lookup: &Lookup<'_, 't>, stage: Stage<'t>) -> Passed<'t>
         Stage::Climbs(start, limits, at) => pass_up(lookup, start, limits, at),
         Stage::Finds(start, found) => pass_found(lookup, start, found),
         Stage::Has(site) => pass_site(lookup, site),
-        Stage::Counts(site, counted) => pass_counted(lookup, site, counted),
-        Stage::Opens(site, reading) => pass_opens(lookup, site, reading),
-        Stage::Reads(site, reading, reader) => pass_reads(lookup, site, reading, reader),
-        Stage::Collects(site, sources, settings) => pass_collected(lookup, site, sources, settings),
+        Stage::Opens(site, opening) => pass_opens(lookup, site, opening),
+        Stage::Reads(site, rounds, collected) => pass_reads(lookup, site, rounds, collected),
         Stage::Weighs(site, settings) => pass_weighed(lookup, site, settings),
         Stage::Names(site, naming) => pass_named(lookup, site, naming),
         Stage::Trusts(site) => pass_trusted(lookup, site),

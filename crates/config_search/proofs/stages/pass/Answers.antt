@@ -8,9 +8,6 @@ look_at-requires-clause-place c = λ system agrees.
 pub pass_reads-requires : goal.pass_reads-requires
 pass_reads-requires c = λ system agrees. rw c.in-Reads.is at (c.requires system agrees)
 
-pub pass_collected-requires : goal.pass_collected-requires
-pass_collected-requires c = λ system agrees. rw c.in-Collects.is at (c.requires system agrees)
-
 pub pass_named-requires : goal.pass_named-requires
 pass_named-requires c = λ system agrees. rw c.in-Names.is at (c.requires system agrees)
 

@@ -1,9 +1,4 @@
-use Rattle.config_search.proofs.StageSteps.{site_stops}
 use Rattle.config_search.proofs.stages.pass_site.Goals as goal
-
-pub halts-requires-clause-stops : goal.halts-requires-clause-stops
-halts-requires-clause-stops c = λ system stop agrees.
-    site_stops system c.args.lookup.now.folder.now c.args.site stop (c.requires system agrees)
 
 pub returns-in-None-clause-right : goal.returns-in-None-clause-right
 returns-in-None-clause-right c = λ system agrees. rw c.to.ensures.same

@@ -1,7 +1,11 @@
-use Rattle.config_file.proofs.Coming.{keeps_first}
-use Rattle.config_search.specs.Protected.{Holds}
+use Rattle.std.proofs.Common.{refl}
+use Rattle.config_file.proofs.Coming.{came_first}
+use Rattle.config_search.specs.Reads.{HoldsFor}
 use Rattle.config_search.proofs.reader.Reader.new.Goals as goal
 
-pub returns-clause-keeps : goal.returns-clause-keeps
-returns-clause-keeps c = λ system folder known before. keeps_first (Holds system folder) known c.args.source.place
-    c.args.source.text.now before _ c.new.ensures
+pub returns-clause-begins : goal.returns-clause-begins
+returns-clause-begins c = λ system folder known. (
+  came_first (HoldsFor system folder c.args.source.is_file) known c.args.source.place
+      c.args.source.text.now _ c.new.ensures,
+  refl,
+)
