@@ -90,7 +90,7 @@ printf '%s\n' __errno_location __xpg_strerror_r access calloc close fchmod free 
     strlen strncmp strrchr syscall unlink write > "$work/known"
 nm -u "$archive" | sed -n 's/^ *U //p' | grep -v '^gcv_\|^_GLOBAL_OFFSET_TABLE_$' | LC_ALL=C sort -u > "$work/needed"
 holds "the archive needs no more than is listed" test -z "$(LC_ALL=C comm -13 "$work/known" "$work/needed")"
-holds "the shared library is small" test "$(wc -c < "$prefix/lib/libgix_config_value.so")" -lt 450000
+holds "the shared library is small" test "$(wc -c < "$prefix/lib/libgix_config_value.so")" -lt 460000
 # instructions that processors of x86-64 before 2008 do not have
 objdump -d --no-show-raw-insn "$archive" | cut -f 2 | cut -d ' ' -f 1 | sort -u | grep -E \
     '^(v|pabs|palign|pshufb|phadd|psign|pinsr[bdq]|pextr[bdq]|pmov[sz]x|ptest|pmulld|pcmp(eq|gt)q|pblend|popcnt|crc32|round)' \
