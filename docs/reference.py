@@ -41,9 +41,9 @@ PARTS = {name: text.strip().format for name, text in re.findall(
     r"(?ms)^<!-- (\w+) -->\n(.*?)(?=^<!-- |\Z)", (ROOT / "docs/reference.html").read_text("utf-8"))}
 # modules and items that are public only because another crate of the repository needs them
 INNER = """after_mark begins_with_run config_file.bytes config_file.header digit_of EntryParts
-    equals equals_ignoring_case exists files_of has_includes is_name is_section is_spellable ItemError line_of
+    equals equals_ignoring_case exists is_name is_section is_spellable ItemError line_of
     LONGEST_NAME LONGEST_SET normalize_into_as push_as_git push_header push_lower read_bytes read_cow read_entry
-    read_owned read_text rgb_bytes same_as seek_urls""".split()
+    read_owned read_text rgb_bytes same_as""".split()
 # the calls whose clauses are the sentences of README: for any kind, for colors, and for settings in files
 SENTENCE = {"headline": ("config_text.value.meaning", "config_text.value.one_meaning"),
             "joined": ("config_color.laws.colors.joined",), "setting": ("uses.setting_headline.value_of",)}

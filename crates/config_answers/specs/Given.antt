@@ -1,18 +1,15 @@
--- What is handed on of a text and of the files that it includes.
+-- What is handed on of the entries that Git reads.
 --
--- Look for: each entry that the walk comes to is asked about once, in order; `System` says nothing.
-use Rattle.std.specs.Prelude.{◌≡◌, ℕ, true, false, List, [], ◌∷◌, ◌++◌, map, Option, Some, None, Result, Ok, Err, ⊤}
+-- Look for: each entry is asked about once, and of one that is not asked for nothing is received.
+use Rattle.std.specs.Prelude.{◌≡◌, ◌⊎◌, ℕ, List, Option, Some, None}
 use Rattle.config_file.specs.File.{Entry}
 use Rattle.config_file.specs.Listing.{IsListed}
-use Rattle.config_file.specs.Settings.{TellsStop, found_item}
-use Rattle.config_file.specs.Walk.{Content, Stop, Stops, WalksText}
+use Rattle.config_file.specs.Settings.{IsSettingOf}
 use Rattle.config_file.specs.declared.scope.Scope.{Scope}
 use Rattle.config_file.specs.declared.settings.Setting.{Setting}
-use Rattle.config_file.specs.declared.walk.Known.{Known}
-use Rattle.config_answers.specs.Choices.{Choice, Takes}
-use Rattle.config_answers.specs.declared.read.Stopped.{Stopped}
-use Rattle.config_answers.specs.declared.read.Stopped.TheVariants.{Git, System}
-use Rattle.config_answers.specs.declared.read.Text.{Text}
+use Rattle.config_search.specs.Reads.{ReadEntry}
+use Rattle.config_answers.specs.Choices.{Choice, HasAskedValue, Takes, choice_of}
+use Rattle.config_answers.specs.declared.read.Asked.{Asked}
 
 -- a setting is received, or nothing
 abbrev pub Receives : {R : Type 0} → (R → Setting → R → Type 0) → R → Option Setting → R → Type 0
@@ -24,23 +21,13 @@ abbrev pub Gives : {R : Type 0} → (R → Setting → R → Type 0) → Choice 
 Gives receives choice scope found old new = (listed : List ℕ) → IsListed found.1.section found.1.key listed
     → (setting : Option Setting) × Takes choice scope found listed setting × Receives receives old setting new
 
--- of each of these entries, in order, the setting is received if it is asked for
-pub data GivesEach {R : Type 0} (receives : R → Setting → R → Type 0) (choice : Choice) (scope : Scope) (old : R)
-    : List (List ℕ × Entry) → R → Type 0 where
-  nothing : GivesEach receives choice scope old [] old
-  one_more : {found : List (List ℕ × Entry)} {so_far new : R} (one : List ℕ × Entry)
-      → GivesEach receives choice scope old found so_far → Gives receives choice scope one so_far new
-      → GivesEach receives choice scope old (found ++ one ∷ []) new
+-- of this entry, whose key is asked for, the setting is received if its value is asked for
+abbrev pub GivesValue : {R : Type 0} → (R → Setting → R → Type 0) → Choice → Scope → List ℕ × Entry → R → R → Type 0
+GivesValue receives choice scope found old new = (setting : Setting) × IsSettingOf found setting
+    × (setting.scope ≡ scope) × ((HasAskedValue choice setting × receives old setting new)
+    ⊎ ((¬ (HasAskedValue choice setting)) × (new ≡ old)))
 
--- What is handed on: what is asked for of all entries of the walk, or of those up to where Git stops. Nothing is said
--- if memory or the system refuses it.
-abbrev pub Reads : {R : Type 0} → (List ℕ → Content → Type 0) → Known → (R → Setting → R → Type 0) → Choice → Text
-    → R → R → Result (Unit {0}) Stopped → Type 0
-Reads contents known receives choice text old new (Ok _) = (found : List (List ℕ × Entry))
-    × GivesEach receives choice text.scope old found new
-    × WalksText contents known text.place text.text.now (map found_item found) true
-Reads contents known receives choice text old new (Err (Git told)) =
-    (found : List (List ℕ × Entry)) × (file : List ℕ) × (stop : Stop)
-    × GivesEach receives choice text.scope old found new × TellsStop file stop told
-    × WalksText contents known text.place text.text.now (map found_item found ++ (file, Stops stop) ∷ []) false
-Reads contents known receives choice text old new (Err (System _)) = ⊤
+-- what asks for settings gets an entry, and asks for the same after it
+abbrev pub Passes : {R : Type 0} → (R → Setting → R → Type 0) → Asked R → ReadEntry → Asked R → Type 0
+Passes receives old it new = (choice_of new.choice ≡ choice_of old.choice)
+    × Gives receives (choice_of old.choice) it.scope (it.file, it.entry) old.receiver new.receiver

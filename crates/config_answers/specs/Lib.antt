@@ -1,6 +1,5 @@
 pub mod Lines
 pub mod Types
 pub mod Given
-pub mod Reading
 pub mod Answers
 pub mod Choices

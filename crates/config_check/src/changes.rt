@@ -1,4 +1,5 @@
 //! Changes the entries of a file that have findings with one suggestion.
+ghost use Rattle.std.specs.Prelude.{⊤};
 
 use crate::diff::{Span, lines_after, spans_of};
 use config_checks::code::Code;
@@ -9,13 +10,14 @@ use config_checks::options::Options;
 use config_checks::row::Row;
 use config_checks::setting::Setting;
 use config_edit::EditError;
+use config_file::entry::EntryForm;
 use config_file::key::Key;
-use config_file::{Entries, Entry, FileError, Walk};
-use config_host::reading::next_entry;
-use config_host::surroundings::has_includes;
-use config_host::{Disk, HereError, LockError, Locked, Surroundings};
+use config_file::{Entries, Entry, FileError, Scope};
+use config_host::{Disk, HereError, LockError, Locked, hand_on};
+use config_search::{Follows, Reading, Receiver};
 use std::alloc::{AllocError, Global};
 use std::collections::BTreeSet;
+use std::io;
 use thiserror::Error;
 
 /// The lines of a change, and what they become, without their last end.
@@ -220,35 +222,60 @@ impl<'k> Wanted<'k> {
     }
 }
 
-/// Adds those of the wanted keys that entries of this file, or of what it includes, have.
+/// What gets the entries of a file, and adds those of the wanted keys that they have.
+#[derive(Drop)]
+struct Meeting<'w, 'k> {
+    alloc: Global,
+    wanted: &'w Wanted<'k>,
+    /// The last key that was made.
+    key: Vec<u8>,
+    there: BTreeSet<Vec<u8>>,
+}
+
+impl<'t> Receiver<'t> for Meeting<'_, '_> {
+    ghost receives = { λ _ _ _. ⊤ };
+
+    fn receive(
+        &mut self,
+        _scope: Scope,
+        _file: &'t [u8],
+        entry: &Entry<'t>,
+        _form: EntryForm,
+    ) -> io::Result<()> {
+        Ok(
+            self.wanted
+                .meet(self.alloc, entry, &mut self.key, &mut self.there)?,
+        )
+    }
+}
+
+/// These keys, and those of the wanted ones that entries of this file, or of what it includes, have.
 fn meet_all<'t>(
     alloc: Global,
     disk: &Disk<'t>,
-    surroundings: &Surroundings<'t>,
-    file: &[u8],
+    file: &'t [u8],
     text: &'t [u8],
     wanted: &Wanted<'_>,
-    there: &mut BTreeSet<Vec<u8>>,
-) -> Result<(), AllocError> {
-    let mut key = Vec::new(alloc);
-    if !has_includes(text) {
-        for entry in Entries::new(text) {
-            let Ok(entry) = entry else {
-                break;
-            };
-            wanted.meet(alloc, &entry, &mut key, there)?;
-        }
-        return Ok(());
+    there: BTreeSet<Vec<u8>>,
+) -> Result<BTreeSet<Vec<u8>>, AllocError> {
+    let mut texts = Vec::new(alloc);
+    texts.push(config_search::Text {
+        scope: Scope::Local,
+        name: file,
+        text,
+        is_file: true,
+    })?;
+    let mut reading = Reading::of_texts(alloc, b"", b"", texts, Follows::Everything);
+    let mut meeting = Meeting {
+        alloc,
+        wanted,
+        key: Vec::new(alloc),
+        there,
+    };
+    match hand_on(disk, &mut reading, &mut meeting) {
+        Err(HereError::Host(_)) => Err(AllocError),
+        _ => Ok(meeting.there),
     }
-    let mut walk = Walk::new(disk.place(file)?, text);
-    for _ in 0..u64::MAX {
-        match next_entry(disk, &surroundings.known(), &mut walk) {
-            Ok(Some(taken)) => wanted.meet(alloc, &taken.entry, &mut key, there)?,
-            Err(HereError::Host(_)) => return Err(AllocError),
-            _ => break,
-        }
-    }
-    Ok(())
 }
 
 /// Calls those of these changes guesses by which an entry gets a key that this file, what it includes, or another of
@@ -256,17 +283,16 @@ fn meet_all<'t>(
 pub(crate) fn heed_rivals<'t>(
     alloc: Global,
     disk: &Disk<'t>,
-    surroundings: &Surroundings<'t>,
-    file: &[u8],
+    file: &'t [u8],
     text: &'t [u8],
     proposals: &mut Vec<Proposal<'t>>,
 ) -> Result<(), AllocError> {
-    let (once, mut rivals) = given_twice(alloc, proposals)?;
+    let (once, twice) = given_twice(alloc, proposals)?;
     if once.is_empty() {
         return Ok(());
     }
     let wanted = Wanted::new(alloc, &once)?;
-    meet_all(alloc, disk, surroundings, file, text, &wanted, &mut rivals)?;
+    let rivals = meet_all(alloc, disk, file, text, &wanted, twice)?;
     for proposal in proposals.iter_mut() {
         if let Some(key) = given(alloc, proposal)? {
             proposal.is_guess = rivals.contains(&key);

@@ -28,9 +28,13 @@ use config_checks::shape::is_submodule_name;
 use config_checks::wrong::{Wrong, wrong_finding};
 use config_file::bytes::line_feeds;
 use config_file::key::Key;
-use config_file::{Condition, Content, Entries, Entry, FilePlace, Files, Include, Step, Walk};
-use config_host::surroundings::{Followed, has_includes};
-use config_host::{Disk, Surroundings, Users, files_here};
+use config_file::{
+    Condition, Content, Directories, Entries, Entry, FilePlace, Files, Include, Includes, Known,
+    Step, Walk,
+};
+use config_host::environment::kept_variable;
+use config_host::{Disk, Users, files_here};
+use config_search::includes::has_include;
 use gix_config_value::path::parts::joint_of;
 use std::alloc::{AllocError, Global};
 use std::collections::BTreeSet;
@@ -53,6 +57,17 @@ const TERMINAL: &str =
 
 /// The file name that means standard input.
 const STDIN: &[u8] = b"-";
+
+/// What a walk knows that follows all includes, whatever their conditions, with this home directory.
+fn following_all(home: Option<&[u8]>) -> Known<'_> {
+    Known {
+        directories: Directories {
+            home,
+            install_dir: None,
+        },
+        includes: Includes::All,
+    }
+}
 
 /// Adds an item.
 fn add<T: Drop>(items: &mut Vec<T>, item: T) -> Result<(), AllocError> {
@@ -83,7 +98,8 @@ struct Checking<'c, 't> {
     options: Options<'t>,
     report: Report<'c>,
     disk: Disk<'t>,
-    surroundings: Surroundings<'t>,
+    /// The home directory, in which files are that begin with `~/`.
+    home: Option<&'t [u8]>,
     /// The real names of the files that are checked, or named and checked later.
     seen: BTreeSet<Vec<u8>>,
     /// The files that are open: each is included by the one before.
@@ -413,15 +429,7 @@ impl<'c, 't> Checking<'c, 't> {
         if proposals.is_empty() {
             return Ok(None);
         }
-        let known = &self.surroundings;
-        heed_rivals(
-            alloc,
-            &self.disk,
-            known,
-            file.as_bytes(),
-            text,
-            &mut proposals,
-        )?;
+        heed_rivals(alloc, &self.disk, file.as_bytes(), text, &mut proposals)?;
         Ok(Some(changed_text(alloc, rows, &self.options, guesses, file, text, &proposals)?))
     }
 
@@ -473,7 +481,7 @@ impl<'c, 't> Checking<'c, 't> {
 
     /// Whether a text may be checked by the rows of its own sections.
     fn is_by_sections(&mut self, text: &[u8]) -> bool {
-        if self.rows.is_some() || self.by_sections == 0 || has_includes(text) {
+        if self.rows.is_some() || self.by_sections == 0 || has_include(text) {
             return false;
         }
         self.by_sections = self.by_sections.saturating_sub(1);
@@ -834,7 +842,7 @@ impl<'c, 't> Checking<'c, 't> {
         };
         self.open.clear();
         let text = self.check(place.name, text, true)?;
-        if self.musts.is_empty() && (!self.request.follows || !has_includes(text)) {
+        if self.musts.is_empty() && (!self.request.follows || !has_include(text)) {
             return Ok(());
         }
         self.walk(Walk::new(place, text))
@@ -843,7 +851,7 @@ impl<'c, 't> Checking<'c, 't> {
     /// Takes note of the settings that a walk comes to, and checks the files that they include.
     fn walk(&mut self, mut walk: Walk<'t>) -> Result<(), Failure<'static>> {
         for _ in 0..u64::MAX {
-            let step = walk.next(self.rt.alloc(), &self.surroundings.known())?;
+            let step = walk.next(self.rt.alloc(), &following_all(self.home))?;
             let (place, entry, include) = match step {
                 Step::Entry(place, entry, include) => (place, entry, include),
                 Step::Line(..) => continue,
@@ -1013,7 +1021,7 @@ pub(crate) fn check<'m, 't>(
         request: &request,
         options: options_of(&disk, &request)?,
         report: Report::new(alloc, &request, baseline)?,
-        surroundings: Surroundings::new(&disk, Followed::Everything)?,
+        home: kept_variable(&disk, "HOME")?,
         disk,
         seen: BTreeSet::new(alloc),
         open: Vec::new(alloc),

@@ -13,9 +13,10 @@ use config_checks::table::{BadRow, RowFault, read_row, read_rows};
 use config_checks::version::Version;
 use config_file::Entries;
 use config_file::key::Key;
-use config_host::repository::find;
+use config_host::repository::{find, within};
 use config_host::text::Text;
 use config_host::{Disk, ReadError};
+use config_search::Outcome;
 use std::alloc::{AllocError, Global};
 use std::fs;
 use std::io::ErrorKind;
@@ -226,14 +227,14 @@ fn shared_text<'t>(
     texts: &'t Bump,
 ) -> Result<Option<&'t [u8]>, Failure<'static>> {
     let disk = Disk::new(rt, texts);
-    let Ok(location) = find(&disk, b"") else {
+    let Ok(found) = find(&disk, b"") else {
         return Ok(None);
     };
-    if location.repository.is_none() && location.stop.is_none() {
+    if matches!(found.outcome, Outcome::FindsNone | Outcome::Refuses(_)) {
         return Ok(None);
     }
-    match disk.within(location.folder)?.first(SHARED.as_bytes()) {
-        Ok((_, text)) => Ok(Some(text)),
+    match within(&disk, &found)?.text_of(SHARED.as_bytes()) {
+        Ok(text) => Ok(Some(text)),
         Err(ReadError::System(error)) if error.kind() == ErrorKind::NotFound => Ok(None),
         Err(error) => Err(Failure::Shared(error)),
     }

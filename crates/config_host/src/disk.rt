@@ -32,8 +32,8 @@ const LEAST: usize = 1 << 10;
 ///
 /// let texts = Bump::new(rt.alloc());
 /// let disk = Disk::new(&rt, &texts);
-/// assert!(rt; matches!(disk.first(b"missing"), Err(error) if error.is_missing()));
-/// assert!(rt; matches!(disk.first(b"\xff"), Err(ReadError::Name)));
+/// assert!(rt; matches!(disk.text_of(b"missing"), Err(error) if error.is_missing()));
+/// assert!(rt; matches!(disk.text_of(b"\xff"), Err(ReadError::Name)));
 /// ```
 #[derive(Debug, Drop, Error)]
 #[non_exhaustive]
@@ -47,9 +47,6 @@ pub enum ReadError {
     /// It is longer than 1 GiB.
     #[error("it is longer than 1 GiB")]
     Length,
-    /// Its name does not begin at the root, and it is included by a setting that is in no file.
-    #[error("relative config includes must come from files")]
-    Relative,
     /// The system refuses it.
     #[error("{0}")]
     System(io::Error),
@@ -207,7 +204,7 @@ fn read_all<'t, F: Read>(
 }
 
 /// Whether a file of this type may be included: a regular file, or a device whose bytes are read in turn.
-fn is_included(kind: FileType) -> bool {
+pub(crate) fn is_included(kind: FileType) -> bool {
     kind.is_file() || kind.is_char_device()
 }
 
@@ -252,29 +249,32 @@ fn name_from_root(host: &HostRuntime, name: &[u8]) -> io::Result<Vec<u8>> {
 ///
 /// ```rust
 /// use bumpalo::Bump;
-/// use config_file::{Scope, Settings};
-/// use config_host::surroundings::Followed;
-/// use config_host::{Disk, Surroundings};
+/// use config_file::Scope;
+/// use config_host::{Disk, hand_on};
+/// use config_search::settings::Collector;
+/// use config_search::{Follows, Reading, Text};
 /// use std::fs;
 ///
 /// fs::write(&rt, "disk-top", b"[include]\n\tpath = disk-more\n")?;
 /// fs::write(&rt, "disk-more", b"[core]\n\tbare\n")?;
-/// let texts = Bump::new(rt.alloc());
-/// let disk = Disk::new(&rt, &texts);
-/// let (place, text) = disk.first(b"disk-top").expect(&rt, "a text");
-/// let surroundings = Surroundings::new(&disk, Followed::AsGit)?;
-/// let mut settings = Settings::new(alloc);
-/// let known = surroundings.known();
-/// let added = settings.add_with_includes(alloc, Scope::Local, &disk, &known, place, text);
-/// assert!(rt; added.is_ok());
-/// assert_eq!(rt; settings.entries.len(), 2);
+/// let kept = Bump::new(rt.alloc());
+/// let disk = Disk::new(&rt, &kept);
+/// let text = disk.text_of(b"disk-top").expect(&rt, "a text");
+/// let mut texts = Vec::new(alloc);
+/// texts.push(Text { scope: Scope::Local, name: b"disk-top", text, is_file: true })?;
+/// let mut reading = Reading::of_texts(alloc, b"", b"", texts, Follows::AsGit);
+/// let mut collector = Collector::new(alloc);
+/// assert!(rt; hand_on(&disk, &mut reading, &mut collector).is_ok());
+/// assert_eq!(rt; collector.settings.entries.len(), 2);
 /// ```
 #[derive(Drop)]
 pub struct Disk<'t> {
     pub(crate) host: &'t HostRuntime,
     pub(crate) texts: &'t Bump,
-    /// The folder in which each name begins that does not begin at the root. There is none if each has to.
-    folder: Option<&'t [u8]>,
+    /// The folder in which each name begins that does not begin at the root.
+    folder: &'t [u8],
+    /// The settings of the command line, in the form of GIT_CONFIG_PARAMETERS, with those that this variable has.
+    pub(crate) parameters: Option<&'t [u8]>,
 }
 
 impl<'t> Disk<'t> {
@@ -283,31 +283,34 @@ impl<'t> Disk<'t> {
         Disk {
             host,
             texts,
-            folder: Some(b""),
+            folder: b"",
+            parameters: None,
         }
     }
 
     /// The same files, with names that begin in this folder. An empty one is the current folder.
     pub fn within(&self, folder: &[u8]) -> Result<Disk<'t>, AllocError> {
-        Ok(self.below(Some(self.kept(folder)?)))
+        let mut disk = self.again();
+        disk.folder = self.kept(folder)?;
+        Ok(disk)
     }
 
     /// The same files.
     pub fn again(&self) -> Disk<'t> {
-        self.below(self.folder)
-    }
-
-    /// The same files, each of which has to be named from the root, as in the settings of a command.
-    pub fn from_root(&self) -> Disk<'t> {
-        self.below(None)
-    }
-
-    fn below(&self, folder: Option<&'t [u8]>) -> Disk<'t> {
         Disk {
             host: self.host,
             texts: self.texts,
-            folder,
+            folder: self.folder,
+            parameters: self.parameters,
         }
+    }
+
+    /// The same files, where the settings of the command are these, in the form of GIT_CONFIG_PARAMETERS and in its
+    /// place.
+    pub fn with_parameters(&self, parameters: &[u8]) -> Result<Disk<'t>, AllocError> {
+        let mut disk = self.again();
+        disk.parameters = Some(self.kept(parameters)?);
+        Ok(disk)
     }
 
     /// A copy of these bytes that is kept.
@@ -318,12 +321,11 @@ impl<'t> Disk<'t> {
     /// The name by which the system opens the file of this name.
     pub fn opened_name(&self, name: &[u8]) -> Result<Vec<u8>, ReadError> {
         let alloc = self.host.alloc();
-        match self.folder {
-            None if !name.starts_with(b"/") => Err(ReadError::Relative),
-            // an empty name would become that of the folder
-            Some(folder) if !name.is_empty() => Ok(path_inside(alloc, folder, name)?),
-            _ => Ok(name.to_vec(alloc)?),
+        // an empty name would become that of the folder
+        if name.is_empty() {
+            return Ok(Vec::new(alloc));
         }
+        Ok(path_inside(alloc, self.folder, name)?)
     }
 
     /// The bytes to the end of what is read, at most 1 GiB. If there are more than is known, as in a device or a
@@ -383,8 +385,13 @@ impl<'t> Disk<'t> {
     }
 
     /// The text of a file that the user names, or that Git reads by itself. It may be a pipe or a terminal.
+    pub fn text_of(&self, name: &[u8]) -> Result<&'t [u8], ReadError> {
+        self.read_file(name, true)
+    }
+
+    /// The same, with the place of the file.
     pub fn first(&self, name: &[u8]) -> Result<(FilePlace<'t>, &'t [u8]), ReadError> {
-        let text = self.read_file(name, true)?;
+        let text = self.text_of(name)?;
         Ok((self.place(name)?, text))
     }
 
@@ -400,9 +407,6 @@ impl<'t> Disk<'t> {
 
     /// Why the file of this name is not read, as a text that is kept.
     fn reason(&self, name: &[u8], error: &ReadError) -> Result<&'t str, AllocError> {
-        if let ReadError::Relative = error {
-            return Ok("relative config includes must come from files");
-        }
         let name = BStr::new(name);
         let text = format!(in self.host.alloc(); "cannot read {name}: {error}")?;
         self.texts.try_alloc_str(&text)

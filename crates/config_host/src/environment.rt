@@ -21,7 +21,7 @@ use thiserror::Error;
 /// let texts = Bump::new(rt.alloc());
 /// let said = match files_here(&Disk::new(&rt, &texts)) {
 ///     Ok(_) => "no fault",
-///     Err(HostError::Variable(name)) => name, // it is not UTF-8
+///     Err(HostError::Variable(_)) => "a variable that is not UTF-8",
 ///     Err(_) => "the system",
 /// };
 /// assert_eq!(rt; said, "no fault");
@@ -31,7 +31,7 @@ use thiserror::Error;
 pub enum HostError {
     /// The variable of this name is needed, and it is not UTF-8.
     #[error("{0} is not UTF-8")]
-    Variable(&'static str),
+    Variable(String),
     /// The system refuses an answer, or memory.
     #[error("{0}")]
     System(io::Error),
@@ -128,10 +128,7 @@ pub fn variable(host: &HostRuntime, name: &str) -> Result<Option<Vec<u8>>, Alloc
 }
 
 /// The value of an environment variable, which is kept, or `None` if it is not set.
-pub(crate) fn kept_variable<'t>(
-    disk: &Disk<'t>,
-    name: &str,
-) -> Result<Option<&'t [u8]>, AllocError> {
+pub fn kept_variable<'t>(disk: &Disk<'t>, name: &str) -> Result<Option<&'t [u8]>, AllocError> {
     match variable(disk.host, name)? {
         Some(value) => Ok(Some(disk.kept(&value)?)),
         None => Ok(None),

@@ -1,10 +1,12 @@
 //! Answers what a search asks, by this system.
-use crate::disk::{Disk, ReadError};
+use crate::disk::{Disk, ReadError, is_included};
 use crate::environment::{CommandVariables, HostError, current_folder, kept_variable};
+use crate::error::HereError;
 use crate::names::{answer, known_of, known_of_link, opened_above, real_name, text_of};
 use crate::users::Users;
+use config_file::Stop;
 use config_search as asks;
-use config_search::{Answer, Fact, Pause, Question, Search};
+use config_search::{Answer, Fact, Halt, Pause, Question, Reading, Receiver, Search};
 use gix_config_value::path::interpolate::home_for_user;
 use std::alloc::AllocError;
 use std::fs::{self, File, Metadata};
@@ -17,18 +19,20 @@ const START: u64 = 1 << 16;
 /// The number of bytes of a long start of a file.
 const LONG_START: u64 = 1 << 24;
 
-/// The value of a variable. The system opens no folder of a name that is not UTF-8, so that those that name the git
+/// The value of a variable. The settings of the command line stand in one. The system opens no folder of a name that is not UTF-8, so that those that name the git
 /// directory have to be.
 fn variable<'t>(disk: &Disk<'t>, name: &str) -> Result<Option<&'t [u8]>, HostError> {
+    if name == "GIT_CONFIG_PARAMETERS" && disk.parameters.is_some() {
+        return Ok(disk.parameters);
+    }
     let value = kept_variable(disk, name)?;
     if str::from_utf8(value.unwrap_or_default()).is_ok() {
         return Ok(value);
     }
-    match name {
-        "GIT_DIR" => Err(HostError::Variable("GIT_DIR")),
-        "GIT_COMMON_DIR" => Err(HostError::Variable("GIT_COMMON_DIR")),
-        _ => Ok(value),
+    if !matches!(name, "GIT_DIR" | "GIT_COMMON_DIR") {
+        return Ok(value);
     }
+    Err(HostError::Variable(format!(in disk.host.alloc(); "{name}")?))
 }
 
 /// What a file is.
@@ -89,11 +93,35 @@ fn whole_of<'t>(
     }
 }
 
-/// Why the text of a file is not read.
+/// Whether the user may read a file of this kind. Since the system has no call that asks, a file or a folder is opened,
+/// and all else goes by its mode, so that no pipe waits for a writer.
+fn may_read(host: &HostRuntime, name: &str, known: &Metadata) -> io::Result<bool> {
+    if known.is_file() || known.is_dir() {
+        return Ok(answer(File::open(host, name))?.is_some());
+    }
+    Ok(known.mode() & 0o444 != 0)
+}
+
+/// Why a file is not read. A pipe is not opened, since it waits for a writer.
+fn reason_of(disk: &Disk<'_>, name: &str) -> io::Result<ReadError> {
+    let known = fs::metadata(disk.host, name)?;
+    if !known.is_dir() && !is_included(known.file_type()) {
+        return match may_read(disk.host, name, &known)? {
+            true => Ok(ReadError::Kind),
+            false => Err(io::Error::from(ErrorKind::PermissionDenied)),
+        };
+    }
+    match disk.read_opened(name, true) {
+        Ok(_) => Ok(ReadError::Kind),
+        Err(error) => Ok(error),
+    }
+}
+
+/// Why the text of a file is not read, as an answer.
 fn refusal_of<'t>(disk: &Disk<'t>, name: &str) -> Result<Option<&'t [u8]>, AllocError> {
-    let error = match disk.read_opened(name, true) {
-        Ok(_) => ReadError::Kind,
-        Err(error) => error,
+    let error = match reason_of(disk, name) {
+        Ok(error) => error,
+        Err(error) => ReadError::from(error),
     };
     if error.is_memory() {
         return Err(AllocError);
@@ -106,15 +134,6 @@ fn refusal_of<'t>(disk: &Disk<'t>, name: &str) -> Result<Option<&'t [u8]>, Alloc
     }
     let words = format!(in disk.host.alloc(); "{error}")?;
     Ok(Some(disk.kept(words.as_bytes())?))
-}
-
-/// Whether the user may read a file of this kind. Since the system has no call that asks, a file or a folder is opened,
-/// and all else goes by its mode, so that no pipe waits for a writer.
-fn may_read(host: &HostRuntime, name: &str, known: &Metadata) -> io::Result<bool> {
-    if known.is_file() || known.is_dir() {
-        return Ok(answer(File::open(host, name))?.is_some());
-    }
-    Ok(known.mode() & 0o444 != 0)
 }
 
 /// Whether the user may read a file, as an answer.
@@ -211,6 +230,7 @@ fn answer_to<'t>(disk: &Disk<'t>, question: &Question) -> Result<Option<&'t [u8]
                 Ok(name) => answer_named(disk, subject, name),
                 // no other file takes the place of one that the system does not open
                 Err(_) if subject == asks::READABLE => Ok(Some(b"yes")),
+                Err(_) if subject == asks::REFUSAL => Ok(Some(b"its name is not UTF-8")),
                 Err(_) => Ok(None),
             }
         }
@@ -243,19 +263,51 @@ fn fact_of<'t>(
     })
 }
 
-/// What Git reads in the folder of this name, and the search that found it. Names begin in the current folder.
-pub(crate) fn search_here<'t>(
-    disk: &Disk<'t>,
-    folder: &'t [u8],
-) -> Result<(Answer, Search<'t>), HostError> {
+/// What Git does in the folder of this name, which begins in the current folder.
+pub(crate) fn search_here<'t>(disk: &Disk<'t>, folder: &'t [u8]) -> Result<Answer, HostError> {
     let mut search = Search::new(disk.host.alloc(), folder);
     let mut variables = CommandVariables::Unread;
     for _ in 0..u64::MAX {
         match search.next() {
-            Ok(answer) => return Ok((answer, search)),
+            Ok(answer) => return Ok(answer),
             Err(Pause::Ask(question)) => search.tell(fact_of(disk, &mut variables, &question)?)?,
             Err(Pause::Memory(error)) => return Err(HostError::from(error)),
         }
     }
     Err(HostError::from(AllocError))
+}
+
+/// Where Git stops, with texts that are kept.
+pub(crate) fn kept_stop<'t>(
+    disk: &Disk<'t>,
+    stop: &Stop<Vec<u8>>,
+) -> Result<Stop<&'t [u8]>, AllocError> {
+    Ok(Stop {
+        file: disk.kept(&stop.file)?,
+        line: stop.line,
+        why: stop.why,
+        words: disk.kept(&stop.words)?,
+    })
+}
+
+/// Hands on the entries of a reading to the end. This system answers what it asks, and names begin in the current folder.
+/// It fails where Git stops, and where the system or memory is refused.
+pub fn hand_on<'t, R: Receiver<'t>>(
+    disk: &Disk<'t>,
+    reading: &mut Reading<'t>,
+    receiver: &mut R,
+) -> Result<(), HereError<'t>> {
+    let mut variables = CommandVariables::Unread;
+    for _ in 0..u64::MAX {
+        match reading.read(receiver) {
+            Ok(()) => return Ok(()),
+            Err(Halt::Pauses(Pause::Ask(question))) => {
+                reading.tell(fact_of(disk, &mut variables, &question)?)?;
+            }
+            Err(Halt::Pauses(Pause::Memory(error))) => return Err(HereError::from(error)),
+            Err(Halt::Stops(stop)) => return Err(HereError::Stops(kept_stop(disk, &stop)?)),
+            Err(Halt::Fails(error)) => return Err(HereError::from(error)),
+        }
+    }
+    Err(HereError::from(AllocError))
 }

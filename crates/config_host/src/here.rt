@@ -3,12 +3,13 @@
 use crate::disk::Disk;
 use crate::environment::HostError;
 use crate::error::HereError;
-use crate::reading::settings_at;
-use crate::repository::{Location, find};
-use crate::sources::{Named, is_there};
+use crate::facts::hand_on;
+use crate::names::opened_above;
+use crate::repository::{find, is_there, within};
 use bumpalo::Bump;
 use config_file::Settings;
-use config_search::Refusal;
+use config_search::settings::Collector;
+use config_search::{Answer, Follows, Named, Outcome, Reading, Refusal};
 use std::alloc::AllocError;
 use std::io::{self, ErrorKind};
 
@@ -36,19 +37,25 @@ pub struct Here<'t> {
     pub refusal: Option<Refusal>,
 }
 
-/// What Git reads where it works.
-fn read_at<'t>(disk: &Disk<'t>, location: Location<'t>) -> Result<Here<'t>, HereError<'t>> {
-    let location = location.unless_stopped()?;
-    let (folder, repository) = (location.folder, location.repository);
-    Ok(Here {
-        settings: settings_at(&disk.within(folder)?, &location.files, repository)?,
-        folder,
-        branch: match repository {
-            Some(repository) => repository.branch,
-            None => None,
+/// The branch that is checked out where Git does this.
+fn branch_of<'t>(disk: &Disk<'t>, outcome: &Outcome) -> Result<Option<&'t [u8]>, AllocError> {
+    match outcome {
+        Outcome::Uses(repository) => match &repository.branch {
+            Some(branch) => Ok(Some(disk.kept(branch)?)),
+            None => Ok(None),
         },
-        refusal: location.refusal,
-    })
+        _ => Ok(None),
+    }
+}
+
+/// Why Git uses no repository although one is there.
+fn refusal_of(outcome: Outcome) -> Option<Refusal> {
+    match outcome {
+        Outcome::Refuses(refusal) => Some(refusal),
+        Outcome::Uses(_used) => None,
+        Outcome::Stops(_stop) => None,
+        Outcome::FindsNone => None,
+    }
 }
 
 /// What Git reads if it is started in this folder, and why it uses no repository that is there. It fails as
@@ -59,8 +66,21 @@ pub fn read_here<'t>(
     folder: &[u8],
 ) -> Result<Here<'t>, HereError<'t>> {
     let disk = Disk::new(host, texts);
-    let location = find(&disk, folder)?;
-    read_at(&disk, location)
+    let alloc = host.alloc();
+    let mut reading = Reading::here(alloc, disk.kept(folder)?, Follows::AsGit);
+    let mut collector = Collector::new(alloc);
+    hand_on(&disk, &mut reading, &mut collector)?;
+    let Some(answer) = reading.into_answer() else {
+        return Err(HereError::from(AllocError));
+    };
+    let folder = disk.kept(&opened_above(host, &answer.folder)?)?;
+    let branch = branch_of(&disk, &answer.outcome)?;
+    Ok(Here {
+        settings: collector.settings,
+        folder,
+        branch,
+        refusal: refusal_of(answer.outcome),
+    })
 }
 
 /// All settings that Git reads if it is started in this folder: those of the system, of the user, of the
@@ -87,18 +107,18 @@ pub fn settings_here<'t>(
     Ok(read_here(host, texts, folder)?.settings)
 }
 
-/// Where Git works in the current folder. A line at which Git stops is no error.
-fn found_here<'t>(disk: &Disk<'t>) -> Result<Location<'t>, HostError> {
+/// What Git does in the current folder. A line at which Git stops is no error.
+fn found_here(disk: &Disk<'_>) -> Result<Answer, HostError> {
     match find(disk, b"") {
-        Ok(location) => Ok(location),
+        Ok(found) => Ok(found),
         Err(HereError::Host(error)) => Err(error),
-        // the current folder is not there, and whatever else stops Git is kept in the location
+        // the current folder is not there, and whatever else stops Git is in the answer
         Err(_) => Err(HostError::System(io::Error::from(ErrorKind::NotFound))),
     }
 }
 
 /// The name by which the system opens a file, or `None` if it is not there.
-fn opened_if_there<'t>(disk: &Disk<'t>, name: &'t [u8]) -> io::Result<Option<&'t [u8]>> {
+fn opened_if_there<'t>(disk: &Disk<'t>, name: &[u8]) -> io::Result<Option<&'t [u8]>> {
     if !is_there(disk, name)? {
         return Ok(None);
     }
@@ -109,19 +129,19 @@ fn opened_if_there<'t>(disk: &Disk<'t>, name: &'t [u8]) -> io::Result<Option<&'t
 }
 
 /// The names by which the system opens those of these files that are there.
-fn those_there<'t>(disk: &Disk<'t>, names: &[Named<'t>]) -> io::Result<Vec<&'t [u8]>> {
-    let mut files = Vec::new(disk.host.alloc());
-    for named in names {
-        if let Some(name) = opened_if_there(disk, named.name)? {
-            files.push(name)?;
+fn those_there<'t>(disk: &Disk<'t>, files: &[Named]) -> io::Result<Vec<&'t [u8]>> {
+    let mut names = Vec::new(disk.host.alloc());
+    for file in files {
+        if let Some(name) = opened_if_there(disk, &file.name)? {
+            names.push(name)?;
         }
     }
-    Ok(files)
+    Ok(names)
 }
 
 /// The names of the files that Git reads in the current folder, by which the system opens them, in the order
 /// in which Git reads them. A line at which Git stops is no error here.
 pub fn files_here<'t>(disk: &Disk<'t>) -> Result<Vec<&'t [u8]>, HostError> {
-    let location = found_here(disk)?;
-    Ok(those_there(&disk.within(location.folder)?, &location.files)?)
+    let found = found_here(disk)?;
+    Ok(those_there(&within(disk, &found)?, &found.files)?)
 }

@@ -106,15 +106,6 @@ pub(crate) fn inside<'t>(
     disk.kept(&path_inside(disk.host.alloc(), folder, name)?)
 }
 
-/// The name of a file below a folder, with a `/` between them whatever the folder is, as Git joins them.
-pub(crate) fn below<'t>(
-    disk: &Disk<'t>,
-    folder: &[u8],
-    name: &[u8],
-) -> Result<&'t [u8], AllocError> {
-    joined(disk, &[folder, b"/", name])
-}
-
 /// What the system knows of the file of this name, which may be a link, or `None`.
 pub(crate) fn known_of_link(host: &HostRuntime, name: &[u8]) -> io::Result<Option<Metadata>> {
     answer(match text_of(name) {
@@ -145,13 +136,5 @@ pub(crate) fn real_name(host: &HostRuntime, name: &[u8]) -> io::Result<Option<Ve
     match real {
         Some(real) => Ok(Some(real.as_path().as_str().as_bytes().to_vec(host.alloc())?)),
         None => Ok(None),
-    }
-}
-
-/// The name from the root without links, which is kept, or the other name if the system does not know it.
-pub(crate) fn resolved<'t>(disk: &Disk<'t>, name: &[u8], other: &'t [u8]) -> io::Result<&'t [u8]> {
-    match real_name(disk.host, name)? {
-        Some(real) => Ok(disk.kept(&real)?),
-        None => Ok(other),
     }
 }

@@ -27,8 +27,8 @@ impl<'t> Users<'t> {
     /// The users in `/etc/passwd` below this folder, which is empty for the system itself. It fails only if
     /// memory is refused.
     pub fn new(disk: &Disk<'t>, root: &[u8]) -> Result<Users<'t>, AllocError> {
-        let passwd = match disk.first(joined(disk, &[root, b"/etc/passwd"])?) {
-            Ok((_, text)) => Some(text),
+        let passwd = match disk.text_of(joined(disk, &[root, b"/etc/passwd"])?) {
+            Ok(text) => Some(text),
             Err(error) if error.is_memory() => return Err(AllocError),
             Err(_) => None,
         };

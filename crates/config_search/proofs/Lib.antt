@@ -1,8 +1,10 @@
 pub mod Among
 pub mod Ceilings
+pub mod Collected
 pub mod Counting
 pub mod Covers
 pub mod FirstFacts
+pub mod Handings
 pub mod IncludeSections
 pub mod Lists
 pub mod Names

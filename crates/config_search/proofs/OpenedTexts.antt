@@ -1,11 +1,11 @@
 -- Texts of files, one after the other.
 use Rattle.std.proofs.Common.{◌≡◌, ◌++◌, ◌∷◌, ◌∙◌, ◌+◌, [], ℕ, List, Option, None, Some, true, false}
-use Rattle.std.proofs.Common.{true≢false, is_some, ap, drop, subst, map, refl, sym, take}
+use Rattle.std.proofs.Common.{◌<◌, true≢false, is_some, ap, drop, get_or, length, subst, map, refl, sym, take}
 use Rattle.std.specs.Global.{Vec}
 use Rattle.std.specs.List.{slice_get}
 use Rattle.std.proofs.lemmas.List.{append_assoc, map-append, take-append-drop}
 use Rattle.std.proofs.lemmas.List.Elements.{All-push}
-use Rattle.std.proofs.lemmas.Option.{slice_get_within}
+use Rattle.std.proofs.lemmas.Option.{slice_get-get_or, slice_get_within}
 use Rattle.config_file.proofs.Picked.{take_next}
 use Rattle.config_file.specs.declared.errors.Stop.{Stop as Told}
 use Rattle.config_file.specs.declared.errors.Why.TheVariants as because
@@ -36,11 +36,22 @@ file_stops system start file reason at (halts.Stops told) is refused name line w
 file_stops system start file reason at (halts.Pauses pause) is refused name line why words = absurd is
 file_stops system start file reason at (halts.Fails error) is refused name line why words = absurd is
 
+-- what comes before one of several, and that one
+pub next_by : {A B : Type 0} (f : A → B) (all : List A) (i : ℕ) (it : A) → slice_get all i ≡ Some it
+    → map f (take (i + 1) all) ≡ map f (take i all) ++ f it ∷ []
+next_by f all i it is = ap (map f) (take_next all i it is (slice_get_within all i it is))
+    ∙ map-append f (take i all) (it ∷ [])
+
+-- what comes before the next one, with that one
+pub with_next : {A : Type 0} (all front : List A) (i : ℕ) (other : A) → i < length all → front ≡ take i all
+    → front ++ get_or all i other ∷ [] ≡ take (i + 1) all
+with_next all front i other within is =
+    rw is (sym (take_next all i (get_or all i other) (slice_get-get_or all i other within) within))
+
 -- the files before one of them, and that one
 pub and_next : (files : List Named) (i : ℕ) (file : Named) → slice_get files i ≡ Some file
     → map file_of (take (i + 1) files) ≡ map file_of (take i files) ++ file_of file ∷ []
-and_next files i file is = ap (map file_of) (take_next files i file is (slice_get_within files i file is))
-    ∙ map-append file_of (take i files) (file ∷ [])
+and_next files i file is = next_by file_of files i file is
 
 -- and those after it
 pub and_after : (files : List Named) (i : ℕ) (file : Named) → slice_get files i ≡ Some file

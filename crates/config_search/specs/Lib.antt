@@ -3,6 +3,7 @@ pub mod Names
 pub mod Rule
 pub mod Search
 pub mod Files
+pub mod Folder
 pub mod Owner
 pub mod Command
 pub mod Reads
@@ -13,5 +14,7 @@ pub mod Questions
 pub mod Shown
 pub mod Answers
 pub mod Reading
+pub mod Handing
+pub mod Collecting
 pub mod Stages
 pub mod Layouts

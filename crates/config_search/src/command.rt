@@ -68,7 +68,7 @@ fn numbered<'t>(
 }
 
 /// A text that lives as long as facts, since the name of one is this text.
-fn kept<'t>(lookup: &Lookup<'_, 't>, text: &[u8]) -> Result<&'t [u8], Pause>
+pub(crate) fn kept<'t>(lookup: &Lookup<'_, 't>, text: &[u8]) -> Result<&'t [u8], Pause>
     ensures { MatchResult result (λ whole. whole.now ≡ text.now)
         (IsNew lookup.now.folder.now lookup.now.facts.now) }
 {

@@ -1,5 +1,6 @@
-//! Why the part of a search that reads settings stops.
+//! Why a reading stops.
 ghost use Rattle.std.specs.Prelude.{◌≡◌, ℕ, List, IfErr, IfOk, MatchResult};
+ghost use Rattle.config_search.specs.Handing.{IsSame};
 ghost use Rattle.config_search.specs.Shown.{AsksNothing, IsNew, IsNewHalt};
 ghost use Rattle.config_search.specs.Reading.{IsCopy, PausesAs, StopsAs};
 ghost use Rattle.config_search.specs.declared.fact.Fact.{Fact};
@@ -11,9 +12,23 @@ use config_file::Stop;
 use std::alloc::{AllocError, Global};
 use std::io;
 
-/// Why it stops before its end.
+/// Why a reading stops before its end.
+///
+/// ```rust
+/// use config_file::{Scope, Why};
+/// use config_search::settings::Collector;
+/// use config_search::{Follows, Halt, Reading, Text};
+///
+/// let mut texts = Vec::new(alloc);
+/// texts.push(Text { scope: Scope::Local, name: b"config", text: b"[core]\n\tbare\n[us er]", is_file: true })?;
+/// let mut reading = Reading::of_texts(alloc, b"", b"", texts, Follows::AsGit);
+/// let mut collector = Collector::new(alloc);
+/// let halt = reading.read(&mut collector);
+/// assert!(rt; matches!(halt, Err(Halt::Stops(stop)) if stop.line == 3 && stop.why == Why::BadLine));
+/// assert_eq!(rt; collector.settings.entries.len(), 1); // what comes before is handed on
+/// ```
 #[derive(Drop)]
-pub(crate) enum Halt {
+pub enum Halt {
     /// It needs a fact, or memory.
     Pauses(Pause),
     /// Git stops here.
@@ -63,6 +78,19 @@ pub(crate) fn told(alloc: Global, at: Stop<&[u8]>) -> Result<Stop<Vec<u8>>, Allo
         why: at.why,
         words: at.words.to_vec(alloc)?,
     })
+}
+
+/// The same stop once more.
+pub(crate) fn same_stop(alloc: Global, stop: &Stop<Vec<u8>>) -> Result<Stop<Vec<u8>>, AllocError>
+    ensures { IfOk result (IsSame stop.now) }
+{
+    let at = Stop {
+        file: stop.file.as_slice(),
+        line: stop.line,
+        why: stop.why,
+        words: stop.words.as_slice(),
+    };
+    told(alloc, at)
 }
 
 /// Git stops here, for this reason.

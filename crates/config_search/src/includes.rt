@@ -28,7 +28,7 @@ fn begins_include(text: &[u8]) -> bool
 }
 
 /// Whether a text has a section whose name begins with `include`: no other text includes a file.
-pub(crate) fn has_include(text: &[u8]) -> bool
+pub fn has_include(text: &[u8]) -> bool
     ensures { result ≡ reads.has_include text.now }
 {
     let mut rest = text;

@@ -1,16 +1,21 @@
 //! What `clone` returns, and what the rule finds in small systems.
 ghost use Rattle.std.specs.Prelude.{◌≡◌, ◌++◌, [], None, Some, codes};
-ghost use Rattle.config_text.specs.Orders.{IsCopied};
+ghost use Rattle.config_text.specs.Orders.{Equates, IsCopied};
 ghost use Rattle.config_search.specs.Rule.{IsBare, IsBelow, IsGiven, find_in};
 ghost use Rattle.config_search.specs.Search.{Inside, Nowhere, Refused, Seeks};
 ghost use Rattle.config_search.specs.Layouts.{current, file, folder, found, git_dir, git_dir_with, knows, told, variable};
 ghost use Rattle.config_search.specs.declared.TheConstants.{DEVICE};
 
 use crate::fact::Fact;
+use crate::known::Follows;
+use crate::texts::Text;
 
-/// A clone of a fact is the same, and never fails.
+/// A clone is the same, and never fails. Choices of includes are equal exactly if they are the same.
 pub fn copies()
-    ensures { IsCopied ⟦<Fact<'static> as Clone>⟧.is_clone ⟦<Fact<'static> as Clone>⟧.is_infallible }
+    ensures facts { IsCopied ⟦<Fact<'static> as Clone>⟧.is_clone ⟦<Fact<'static> as Clone>⟧.is_infallible }
+    ensures texts { IsCopied ⟦<Text<'static> as Clone>⟧.is_clone ⟦<Text<'static> as Clone>⟧.is_infallible }
+    ensures followed { IsCopied ⟦<Follows as Clone>⟧.is_clone ⟦<Follows as Clone>⟧.is_infallible }
+    ensures equality { Equates (◌≡◌) ⟦<Follows as PartialEq>⟧.eq }
 {}
 
 /// What the rule finds in small systems, and Git in folders that answer the same.

@@ -6,6 +6,10 @@
 //! has found. He may also tell what was not asked yet. No question is asked again that a fact answers, so a loop over
 //! questions ends where a system ends: a folder has so many above it, and files include each other at most ten deep.
 //!
+//! A [`Reading`] goes on from there: it hands on each entry of what Git reads in the folder, or of texts that are given, to
+//! a [`Receiver`], up to the end or to where Git stops. [`settings::settings_of`] is a whole reading where all facts are
+//! told before.
+//!
 //! A [`Question`] has a subject, one of the numbers below, and a name. Its answer is a text, or none, if the system has
 //! no answer. The name of a file that does not begin with `/` begins in the current folder of the caller. A caller
 //! whose system cannot open a file of such a name answers as if it were not there, but [`READABLE`] by `yes`, so that no
@@ -39,26 +43,35 @@ pub mod fact;
 mod files;
 mod format;
 mod git_dir;
-mod halt;
+pub mod halt;
 mod head;
-mod includes;
+pub mod includes;
+pub mod known;
 pub mod laws;
 mod name;
 mod owner;
 mod place;
 mod protected;
 mod reader;
-mod receiver;
+pub mod reading;
+pub mod receiver;
 mod reftable;
 mod rounds;
 mod seek;
+pub mod settings;
 mod stages;
 mod start;
-mod texts;
+mod state;
+pub mod texts;
 
 pub use crate::answer::{Answer, Named, Outcome, Refusal, Repository};
 pub use crate::fact::{Fact, Pause, Question};
+pub use crate::halt::Halt;
+pub use crate::known::Follows;
+pub use crate::reading::Reading;
+pub use crate::receiver::Receiver;
 pub use crate::stages::Search;
+pub use crate::texts::Text;
 
 /// Asks for the value of a variable.
 pub const VARIABLE: u32 = 1;

@@ -9,6 +9,18 @@ use config_file::{Entry, Scope};
 use std::io;
 
 /// What gets the entries that Git reads, one after the other.
+///
+/// ```rust
+/// use config_file::entry::EntryForm;
+/// use config_file::{Entries, Scope};
+/// use config_search::Receiver;
+/// use config_search::settings::Collector;
+///
+/// let entry = Entries::new(b"[a]b").next().expect(&rt, "an entry").expect(&rt, "no error");
+/// let mut collector = Collector::new(alloc);
+/// collector.receive(Scope::Local, b"config", &entry, EntryForm::Marked)?;
+/// assert_eq!(rt; collector.settings.entries.len(), 1);
+/// ```
 pub trait Receiver<'t> {
     /// What it may become as it gets an entry.
     ghost receives: { Self → ReadEntry → Self → Type 0 };

@@ -10,14 +10,14 @@ ghost use Rattle.config_search.specs.Reading.{AreSame, EndsAs, EndsTexts, FindsC
 ghost use Rattle.config_search.specs.Shown.{AsksNothing, IsNew, IsNewHalt};
 
 use crate::fact::{Lookup, Pause};
-use crate::halt::{Halt, told};
+use crate::halt::{Halt, same_stop};
 use crate::includes::has_include;
 use crate::name::{after, push};
 use crate::reader::{Reader, Source};
 use crate::receiver::Receiver;
 use crate::texts::Texts;
 use config_file::entry::EntryForm;
-use config_file::{Entry, Includes, Known, Scope, Stop, Urls, is_remote_url};
+use config_file::{Entry, Includes, Known, Scope, Urls, is_remote_url};
 use std::alloc::{AllocError, Global};
 use std::{io, mem};
 
@@ -120,13 +120,7 @@ fn check_end(alloc: Global, texts: &Texts<'_>) -> Result<(), Halt>
     let Some(stop) = &texts.stop else {
         return Ok(());
     };
-    let at = Stop {
-        file: stop.file.as_slice(),
-        line: stop.line,
-        why: stop.why,
-        words: stop.words.as_slice(),
-    };
-    Err(Halt::Stops(told(alloc, at)?))
+    Err(Halt::Stops(same_stop(alloc, stop)?))
 }
 
 /// This reader, or one of which nothing is read if there is none.

@@ -723,6 +723,17 @@ impl<'t> Search<'t> {
         self.facts.push(self.alloc, fact)
     }
 
+    /// What is known.
+    pub(crate) fn lookup(&self) -> Lookup<'_, 't>
+        ensures { (result.folder.now ≡ self.now.folder) × (result.facts.now ≡ self.now.facts) }
+    {
+        Lookup {
+            alloc: self.alloc,
+            folder: self.folder,
+            facts: &self.facts,
+        }
+    }
+
     /// The fact that answers a question about this subject and this name, if one was told. It fails only if memory is
     /// refused.
     pub fn told(&self, subject: u32, name: &[u8]) -> Result<Option<Fact<'t>>, AllocError>

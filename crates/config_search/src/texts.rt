@@ -5,6 +5,8 @@ ghost use Rattle.config_search.specs.System.{System, AreTrueIn};
 ghost use Rattle.config_search.specs.Names.{inside};
 ghost use Rattle.config_search.specs.Files.{File};
 ghost use Rattle.config_search.specs.Reads.{IsMissing, IsTextOf, command_of, denied};
+ghost use Rattle.std.specs.List.{All};
+ghost use Rattle.config_search.specs.Handing.{IsOpenedOf, given_of};
 ghost use Rattle.config_search.specs.Reading.{IsAtDir, IsOpening, OpensFiles, StopsAtFile, text_of};
 ghost use Rattle.config_search.specs.Shown.{IsNew, IsNewHalt, file_of};
 ghost use Rattle.config_search.specs.declared.TheConstants.{SETTINGS as SETTINGS_OF};
@@ -18,6 +20,32 @@ use crate::name::push;
 use crate::reader::{Source, dir_in, end_of, refusal_in, words_of};
 use config_file::{FilePlace, Scope, Stop, Why};
 use std::alloc::Global;
+
+/// A text that is given to a reading.
+///
+/// ```rust
+/// use config_file::Scope;
+/// use config_search::settings::Collector;
+/// use config_search::{Follows, Reading, Text};
+///
+/// let mut texts = Vec::new(alloc);
+/// texts.push(Text { scope: Scope::Local, name: b"config", text: b"[core]\n\tbare\n", is_file: true })?;
+/// let mut reading = Reading::of_texts(alloc, b"", b"", texts, Follows::AsGit);
+/// let mut collector = Collector::new(alloc);
+/// assert!(rt; reading.read(&mut collector).is_ok()); // it includes nothing, and so nothing is asked
+/// assert_eq!(rt; collector.settings.entries.len(), 1);
+/// ```
+#[derive(Clone, Copy)]
+pub struct Text<'t> {
+    /// The scope that its entries have.
+    pub scope: Scope,
+    /// The name of its file, or what stands for that.
+    pub name: &'t [u8],
+    /// The text.
+    pub text: &'t [u8],
+    /// Whether it is the text of a file, in whose folder the names of what it includes begin.
+    pub is_file: bool,
+}
 
 /// The texts that Git reads first, in order.
 #[derive(Drop)]
@@ -144,6 +172,55 @@ fn open_files<'t>(
     Ok(texts)
 }
 
+/// A text that is given, with the folder of its file, in which that of other names is.
+fn source_given<'t>(
+    lookup: &Lookup<'_, 't>,
+    start: &[u8],
+    text: &Text<'t>,
+) -> Result<Source<'t>, Pause>
+    ensures { MatchResult result
+        (λ source. (text_of source ≡ given_of text.now) × ((system : System) → AreTrueIn system lookup.now.facts.now
+        → IsAtDir system start.now source))
+        (IsNew lookup.now.folder.now lookup.now.facts.now) }
+{
+    let real_dir = if text.is_file {
+        dir_in(lookup, start, text.name, text.text)?
+    } else {
+        b"\0"
+    };
+    let place = FilePlace {
+        name: text.name,
+        real_dir,
+    };
+    Ok(Source {
+        scope: text.scope,
+        place,
+        text: text.text,
+        is_file: text.is_file,
+    })
+}
+
+/// Texts that are given. Names begin in this folder.
+fn give_texts<'t>(
+    lookup: &Lookup<'_, 't>,
+    start: &[u8],
+    given: &[Text<'t>],
+) -> Result<Texts<'t>, Pause>
+    ensures { MatchResult result
+        (λ texts. (texts.stop ≡ None) × (map text_of texts.list.items ≡ map given_of given.now)
+        × ((system : System) → AreTrueIn system lookup.now.facts.now → All (IsAtDir system start.now) texts.list.items))
+        (IsNew lookup.now.folder.now lookup.now.facts.now) }
+{
+    let mut texts = Texts {
+        list: Vec::new(lookup.alloc),
+        stop: None,
+    };
+    'given: for text in given {
+        push(&mut texts.list, source_given(lookup, start, text)?)?;
+    }
+    Ok(texts)
+}
+
 /// Texts that are being opened.
 #[derive(Drop)]
 pub(crate) struct Opening<'t> {
@@ -188,6 +265,24 @@ impl<'t> Opening<'t> {
                 Err(pause) => Err(pause),
             },
         }
+    }
+
+    /// These texts are opened, and no other. Names begin in this folder.
+    pub fn of_texts(
+        lookup: &Lookup<'_, 't>,
+        start: &[u8],
+        given: &[Text<'t>],
+    ) -> Result<Opening<'t>, Pause>
+        ensures { MatchResult result
+            (λ opening. (system : System) → AreTrueIn system lookup.now.facts.now
+            → IsOpenedOf system start.now (map given_of given.now) opening)
+            (IsNew lookup.now.folder.now lookup.now.facts.now) }
+    {
+        Ok(Opening {
+            texts: give_texts(lookup, start, given)?,
+            counted: Counted::none(lookup.alloc),
+            is_whole: true,
+        })
     }
 
     /// Git stops behind the texts.

@@ -7,7 +7,7 @@ use crate::output::{Ending, tell, tell_error};
 use crate::posix::NoPattern;
 use crate::request::{Change, Chosen, Edit, Subject, Texts};
 use crate::shown::{Outcome, Wrong, tell_wrong};
-use crate::sources::{file_of, location_here, tell_stop};
+use crate::sources::{FILES, disk_of, found_here, scope_file, tell_stop, uses_repository};
 use crate::wanted::{Patterns, Unclear, choice_of, fits_alone, tell_key};
 use bstr::ByteSlice;
 use bumpalo::Bump;
@@ -19,6 +19,7 @@ use config_file::entry::push_lower;
 use config_file::errors::FileError;
 use config_file::header::read_header;
 use config_file::{Entries, Entry, Key, KeyError, Scope, Stop};
+use config_host::repository::within;
 use config_host::text::Text;
 use config_host::{Disk, HereError, HostError, LockError, Locked};
 use itoa::Buffer;
@@ -273,7 +274,7 @@ fn tell_file(
     let is_of_sections = matches!(edit.change, Change::Rename(_) | Change::Remove);
     if is_of_sections || !is_no_file(text) {
         let stop = Stop::at(file, error.line, error.why);
-        tell_stop(rt, &[], Scope::Local, stop);
+        tell_stop(rt, FILES, stop);
         return Ending::Refused;
     }
     let mut buffer = Buffer::new();
@@ -400,15 +401,16 @@ fn change_here<'t>(
     scope: Option<Scope>,
     edit: &Edit<'_>,
     value: &[u8],
+    commands: &[u8],
 ) -> Result<Ending, HereError<'t>> {
-    let disk = Disk::new(rt, texts);
-    let place = location_here(rt, &disk, scope)?;
-    let disk = disk.within(place.folder)?;
-    if scope.is_none() && place.repository.is_none() {
+    let disk = disk_of(rt, texts, commands)?;
+    let found = found_here(rt, &disk, scope)?;
+    let disk = within(&disk, &found)?;
+    if scope.is_none() && !uses_repository(&found) {
         tell(rt, &[b"fatal: not in a git directory"]);
         return Ok(Ending::Refused);
     }
-    match file_of(rt, &disk, &place, scope.unwrap_or(Scope::Local))? {
+    match scope_file(rt, &disk, &found, scope.unwrap_or(Scope::Local))? {
         Some(name) => Ok(change_file(rt, &disk, name, edit, value)?),
         None => Ok(Ending::Refused),
     }
@@ -435,37 +437,43 @@ fn change_found(
     scope: Option<Scope>,
     edit: &Edit<'_>,
     value: &[u8],
+    commands: &[u8],
 ) -> Result<Ending, HostError> {
     let kept = Bump::new(rt.alloc());
-    match change_here(rt, &kept, scope, edit, value) {
+    match change_here(rt, &kept, scope, edit, value, commands) {
         Ok(ending) => Ok(ending),
         Err(HereError::Host(error)) => Err(error),
         Err(HereError::Stops(stop)) => {
-            tell_stop(rt, &[], Scope::Local, stop);
+            tell_stop(rt, FILES, stop);
             Ok(Ending::Refused)
         }
     }
 }
 
 /// Does a change, with this text as its value, in the file that it names.
-fn change_texts(rt: &HostRuntime, edit: &Edit<'_>, value: &[u8]) -> Result<Ending, HostError> {
+fn change_texts(
+    rt: &HostRuntime,
+    edit: &Edit<'_>,
+    value: &[u8],
+    commands: &[u8],
+) -> Result<Ending, HostError> {
     match edit.texts {
         Texts::Named(file) => change_named(rt, file, edit, value),
-        Texts::OfScope(scope) => change_found(rt, Some(scope), edit, value),
-        Texts::Here => change_found(rt, None, edit, value),
+        Texts::OfScope(scope) => change_found(rt, Some(scope), edit, value, commands),
+        Texts::Here => change_found(rt, None, edit, value, commands),
     }
 }
 
-/// Does a change. Its value is written as its type asks.
+/// Does a change, with these settings of the command line. Its value is written as its type asks.
 // Not inlined, so that a run that reads pays for no page of the stack that a change needs.
 #[inline(never)]
-pub fn run(rt: &HostRuntime, edit: &Edit<'_>) -> Result<Ending, HostError> {
+pub fn run(rt: &HostRuntime, edit: &Edit<'_>, commands: &[u8]) -> Result<Ending, HostError> {
     let (Change::Set(value) | Change::Add(value) | Change::Replace(value)) = edit.change else {
-        return change_texts(rt, edit, b"");
+        return change_texts(rt, edit, b"", commands);
     };
     let mut text = Vec::new(rt.alloc());
     match put_typed(&mut text, edit.shown, value.as_bytes())? {
-        Outcome::AsWritten => change_texts(rt, edit, value.as_bytes()),
+        Outcome::AsWritten => change_texts(rt, edit, value.as_bytes(), commands),
         Outcome::Refused => {
             let wrong = Wrong {
                 key: edit.name.as_bytes(),
@@ -480,6 +488,6 @@ pub fn run(rt: &HostRuntime, edit: &Edit<'_>) -> Result<Ending, HostError> {
             );
             Ok(Ending::Refused)
         }
-        _ => change_texts(rt, edit, &text),
+        _ => change_texts(rt, edit, &text, commands),
     }
 }

@@ -5,14 +5,14 @@ use crate::answers::ForUrl;
 use crate::output::{Ending, Name, form_of};
 use crate::request::{Request, Subject, Texts};
 use crate::shown::{Outcome, Shown, System, Values, Wrong, homes_of, tell_wrong};
-use crate::sources::{Opened, is_unknown, open_texts, tell_stop, unfiled};
+use crate::sources::{FILES, Opened, open_texts, tell_refusal, tell_stop};
 use crate::wanted::{Patterns, Unclear, choice_of};
 use bumpalo::Bump;
 use config_answers::answer::{Answer, Writer};
 use config_answers::choice::Choice;
-use config_answers::read::{Receiver, Stopped, Text};
-use config_file::{Key, Scope, Setting};
-use config_host::{HereError, HostError};
+use config_answers::read::{Asked, Receiver};
+use config_file::{Key, Setting};
+use config_host::{HereError, HostError, hand_on};
 use std::alloc::AllocError;
 use std::io::{self, Write};
 use std::mem;
@@ -54,10 +54,6 @@ pub struct Collector<'r, 't> {
     settings: Vec<Setting<'t>>,
     /// What is answered so far.
     answer: Answer<'t>,
-    /// How many settings were received.
-    received: usize,
-    /// How many of them this reading has come to.
-    passed: usize,
     /// What is still to be written.
     pub writer: Writer<'t>,
 }
@@ -108,14 +104,9 @@ impl<'t> Collector<'_, 't> {
 impl<'t> Receiver<'t> for Collector<'_, 't> {
     ghost receives = { λ _ _ _. ⊤ };
 
-    /// Lists a setting, answers from it, or keeps it, once.
+    /// Lists a setting, answers from it, or keeps it.
     #[inline(always)]
     fn receive(&mut self, setting: Setting<'t>) -> io::Result<()> {
-        self.passed = self.passed.saturating_add(1);
-        if self.passed <= self.received {
-            return Ok(());
-        }
-        self.received = self.passed;
         match self.uses {
             Use::Listed => self.list(&setting),
             Use::Answered => self.writer.answer(&self.values, setting, &mut self.answer),
@@ -133,61 +124,6 @@ pub struct Reading<'r, 't> {
     pub request: &'r Request<'r>,
     /// What is collected.
     pub collector: Collector<'r, 't>,
-}
-
-/// Reads the texts that are opened, up to where Git stops, which is told, unless it stopped before at a value. Returns
-/// `None` if it is not known what a condition asks about.
-fn read_all<'t>(
-    rt: &HostRuntime,
-    opened: &Opened<'t>,
-    choice: &mut Choice<'_, '_>,
-    collector: &mut Collector<'_, 't>,
-) -> Result<Option<Ending>, HostError> {
-    for source in &opened.sources {
-        let files = opened.included(source)?;
-        let text = Text {
-            scope: source.scope,
-            place: source.place,
-            text: source.text,
-        };
-        match choice.read(
-            rt.alloc(),
-            &files,
-            &opened.surroundings.known(),
-            text,
-            collector,
-        ) {
-            Ok(()) => {}
-            Err(Stopped::System(error)) => return Err(HostError::from(error)),
-            Err(Stopped::Git(_)) if matches!(collector.answer, Answer::Refused(_)) => {
-                return Ok(Some(Ending::Done));
-            }
-            Err(Stopped::Git(stop)) if is_unknown(&stop) => return Ok(None),
-            Err(Stopped::Git(stop)) => {
-                tell_stop(rt, &opened.sources, source.scope, stop);
-                return Ok(Some(Ending::Refused));
-            }
-        }
-    }
-    Ok(Some(Ending::Done))
-}
-
-/// Reads the texts that are opened. If one includes a condition, it finds what that asks about, and reads once more
-/// what comes before it.
-fn read_opened<'t>(
-    rt: &HostRuntime,
-    texts: Texts<'_>,
-    opened: &mut Opened<'t>,
-    choice: &mut Choice<'_, '_>,
-    collector: &mut Collector<'_, 't>,
-) -> Result<Ending, HereError<'t>> {
-    if let Some(ending) = read_all(rt, opened, choice, collector)? {
-        return Ok(ending);
-    }
-    opened.learn(texts)?;
-    collector.passed = 0;
-    let ending = read_all(rt, opened, choice, collector)?;
-    Ok(ending.unwrap_or(Ending::Refused))
 }
 
 impl<'t> Reading<'_, 't> {
@@ -270,14 +206,41 @@ fn new_collector<'r, 't>(
         },
         settings: Vec::new(alloc),
         answer: Answer::Absent,
-        received: 0,
-        passed: 0,
-        writer: Writer::new(alloc, form_of(request), unfiled(&opened.sources)),
+        writer: Writer::new(alloc, form_of(request), opened.unfiled),
     })
 }
 
+/// Reads what is opened, up to where Git stops, which is told, unless it stopped before at a value.
+fn read_opened<'t>(
+    rt: &HostRuntime,
+    opened: Opened<'t>,
+    asked: &mut Asked<'_, '_, Collector<'_, 't>>,
+) -> Result<Ending, HereError<'t>> {
+    let Opened {
+        disk,
+        mut reading,
+        unfiled,
+    } = opened;
+    let ended = hand_on(&disk, &mut reading, asked);
+    if let Some(answer) = reading.into_answer() {
+        tell_refusal(rt, &answer.outcome)?;
+    }
+    match ended {
+        Ok(()) => Ok(Ending::Done),
+        Err(HereError::Stops(_)) if matches!(asked.receiver.answer, Answer::Refused(_)) => {
+            Ok(Ending::Done)
+        }
+        Err(HereError::Stops(stop)) => {
+            tell_stop(rt, unfiled, stop);
+            Ok(Ending::Refused)
+        }
+        Err(error) => Err(error),
+    }
+}
+
 /// Answers the request for the chosen entries. The texts of the files are kept in `texts`. If a file is not
-/// read completely, no value is printed, since a later line could have another one.
+/// read completely, no value is printed, since a later line could have another one. As in Git, a list of all that is read
+/// here is empty then, unless it is long.
 fn answer_in<'r, 't>(
     rt: &'t HostRuntime,
     texts: &'t Bump,
@@ -285,27 +248,30 @@ fn answer_in<'r, 't>(
     choice: Choice<'r, 'r>,
     commands: &[u8],
 ) -> Result<Ending, HereError<'t>> {
-    let mut choice = choice;
-    let Some(mut opened) = open_texts(rt, texts, request, commands)? else {
+    let Some(opened) = open_texts(rt, texts, request, commands)? else {
         return Ok(Ending::Refused);
     };
-    let mut collector = new_collector(rt, request, &opened)?;
-    let mut ending = read_opened(rt, request.texts, &mut opened, &mut choice, &mut collector)?;
+    let mut asked = Asked {
+        alloc: rt.alloc(),
+        choice,
+        receiver: new_collector(rt, request, &opened)?,
+    };
+    let mut ending = read_opened(rt, opened, &mut asked)?;
     let mut reading = Reading {
         rt,
         request,
-        collector,
+        collector: asked.receiver,
     };
     if matches!(ending, Ending::Done) {
         ending = reading.answer()?;
-    } else if !request.lists() {
+    } else if !request.lists() || matches!(request.texts, Texts::Here) {
         reading.collector.writer.output.clear();
     }
     reading.collector.write()?;
     Ok(ending)
 }
 
-/// Answers the request, after all of whose texts these settings of the command line come.
+/// Answers the request, with these settings of the command line.
 // Not inlined, so that a run pays for no page of the stack that a change needs.
 #[inline(never)]
 pub fn run<'a>(
@@ -331,7 +297,7 @@ pub fn run<'a>(
         Ok(ending) => Ok(ending),
         Err(HereError::Host(error)) => Err(error),
         Err(HereError::Stops(stop)) => {
-            tell_stop(rt, &[], Scope::Local, stop);
+            tell_stop(rt, FILES, stop);
             Ok(Ending::Refused)
         }
     }

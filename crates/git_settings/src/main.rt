@@ -49,13 +49,13 @@ fn run_word<'a>(
     let named = match named {
         Some(name) if !options.has("file") => match str::from_utf8(name) {
             Ok(name) => Some(name),
-            Err(_) => return Err(HostError::Variable("GIT_CONFIG")),
+            Err(_) => return Err(HostError::Variable(format!(in rt.alloc(); "GIT_CONFIG")?)),
         },
         _ => None,
     };
     match task_of(word, options, named, depth_of(rt, options)?) {
         Ok(Task::Read(request)) => files::run(rt, &request, commands),
-        Ok(Task::Change(edit)) => edits::run(rt, &edit),
+        Ok(Task::Change(edit)) => edits::run(rt, &edit, commands),
         Err(misuse) => Ok(misuse.tell(rt)),
     }
 }

@@ -5,6 +5,7 @@ use config_answers::line::COMMAND;
 use config_file::{CommandError, Stop, Why, push_setting};
 use config_host::HostError;
 use config_host::environment::variable;
+use std::alloc::AllocError;
 
 /// A setting of the command line.
 #[derive(Clone, Copy)]
@@ -28,15 +29,51 @@ fn front<'a>(words: &[&'a str]) -> Option<(Override<'a>, usize)> {
     }
 }
 
-/// Appends a setting to a text. Tells that its key is none, and then returns false.
+/// Appends a text in the quotes of a shell, as Git writes it.
+fn push_quoted(parameters: &mut Vec<u8>, text: &[u8]) -> Result<(), AllocError> {
+    parameters.push(b'\'')?;
+    for byte in text {
+        if matches!(*byte, b'\'' | b'!') {
+            parameters.extend_from_slice(b"'\\")?;
+            parameters.push(*byte)?;
+            parameters.push(b'\'')?;
+        } else {
+            parameters.push(*byte)?;
+        }
+    }
+    Ok(parameters.push(b'\'')?)
+}
+
+/// Appends a setting, as Git writes it in GIT_CONFIG_PARAMETERS.
+fn push_parameter(
+    parameters: &mut Vec<u8>,
+    key: &str,
+    value: Option<&[u8]>,
+) -> Result<(), AllocError> {
+    if !parameters.is_empty() {
+        parameters.push(b' ')?;
+    }
+    push_quoted(parameters, key.as_bytes())?;
+    parameters.push(b'=')?;
+    match value {
+        Some(value) => push_quoted(parameters, value),
+        None => Ok(()),
+    }
+}
+
+/// Appends a setting. Tells that its key is none, and then returns false.
 fn push(
     rt: &HostRuntime,
-    text: &mut Vec<u8>,
+    parameters: &mut Vec<u8>,
     key: &str,
     value: Option<&[u8]>,
 ) -> Result<bool, HostError> {
-    match push_setting(rt.alloc(), text, key.as_bytes(), value) {
-        Ok(()) => Ok(true),
+    let mut text = Vec::new(rt.alloc());
+    match push_setting(rt.alloc(), &mut text, key.as_bytes(), value) {
+        Ok(()) => {
+            push_parameter(parameters, key, value)?;
+            Ok(true)
+        }
         Err(CommandError::Memory(error)) => Err(HostError::from(error)),
         Err(error) => {
             let words = format!(in rt.alloc(); "{error}")?;
@@ -54,14 +91,18 @@ fn push(
     }
 }
 
-/// Appends a setting of `--config-env` to a text. Tells that it is none, and then returns false.
-fn push_of_variable(rt: &HostRuntime, text: &mut Vec<u8>, given: &str) -> Result<bool, HostError> {
+/// Appends a setting of `--config-env`. Tells that it is none, and then returns false.
+fn push_of_variable(
+    rt: &HostRuntime,
+    parameters: &mut Vec<u8>,
+    given: &str,
+) -> Result<bool, HostError> {
     let Some((key, name)) = given.rsplit_once('=') else {
         tell(rt, &[b"fatal: invalid config format: ", given.as_bytes()]);
         return Ok(false);
     };
     if let Some(value) = variable(rt, name)? {
-        return push(rt, text, key, Some(&value));
+        return push(rt, parameters, key, Some(&value));
     }
     let (key, name) = (key.as_bytes(), name.as_bytes());
     let (missing, of_key) = (
@@ -76,12 +117,12 @@ fn push_of_variable(rt: &HostRuntime, text: &mut Vec<u8>, given: &str) -> Result
     Ok(false)
 }
 
-/// Appends the settings with which words begin to a text. Returns the words after them, or `None` if one is
-/// no setting, which is told.
+/// Appends the settings with which words begin to those of GIT_CONFIG_PARAMETERS, as `git -c` does. Returns the words
+/// after them, or `None` if one is no setting, which is told.
 pub fn take<'w, 'a>(
     rt: &HostRuntime,
     words: &'w [&'a str],
-    text: &mut Vec<u8>,
+    parameters: &mut Vec<u8>,
 ) -> Result<Option<&'w [&'a str]>, HostError> {
     let mut count = 0usize;
     for _ in 0..words.len() {
@@ -89,10 +130,10 @@ pub fn take<'w, 'a>(
             break;
         };
         let is_taken = match setting {
-            Override::OfVariable(given) => push_of_variable(rt, text, given)?,
+            Override::OfVariable(given) => push_of_variable(rt, parameters, given)?,
             Override::Given(given) => match given.split_once('=') {
-                Some((key, value)) => push(rt, text, key, Some(value.as_bytes()))?,
-                None => push(rt, text, given, None)?,
+                Some((key, value)) => push(rt, parameters, key, Some(value.as_bytes()))?,
+                None => push(rt, parameters, given, None)?,
             },
         };
         if !is_taken {

@@ -1,213 +1,163 @@
-//! The texts that a request reads.
-ghost use Rattle.std.specs.Prelude.{⊤};
+//! Opens the texts that a request reads.
 
 use crate::output::{Place, Unfiled, tell, tell_error, tell_line, tell_place};
 use crate::request::{Request, Texts};
 use bumpalo::Bump;
-use config_answers::line::{COMMAND, INPUT};
-use config_file::{Content, FilePlace, Files, Scope, Stop, Why};
+use config_answers::line::{INPUT, Origin};
+use config_file::{Scope, Stop, Why};
 use config_host::disk::ReadError;
-use config_host::reading::{files_of, seek_urls};
-use config_host::repository::{Location, find};
-use config_host::sources::{Named, Source, has_worktrees, sources};
-use config_host::surroundings::{Followed, FoundRepository, has_conditions};
-use config_host::{Disk, HereError, Refusal, Surroundings};
+use config_host::environment::variable;
+use config_host::repository::{check_found, file_of, find, has_worktrees, within};
+use config_host::{Disk, HereError};
+use config_search::{Answer, Follows, Outcome, Reading, Repository, Text};
 use std::alloc::{AllocError, Global};
 use std::io;
 
-/// The texts of a request, and where they are read.
+/// What a request reads, where nothing is read yet.
 #[derive(Drop)]
 pub struct Opened<'t> {
-    /// The files, whose names begin in the folder in which Git works.
+    /// The files by which it is read.
     pub disk: Disk<'t>,
-    /// What includes ask about.
-    pub surroundings: Surroundings<'t>,
-    /// The texts, in order.
-    pub sources: Vec<Source<'t>>,
-    /// Whether it is known what conditions ask about. It is found only if one is there.
-    is_known: bool,
+    /// The reading.
+    pub reading: Reading<'t>,
+    /// Which of its texts are no files.
+    pub unfiled: Unfiled,
 }
 
-/// Why a file is not read: it is not known what its conditions ask about.
-const UNKNOWN: &str = "a condition";
+/// Where each text is a file.
+pub const FILES: Unfiled = Unfiled {
+    command: false,
+    input: false,
+};
 
-/// The files that a text includes. None with a condition is read if it is not known what conditions ask about.
-#[derive(Drop)]
-pub struct Included<'t> {
-    disk: Disk<'t>,
-    is_known: bool,
-}
-
-impl<'t> Files<'t> for Included<'t> {
-    ghost contents = { λ _ _ _. ⊤ };
-
-    fn read(&self, alloc: Global, name: &[u8]) -> Result<Content<'t>, AllocError> {
-        match self.disk.read(alloc, name)? {
-            Content::Text(_, text) if !self.is_known && has_conditions(text) => {
-                Ok(Content::Unreadable(UNKNOWN))
-            }
-            content => Ok(content),
+/// The settings of GIT_CONFIG_PARAMETERS, and behind them these.
+fn parameters_with(rt: &HostRuntime, commands: &[u8]) -> Result<Vec<u8>, AllocError> {
+    match variable(rt, "GIT_CONFIG_PARAMETERS")? {
+        Some(mut parameters) if !parameters.is_empty() => {
+            parameters.push(b' ')?;
+            parameters.extend_from_slice(commands)?;
+            Ok(parameters)
         }
+        _ => commands.to_vec(rt.alloc()),
     }
 }
 
-/// Whether a reading stops since it is not known what conditions ask about.
-pub fn is_unknown(stop: &Stop<&[u8]>) -> bool {
-    stop.why == Why::Unreadable && stop.words == UNKNOWN.as_bytes()
+/// The files of the system, where these settings of the command line, in the form of GIT_CONFIG_PARAMETERS, are behind
+/// those of that variable.
+pub fn disk_of<'t>(
+    rt: &'t HostRuntime,
+    texts: &'t Bump,
+    commands: &[u8],
+) -> Result<Disk<'t>, AllocError> {
+    let disk = Disk::new(rt, texts);
+    if commands.is_empty() {
+        return Ok(disk);
+    }
+    disk.with_parameters(&parameters_with(rt, commands)?)
 }
 
-impl<'t> Opened<'t> {
-    /// The files that this text includes.
-    pub fn included(&self, source: &Source<'t>) -> Result<Included<'t>, AllocError> {
-        Ok(Included {
-            disk: files_of(&self.disk, source)?,
-            is_known: self.is_known,
-        })
-    }
-
-    /// Finds what conditions ask about. Of the texts that Git reads here the repository is known.
-    pub fn learn(&mut self, texts: Texts<'_>) -> Result<(), HereError<'t>> {
-        if matches!(texts, Texts::Named(_)) {
-            let repository = find(&self.disk, b"")?.unless_stopped()?.repository;
-            self.surroundings.set_repository(&self.disk, repository)?;
-        }
-        self.is_known = true;
-        seek_urls(&self.disk, &mut self.surroundings, &self.sources)
-    }
-
-    /// Whether a text has a condition of which it is not known what it asks about.
-    fn asks(&self) -> bool {
-        if self.is_known {
-            return false;
-        }
-        for source in &self.sources {
-            if has_conditions(source.text) {
-                return true;
-            }
-        }
-        false
-    }
-}
-
-/// The place of settings that are in no file. No folder is above it, so that no condition on one holds.
-fn place_of(name: &'static [u8]) -> FilePlace<'static> {
-    FilePlace {
-        name,
-        real_dir: b"\0",
-    }
-}
-
-/// Which of these texts are no files.
-pub fn unfiled(sources: &[Source<'_>]) -> Unfiled {
-    let mut unfiled = Unfiled {
-        command: false,
-        input: false,
-    };
-    for source in sources {
-        if !source.is_file {
-            unfiled.command |= source.place.name == COMMAND;
-            unfiled.input |= source.place.name == INPUT;
-        }
-    }
-    unfiled
-}
-
-/// Tells where Git stops in a text of this scope, among these texts, and why.
-pub fn tell_stop(rt: &HostRuntime, sources: &[Source<'_>], scope: Scope, stop: Stop<&[u8]>) {
+/// Tells where Git stops, and why. Some texts are no files.
+pub fn tell_stop(rt: &HostRuntime, unfiled: Unfiled, stop: Stop<&[u8]>) {
     let why: &[u8] = match stop.why {
         Why::BadLine => b"",
         Why::Nul => b": a NUL byte outside a comment",
         _ => return tell_place(rt, stop),
     };
     let place = Place {
-        origin: unfiled(sources).origin(scope, stop.file),
-        scope,
+        origin: if unfiled.input && stop.file == INPUT {
+            Origin::Input
+        } else {
+            Origin::File
+        },
+        scope: Scope::Command,
         file: stop.file,
         line: stop.line,
     };
     tell_line(rt, &place, why);
 }
 
-/// Adds a text.
-fn add<'t>(sources: &mut Vec<Source<'t>>, source: Source<'t>) -> Result<(), AllocError> {
-    Ok(sources.push(source)?)
-}
-
 /// The text of a file, or of standard input.
-fn text_of<'t>(
+fn read_text<'t>(
     rt: &HostRuntime,
     disk: &Disk<'t>,
-    scope: Scope,
     name: &[u8],
-) -> Result<Source<'t>, ReadError> {
-    if scope == Scope::Command && name == b"-".as_slice() {
-        return Ok(Source {
-            scope,
-            place: place_of(INPUT),
-            text: disk.text(rt.stdin(), None)?,
-            is_file: false,
-        });
+    is_file: bool,
+) -> Result<&'t [u8], ReadError> {
+    if is_file {
+        return disk.text_of(name);
     }
-    let (place, text) = disk.first(name)?;
-    Ok(Source {
-        scope,
-        place,
-        text,
-        is_file: true,
-    })
+    disk.text(rt.stdin(), None)
 }
 
-/// Adds the file of this name. As in Git, a list of its entries fails if it cannot be read, and otherwise the
-/// file counts as empty.
+/// The text of this name, if it is read. As in Git, a list of its entries fails if it cannot be read, and otherwise the file
+/// counts as empty.
 fn open<'t>(
-    rt: &'t HostRuntime,
+    rt: &HostRuntime,
     request: &Request<'_>,
-    opened: &mut Opened<'t>,
-    scope: Scope,
-    name: &[u8],
-) -> Result<(), HereError<'t>> {
-    match text_of(rt, &opened.disk, scope, name) {
-        Ok(source) => Ok(add(&mut opened.sources, source)?),
+    disk: &Disk<'t>,
+    name: &'t [u8],
+    is_file: bool,
+) -> Result<Option<&'t [u8]>, HereError<'t>> {
+    match read_text(rt, disk, name, is_file) {
+        Ok(text) => Ok(Some(text)),
         Err(error) if error.is_memory() => Err(HereError::from(AllocError)),
-        Err(error) if request.lists() => Err(HereError::Stops(opened.disk.stop(name, &error)?)),
+        Err(error) if request.lists() => Err(HereError::Stops(disk.stop(name, &error)?)),
         Err(error) => {
             if !error.is_missing() {
                 tell_error(rt, [b"warning: unable to access '", name, b"': "], error);
             }
-            Ok(())
+            Ok(None)
         }
     }
 }
 
-/// Nothing is opened yet.
-fn closed<'t>(
-    rt: &'t HostRuntime,
-    disk: Disk<'t>,
+/// This text alone.
+fn one<'t>(alloc: Global, text: Text<'t>) -> Result<Vec<Text<'t>>, AllocError> {
+    let mut texts = Vec::new(alloc);
+    texts.push(text)?;
+    Ok(texts)
+}
+
+/// A reading of the text of this name, whose entries have this scope. Names begin in the folder `start`.
+fn open_text<'t>(
+    rt: &HostRuntime,
     request: &Request<'_>,
-) -> Result<Opened<'t>, AllocError> {
-    let followed = if request.follows {
-        Followed::AsGit
-    } else {
-        Followed::Nothing
+    disk: Disk<'t>,
+    start: &'t [u8],
+    scope: Scope,
+    name: &'t [u8],
+    is_file: bool,
+) -> Result<Opened<'t>, HereError<'t>> {
+    let alloc = rt.alloc();
+    let texts = match open(rt, request, &disk, name, is_file)? {
+        Some(text) => one(
+            alloc,
+            Text {
+                scope,
+                name,
+                text,
+                is_file,
+            },
+        )?,
+        None => Vec::new(alloc),
     };
     Ok(Opened {
-        surroundings: Surroundings::new(&disk, followed)?,
         disk,
-        sources: Vec::new(rt.alloc()),
-        is_known: !request.follows,
+        reading: Reading::of_texts(alloc, b"", start, texts, followed(request)),
+        unfiled: Unfiled {
+            command: false,
+            input: !is_file,
+        },
     })
 }
 
-/// The text of this file.
-fn open_named<'t>(
-    rt: &'t HostRuntime,
-    texts: &'t Bump,
-    request: &Request<'_>,
-    file: &str,
-) -> Result<Opened<'t>, HereError<'t>> {
-    let mut opened = closed(rt, Disk::new(rt, texts), request)?;
-    open(rt, request, &mut opened, Scope::Command, file.as_bytes())?;
-    Ok(opened)
+/// Which includes a request follows.
+fn followed(request: &Request<'_>) -> Follows {
+    if request.follows {
+        Follows::AsGit
+    } else {
+        Follows::Nothing
+    }
 }
 
 /// Tells that there is no file of a scope here.
@@ -232,78 +182,67 @@ section in \"git help worktree\" for details";
 fn scope_of_worktree(
     rt: &HostRuntime,
     disk: &Disk<'_>,
-    repository: FoundRepository<'_>,
+    repository: &Repository,
 ) -> io::Result<Option<Scope>> {
     if repository.has_worktree_files {
         return Ok(Some(Scope::Worktree));
     }
-    if has_worktrees(disk, repository)? {
+    if has_worktrees(disk, &repository.common_dir)? {
         tell(rt, &[SHARED]);
         return Ok(None);
     }
     Ok(Some(Scope::Local))
 }
 
-/// The name of the file of a scope in this place, or `None` if there is none, which is told.
-pub fn file_of<'t>(
+/// The name of the file of a scope where Git does this, or `None` if there is none, which is told.
+pub fn scope_file<'t>(
     rt: &HostRuntime,
     disk: &Disk<'t>,
-    place: &Location<'t>,
+    found: &Answer,
     scope: Scope,
 ) -> Result<Option<&'t [u8]>, HereError<'t>> {
-    let wanted = match (scope, place.repository) {
-        (Scope::Worktree, Some(repository)) => scope_of_worktree(rt, disk, repository)?,
+    let wanted = match (scope, &found.outcome) {
+        (Scope::Worktree, Outcome::Uses(repository)) => scope_of_worktree(rt, disk, repository)?,
         _ => Some(scope),
     };
     let Some(wanted) = wanted else {
         return Ok(None);
     };
-    let file = place.file_of(wanted);
-    if file.is_none() {
-        tell_no_file(rt, scope);
+    match file_of(found, wanted) {
+        Some(name) => Ok(Some(disk.kept(name)?)),
+        None => {
+            tell_no_file(rt, scope);
+            Ok(None)
+        }
     }
-    Ok(file)
-}
-
-/// Adds what Git reads here, and then the text with the settings of the command line.
-fn open_all<'t>(
-    opened: &mut Opened<'t>,
-    files: &[Named<'t>],
-    commands: &[u8],
-) -> Result<(), HereError<'t>> {
-    opened.sources = sources(&opened.disk, files)?;
-    if commands.is_empty() {
-        return Ok(());
-    }
-    let source = Source {
-        scope: Scope::Command,
-        place: place_of(COMMAND),
-        text: opened.disk.kept(commands)?,
-        is_file: false,
-    };
-    Ok(add(&mut opened.sources, source)?)
 }
 
 /// Tells why Git uses no repository although one is there.
-fn tell_refusal(rt: &HostRuntime, refusal: Option<&Refusal>) -> Result<(), AllocError> {
-    if let Some(refusal) = refusal {
+pub fn tell_refusal(rt: &HostRuntime, outcome: &Outcome) -> Result<(), AllocError> {
+    if let Outcome::Refuses(refusal) = outcome {
         let words = refusal.words(rt.alloc())?;
         tell(rt, &[b"warning: ", &words]);
     }
     Ok(())
 }
 
-/// Where Git works. If no scope is asked for, or that of a repository, it tells why Git uses none although one is there.
-pub fn location_here<'t>(
+/// What Git does here. If no scope is asked for, or that of a repository, it tells why Git uses none although one is there.
+pub fn found_here<'t>(
     rt: &HostRuntime,
     disk: &Disk<'t>,
     scope: Option<Scope>,
-) -> Result<Location<'t>, HereError<'t>> {
-    let location = find(disk, b"")?;
+) -> Result<Answer, HereError<'t>> {
+    let found = find(disk, b"")?;
     if !matches!(scope, Some(Scope::System | Scope::Global)) {
-        tell_refusal(rt, location.refusal.as_ref())?;
+        tell_refusal(rt, &found.outcome)?;
     }
-    location.unless_stopped()
+    check_found(disk, &found)?;
+    Ok(found)
+}
+
+/// Whether Git uses a repository where it does this.
+pub fn uses_repository(found: &Answer) -> bool {
+    matches!(found.outcome, Outcome::Uses(_))
 }
 
 /// The scope that entries of the file of a scope have. In Git a work tree is not told from the repository here.
@@ -314,45 +253,50 @@ fn listed_scope(scope: Scope) -> Scope {
     }
 }
 
-/// The texts that Git reads here, or the one of a scope, or `None` if there is none, which is told.
-fn open_here<'t>(
-    rt: &'t HostRuntime,
-    texts: &'t Bump,
+/// A reading of the file of a scope here, or `None` if there is none, which is told.
+fn open_scope<'t>(
+    rt: &HostRuntime,
     request: &Request<'_>,
-    scope: Option<Scope>,
-    commands: &[u8],
+    disk: &Disk<'t>,
+    scope: Scope,
 ) -> Result<Option<Opened<'t>>, HereError<'t>> {
-    let disk = Disk::new(rt, texts);
-    let place = location_here(rt, &disk, scope)?;
-    let mut opened = closed(rt, disk.within(place.folder)?, request)?;
-    opened.surroundings.set_repository(&disk, place.repository)?;
-    match scope {
-        Some(scope) => match file_of(rt, &opened.disk, &place, scope)? {
-            Some(name) => open(rt, request, &mut opened, listed_scope(scope), name)?,
-            None => return Ok(None),
-        },
-        None => open_all(&mut opened, &place.files, commands)?,
+    let found = found_here(rt, disk, Some(scope))?;
+    let disk = within(disk, &found)?;
+    match scope_file(rt, &disk, &found, scope)? {
+        Some(name) => {
+            let start = disk.kept(&found.folder)?;
+            let scope = listed_scope(scope);
+            Ok(Some(open_text(rt, request, disk, start, scope, name, true)?))
+        }
+        None => Ok(None),
     }
-    Ok(Some(opened))
 }
 
-/// The texts of a request, after which these settings of the command line come, or `None` if there are none,
-/// which is told.
+/// What a request reads, with these settings of the command line, or `None` if there is nothing, which is told.
 pub fn open_texts<'t>(
     rt: &'t HostRuntime,
     texts: &'t Bump,
     request: &Request<'_>,
     commands: &[u8],
 ) -> Result<Option<Opened<'t>>, HereError<'t>> {
-    let mut opened = match request.texts {
-        Texts::Named(file) => Some(open_named(rt, texts, request, file)?),
-        Texts::OfScope(scope) => open_here(rt, texts, request, Some(scope), commands)?,
-        Texts::Here => open_here(rt, texts, request, None, commands)?,
-    };
-    if let Some(opened) = &mut opened {
-        if opened.asks() {
-            opened.learn(request.texts)?;
+    let disk = disk_of(rt, texts, commands)?;
+    match request.texts {
+        Texts::Named("-") => {
+            let scope = Scope::Command;
+            Ok(Some(open_text(rt, request, disk, b"", scope, INPUT, false)?))
         }
+        Texts::Named(file) => {
+            let (scope, name) = (Scope::Command, disk.kept(file.as_bytes())?);
+            Ok(Some(open_text(rt, request, disk, b"", scope, name, true)?))
+        }
+        Texts::OfScope(scope) => open_scope(rt, request, &disk, scope),
+        Texts::Here => Ok(Some(Opened {
+            reading: Reading::here(rt.alloc(), b"", followed(request)),
+            disk,
+            unfiled: Unfiled {
+                command: true,
+                input: false,
+            },
+        })),
     }
-    Ok(opened)
 }

@@ -92,8 +92,8 @@ fn read_all<'t, F: Files<'t>>(
 ///
 /// ```rust
 /// use bumpalo::Bump;
-/// use config_host::surroundings::Followed;
-/// use config_host::{Disk, Surroundings};
+/// use config_file::{Directories, Includes, Known};
+/// use config_host::Disk;
 /// use gix_config_value::{Boolean, Fault};
 /// use std::fs;
 /// use uses::setting_headline::{FirstFile, NoValue, value_of};
@@ -103,8 +103,8 @@ fn read_all<'t, F: Files<'t>>(
 /// fs::write(&rt, "headline-c", b"[core]\n\tbare")?;
 /// let texts = Bump::new(rt.alloc());
 /// let disk = Disk::new(&rt, &texts);
-/// let surroundings = Surroundings::new(&disk, Followed::AsGit)?;
-/// let known = surroundings.known();
+/// let directories = Directories { home: None, install_dir: None };
+/// let known = Known { directories, includes: Includes::All };
 /// let (place, text) = disk.first(b"headline-a").expect(&rt, "a text");
 /// let first = FirstFile { place, text };
 /// let (place, text) = disk.first(b"headline-b").expect(&rt, "a text");
