@@ -212,6 +212,22 @@ def repositories(tests):
         tests.compare(f"a ceiling {ceilings}", at, folder=b"outer/a/b", more=more, holds=holds)
 
 
+def command_line(tests):
+    """Settings before the word, which are behind those of the command, and count for the trust in a repository."""
+    tests.git_dir(b"strange/.git")
+    tests.write(b"strange/.git/config", b"[core]\n\tbare = false\n[hit]\n\tk = 1\n")
+    before = {b"GIT_CONFIG_PARAMETERS": b"'hit.k'='2'", b"GIT_CONFIG_COUNT": b"1", b"GIT_CONFIG_KEY_0": b"hit.k",
+              b"GIT_CONFIG_VALUE_0": b"3"}
+    if os.geteuid() == 0:
+        os.chown(tests.path(b"strange/.git"), 65534, -1)
+    for more in ({}, before):
+        for words in ([], ["-c", "hit.k=it's! 'done'"], ["-c", "hit.k", "-c", "hit.k="], ["-c", "safe.directory=*"],
+                      ["-c", "safe.directory=/nowhere", "-c", "hit.k=9"], ["-c", "a.b'c!.d=x", "-c", "hit.k=\n"]):
+            ours = tests.run(tests.program, *words, "--get-all", "hit.k", folder=b"strange", more=more)
+            theirs = tests.run(tests.git, *words, "config", "--get-all", "hit.k", folder=b"strange", more=more)
+            tests.expect(f"{words} before {more}", (theirs.returncode, theirs.stdout), (ours.returncode, ours.stdout))
+
+
 class Twice(dict):
     """Variables of which one is there a second time, with another value: in Git the first counts."""
 
@@ -432,8 +448,8 @@ def main():
         return 0
     with tempfile.TemporaryDirectory() as folder:
         tests = Tests(arguments.program, arguments.git, os.path.realpath(folder))
-        for part in (flags, ages, endless, names, folders, shown, statuses, repositories, here, changes, unread,
-                     together, killed, memory):
+        for part in (flags, ages, endless, names, folders, shown, statuses, repositories, command_line, here, changes,
+                     unread, together, killed, memory):
             part(tests)
     print(f"{tests.passed} passed, {tests.failed} failed")
     return 1 if tests.failed else 0
